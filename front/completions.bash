@@ -43,7 +43,7 @@ _mgr() {
             if ((COMP_CWORD == 1)); then
                 mapfile -t COMPREPLY < <(compgen -W "compact edit show help --version --help" -- "$word")
             elif [[ ${COMP_WORDS[1]} == edit ]]; then
-                _mgr_word "$word" --replica --rows --cols --fill --port --trace --newest --cursor --resizable --runs --brief --help
+                _mgr_word "$word" --replica --rows --cols --fill --port --trace --newest --cursor --resizable --runs --brief --strict --help
             elif [[ ${COMP_WORDS[1]} == compact ]]; then
                 _mgr_word "$word" --dels --help
             fi

@@ -1,19 +1,22 @@
 -- What a session is answered by tells of its devices.
-use Rattle.std.proofs.Common.{◌≡◌, ◌≢◌, rules, not, Bool, true, false, List, [], ◌∷◌, Ok, Err, is_ok, refl, sym, ap, subst, ◌∙◌, true≢false}
+use Rattle.std.proofs.Common.{◌≡◌, ◌≢◌, rules, not, Bool, true, false, List, [], ◌∷◌, Option, Some, None, Ok, Err, is_ok, refl, sym, ap, subst, ◌∙◌, true≢false, if◌then◌else◌}
 use Rattle.std.proofs.lemmas.Bool.{and_parts}
 use Rattle.std.specs.Bool.{MatchBool}
+use Rattle.std.specs.Result.{result_and}
 use Rattle.rga_devices.specs.Counting.{Calls, CountsAs, StaysFlushed, one_more}
 use Rattle.mg_minibuffer.specs.declared.ending.Request.{Request}
 use Rattle.mg_minibuffer.specs.declared.ending.Request.TheVariants as request
+use Rattle.mg_workspace.specs.declared.failures.Failure.{Failure}
 use Rattle.mg_reports.specs.Reports.{Event, key, size, block_end, Reports, fresh, read_events, all_events}
-use Rattle.mg_session.specs.Courses.{is_on, SessionAnswer, course_answer}
+use Rattle.mg_session.specs.Courses.{is_on, SessionAnswer, course_answer, failure_answer, session_answer}
 use Rattle.mg_session.specs.Display.{Displays, whole, begun, unmade, follows_session}
 use Rattle.mg_session.specs.Keys.{course_behind, request_of}
 use Rattle.mg_session.specs.Moments.{Known, Moment, seen, StepIf}
 use Rattle.mg_session.specs.Running.{TakesEvent, TakesEvents, ReadsKeys, through, broken_off, Runs}
 use Rattle.mg_session.specs.declared.course.Course.{Course}
 use Rattle.mg_session.specs.declared.course.Course.TheVariants.{On}
-use Rattle.mg_session.specs.declared.fault.SessionFault.TheVariants.{File, Keys, Screen}
+use Rattle.mg_session.specs.declared.fault.SessionFault.{SessionFault}
+use Rattle.mg_session.specs.declared.fault.SessionFault.TheVariants.{File, Keys, Screen, Failed}
 use Rattle.mg_session.specs.declared.manner.Manner.{Manner}
 use Rattle.mg_session.proofs.TakenLaws.{behind_step}
 
@@ -110,3 +113,43 @@ module _ {R : Type 0} (remaining : R → Known) (how : Manner) (keys rest : Call
       let first = step_tells k k a.screen how.cursor how.trace a ran.begun start ran.starts in
       let taken = taken_tells (is_on ran.begun.course) a.screen ran.begun ran.ended refl first ran.taken in
       last_tells k (seen remaining rest) a.screen how ran.ended b taken ran.finishes
+
+-- ---- a session that may be strict
+
+-- what failed in a buffer is no fault of a device
+not_failed : (strict : Bool) (first : Option Failure) (e : SessionFault) → ((why : Failure) → Failed why ≢ e)
+    → (if strict then failure_answer first else Ok tt) ≢ Err e
+not_failed false first e device = λ is. absurd (true≢false (ap is_ok is))
+not_failed true None e device = λ is. absurd (true≢false (ap is_ok is))
+not_failed true (Some why) e device = λ is. let same : Err (Failed why) ≡ Err e = is in device why cc
+
+module _ (strict : Bool) (first : Option Failure) (e : SessionFault) (device : (why : Failure) → Failed why ≢ e) where
+  both_from : (r : SessionAnswer) → result_and r (if strict then failure_answer first else Ok tt) ≡ Err e → r ≡ Err e
+  both_from (Ok u) is = absurd (not_failed strict first e device is)
+  both_from (Err fault) is = is
+
+  both_to : (r : SessionAnswer) → r ≡ Err e → result_and r (if strict then failure_answer first else Ok tt) ≡ Err e
+  both_to (Ok u) is = absurd (true≢false (ap is_ok is))
+  both_to (Err fault) is = is
+
+  -- so a strict session's answer tells of a device what that of any does
+  pub strict_from : (course : Course) → session_answer strict first course ≡ Err e → course_answer course ≡ Err e
+  strict_from course is = both_from (course_answer course) is
+
+  pub strict_to : (course : Course) → course_answer course ≡ Err e → session_answer strict first course ≡ Err e
+  strict_to course is = both_to (course_answer course) is
+
+  pub counts_strictly : {T : Type 0} {a b : Calls T} (course : Course) → CountsAs e (course_answer course) a b → CountsAs e (session_answer strict first course) a b
+  counts_strictly course counts = record {
+    failed = λ is. counts.failed (strict_from course is);
+    unfailed = λ other. counts.unfailed (λ is. other (strict_to course is));
+  }
+
+pub no_keys : (why : Failure) → Failed why ≢ Keys
+no_keys why = λ is. absurd cc
+
+pub no_screen : (why : Failure) → Failed why ≢ Screen
+no_screen why = λ is. absurd cc
+
+pub no_file : (why : Failure) → Failed why ≢ File
+no_file why = λ is. absurd cc

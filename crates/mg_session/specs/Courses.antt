@@ -1,9 +1,11 @@
 -- How a session stands, and what it is answered by.
-use Rattle.std.specs.Prelude.{Bool, true, false, Result, Ok, Err}
+use Rattle.std.specs.Prelude.{Bool, true, false, Option, Some, None, Result, Ok, Err, if◌then◌else◌}
+use Rattle.std.specs.Result.{result_and}
+use Rattle.mg_workspace.specs.declared.failures.Failure.{Failure}
 use Rattle.mg_session.specs.declared.course.Course.{Course}
 use Rattle.mg_session.specs.declared.course.Course.TheVariants.{On, Quit, NoKeys, NoScreen, NoMemory}
 use Rattle.mg_session.specs.declared.fault.SessionFault.{SessionFault}
-use Rattle.mg_session.specs.declared.fault.SessionFault.TheVariants.{Keys, Screen, Memory}
+use Rattle.mg_session.specs.declared.fault.SessionFault.TheVariants.{Keys, Screen, Memory, Failed}
 
 -- it goes on
 abbrev pub is_on : Course → Bool
@@ -20,3 +22,12 @@ course_answer Quit = Ok tt
 course_answer NoKeys = Err Keys
 course_answer NoScreen = Err Screen
 course_answer NoMemory = Err Memory
+
+-- what a save or an exchange is answered by that failed, and stands
+abbrev pub failure_answer : Option Failure → SessionAnswer
+failure_answer None = Ok tt
+failure_answer (Some why) = Err (Failed why)
+
+-- what a session is answered by in the end, which may be strict; its own fault comes first
+abbrev pub session_answer : Bool → Option Failure → Course → SessionAnswer
+session_answer strict first course = result_and (course_answer course) (if strict then failure_answer first else Ok tt)

@@ -11,10 +11,11 @@ use Rattle.mg_keys.specs.Begun.{HasBegun}
 use Rattle.mg_screen.specs.Size.{least_rows, most_rows, least_columns, most_columns}
 use Rattle.mg_settings.specs.Settings.{Values}
 use Rattle.mg_workspace.specs.Actions.{resized_work}
+use Rattle.mg_workspace.specs.Failures.{first_standing}
 use Rattle.mg_editor.specs.Editors.{Editor}
 use Rattle.mg_editor.specs.Opening.{opened_editor}
 use Rattle.mg_reports.specs.Reports.{Event, key, size, block_end, Reports, fresh, read_events, all_events}
-use Rattle.mg_session.specs.Courses.{is_on, SessionAnswer, course_answer}
+use Rattle.mg_session.specs.Courses.{is_on, SessionAnswer, session_answer}
 use Rattle.mg_session.specs.Display.{Displays, follows_step, follows_key, follows_block, follows_session, manner_of}
 use Rattle.mg_session.specs.Keys.{TakesKey}
 use Rattle.mg_session.specs.Moments.{ToldCalls, Known, seen, Moment, moment, StepIf}
@@ -95,14 +96,15 @@ pub record Devices (R W : Type 0) : Type 0 where
 abbrev pub devices : {R W : Type 0} → Calls R → Calls W → ToldCalls → Devices R W
 devices keys screen calls = record { keys = keys; screen = screen; calls = calls }
 
--- A session of these settings. Where an editor opened the session is answered by how it stands in the end; where none did,
--- for a fault, that is answered, no key was read, and nothing was written.
+-- A session of these settings. Where an editor opened the session is answered by how it stands in the end, and, if it is
+-- strict, by the first save or exchange that failed and stands then; where none did, for a fault, that is answered, no key was
+-- read, and nothing was written.
 pub record IsSession {R W : Type 0} (remaining : R → Known) (contents : W → Known) (v : Values) (r : SessionAnswer) (before behind : Devices R W) : Type 0 where
   pub told : ToldCalls
   pub opened : Result Editor SessionFault
   pub loads : LoadsTo v before.calls told opened
   pub ran : MatchResult opened
-      (λ first. (last : Editor) × (course : Course) × (r ≡ course_answer course)
+      (λ first. (last : Editor) × (course : Course) × (r ≡ session_answer v.strict (first_standing last.work.failures) course)
       × Runs remaining (manner_of v) (moment first told (seen contents before.screen) On)
       (moment last behind.calls (seen contents behind.screen) course) before.keys behind.keys)
       (λ fault. (r ≡ Err fault) × (behind ≡ record before { calls = told }))

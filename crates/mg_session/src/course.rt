@@ -3,6 +3,7 @@ ghost use Rattle.std.specs.Prelude.{◌≡◌};
 ghost use Rattle.mg_session.specs.Courses as spec;
 
 use crate::fault::SessionFault;
+use mg_workspace::Failure;
 
 /// How a session stands behind what it took.
 #[derive(Clone, Copy)]
@@ -38,5 +39,29 @@ pub(crate) fn answer(course: Course) -> Result<(), SessionFault>
         Course::NoKeys => Err(SessionFault::Keys),
         Course::NoScreen => Err(SessionFault::Screen),
         Course::NoMemory => Err(SessionFault::Memory),
+    }
+}
+
+/// What a save or an exchange is answered by that failed, and stands.
+fn failure_answer(first: Option<Failure>) -> Result<(), SessionFault>
+    ensures { result ≡ spec.failure_answer first }
+{
+    match first {
+        Some(why) => Err(SessionFault::Failed(why)),
+        None => Ok(()),
+    }
+}
+
+/// What a session is answered by in the end, which may be strict. Its own fault comes first.
+pub(crate) fn session_answer(
+    strict: bool,
+    first: Option<Failure>,
+    course: Course,
+) -> Result<(), SessionFault>
+    ensures { result ≡ spec.session_answer strict first course }
+{
+    match answer(course) {
+        Ok(()) if strict => failure_answer(first),
+        other => other,
     }
 }

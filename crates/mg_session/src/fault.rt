@@ -3,6 +3,7 @@ ghost use Rattle.std.specs.Prelude.{◌≡◌};
 ghost use Rattle.mg_session.specs.Faults as spec;
 
 use mg_files::{LoadFault, PortFault};
+use mg_workspace::Failure;
 
 /// Why a session ended before the end of its keys, or did not begin.
 #[derive(Clone, Copy, PartialEq, Eq)]
@@ -17,6 +18,8 @@ pub enum SessionFault {
     Screen,
     /// A growth of memory was refused.
     Memory,
+    /// Of a strict session: for that a save or an exchange failed, and none was done since.
+    Failed(Failure),
 }
 
 /// The fault of a load.

@@ -10,7 +10,7 @@ ghost use Rattle.mg_session.specs.Running as running;
 ghost use Rattle.mg_session.specs.declared.course.Course.TheVariants.{On};
 ghost use Rattle.mg_session.specs.declared.fault.SessionFault.TheVariants.{File, Keys, Screen};
 
-use crate::course::{Course, answer};
+use crate::course::{Course, session_answer};
 use crate::display::show;
 use crate::fault::{SessionFault, of_load, of_port};
 use crate::keys::take_key;
@@ -56,6 +56,10 @@ struct Session {
 /// Faults end a session at once: `File` and `Load` of the first load, `Keys` and `Screen` of the
 /// devices, and `Memory`, at the load and where a frame is made. Any other fault is said in the
 /// next frame, and the session goes on.
+///
+/// A strict session that ended without a fault answers `Failed` where the last save or the last
+/// exchange of a buffer failed: of these the first, for why it did. A save or an exchange that is
+/// done mends the same of its buffer; what failed in a buffer that was removed stays.
 pub fn run_keys<S: Teller, R: Read, W: Write, P: Port>(
     alloc: Global,
     keys: &mut Counted<R>,
@@ -81,7 +85,8 @@ pub fn run_keys<S: Teller, R: Read, W: Write, P: Port>(
 {
     match open::<S, P>(alloc, port, settings) {
         Ok(mut editor) => {
-            answer(session_of(alloc, settings).run(&mut editor, keys, screen, port))
+            let course = session_of(alloc, settings).run(&mut editor, keys, screen, port);
+            session_answer(is_strict(settings), editor.failure(), course)
         }
         Err(fault) => Err(fault),
     }
@@ -117,6 +122,13 @@ fn edit<S: TextStore>(
         Ok(editor) => Ok(editor),
         Err(fault) => Err(of_load(fault)),
     }
+}
+
+/// Whether the settings ask for a strict session.
+fn is_strict(settings: &Settings) -> bool
+    ensures { result ≡ settings.now.strict }
+{
+    settings.values().strict
 }
 
 /// The session that the settings ask for.

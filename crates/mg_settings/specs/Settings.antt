@@ -17,6 +17,7 @@ pub record Values : Type 0 where
   pub resizable : Bool
   pub runs : Bool
   pub brief : Bool
+  pub strict : Bool
   pub limit : ℕ
 
 abbrev pub greatest_fill : ℕ

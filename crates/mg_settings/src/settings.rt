@@ -35,6 +35,8 @@ pub struct Values {
     pub runs: bool,
     /// Whether an exchange tells first what is known, and sends only what the peer lacks.
     pub brief: bool,
+    /// Whether a session ends in a fault where a save or an exchange failed and stands.
+    pub strict: bool,
     /// How many identifiers the buffer may know.
     pub limit: usize,
 }
@@ -58,6 +60,7 @@ impl Model for Values {
       resizable = v.resizable;
       runs = v.runs;
       brief = v.brief;
+      strict = v.strict;
       limit = v.limit;
     } };
 }

@@ -11,6 +11,8 @@ use Rattle.rga_exchange.specs.declared.fault.ReceiveFault.{ReceiveFault}
 use Rattle.rga_exchange.specs.declared.fault.ReceiveFault.TheVariants as receive
 use Rattle.mg_files.specs.declared.fault.LoadFault.{LoadFault}
 use Rattle.mg_files.specs.declared.fault.LoadFault.TheVariants as load
+use Rattle.mg_workspace.specs.declared.failures.Failure.{Failure}
+use Rattle.mg_workspace.specs.declared.failures.Failure.TheVariants as failure
 use Rattle.mg_session.specs.declared.fault.SessionFault.{SessionFault}
 use Rattle.mg_session.specs.declared.fault.SessionFault.TheVariants as session
 use Rattle.mgr_show.specs.declared.fault.ShowFault.{ShowFault}
@@ -50,12 +52,19 @@ show_status show.Read = 3
 show_status show.Write = 3
 show_status show.Memory = 4
 
+abbrev pub failure_status : Failure → ℕ
+failure_status failure.Device = 3
+failure_status (failure.Line number fault) = line_status fault
+failure_status (failure.Refused number refusal) = refusal_status refusal
+failure_status failure.Memory = 4
+
 abbrev pub session_status : SessionFault → ℕ
 session_status (session.Load fault) = load_status fault
 session_status session.File = 3
 session_status session.Keys = 3
 session_status session.Screen = 3
 session_status session.Memory = 4
+session_status (session.Failed why) = failure_status why
 
 -- those of answers: 0 where there is no fault
 abbrev pub shown_status : Result (Unit {0}) ShowFault → ℕ
@@ -105,12 +114,19 @@ show_message show.Read = codes "device fault"
 show_message show.Write = codes "device fault"
 show_message show.Memory = codes "out of memory"
 
+abbrev pub failure_message : Failure → List ℕ
+failure_message failure.Device = codes "device fault"
+failure_message (failure.Line number fault) = line_message number fault
+failure_message (failure.Refused number refusal) = refused_message number refusal
+failure_message failure.Memory = codes "out of memory"
+
 abbrev pub session_message : SessionFault → List ℕ
 session_message (session.Load fault) = load_message fault
 session_message session.File = codes "device fault"
 session_message session.Keys = codes "device fault"
 session_message session.Screen = codes "device fault"
 session_message session.Memory = codes "out of memory"
+session_message (session.Failed why) = failure_message why
 
 -- what a report says
 abbrev pub report_text : Message → List ℕ

@@ -4,6 +4,7 @@ ghost use Rattle.mgr.specs.Report as spec;
 
 use mg_files::LoadFault;
 use mg_session::SessionFault;
+use mg_workspace::Failure;
 use mgr_show::ShowFault;
 use rga_exchange::ReceiveFault;
 use rga_lines::LineFault;
@@ -89,7 +90,8 @@ impl Report {
     ///
     /// Where nothing was loaded the status is 1: the line is that of a refused line of the log, as
     /// of `mgr show`, or `text: not UTF-8`, or `text: Full` where the text has more characters than
-    /// a buffer. Devices and memory as for `mgr show`.
+    /// a buffer. Devices and memory as for `mgr show`. Of a save or an exchange that failed likewise:
+    /// a line that a peer said is refused, or a device failed, be that a peer that ended early.
     pub fn of_session(fault: &SessionFault) -> Report
         ensures status { result.status ≡ spec.session_status fault.now }
         ensures text { spec.report_text result.message ≡ spec.session_message fault.now }
@@ -98,6 +100,7 @@ impl Report {
             SessionFault::Load(fault) => of_load(fault),
             SessionFault::File | SessionFault::Keys | SessionFault::Screen => Report::device(),
             SessionFault::Memory => Report::memory(),
+            SessionFault::Failed(why) => of_failure(why),
         }
     }
 }
@@ -139,6 +142,18 @@ fn of_load(fault: LoadFault) -> Report
         LoadFault::NotText => refused(Message::File("text", "not UTF-8")),
         LoadFault::Store(Refusal::Memory) | LoadFault::Memory => Report::memory(),
         LoadFault::Store(refusal) => refused(Message::File("text", refusal.name())),
+    }
+}
+
+fn of_failure(why: Failure) -> Report
+    ensures status { result.status ≡ spec.failure_status why }
+    ensures text { spec.report_text result.message ≡ spec.failure_message why }
+{
+    match why {
+        Failure::Device => Report::device(),
+        Failure::Line(line, fault) => of_line(line, fault),
+        Failure::Refused(line, refusal) => of_refused(line, refusal),
+        Failure::Memory => Report::memory(),
     }
 }
 

@@ -37,9 +37,9 @@ number_rules =
 abbrev pub trace_rules : List Rule
 trace_rules = flag (codes "trace") ∷ flag (codes "newest") ∷ []
 
--- what stands in them, in the log and in exchanges
+-- what stands in them, in the log and in exchanges, and whether what failed is answered
 abbrev pub content_rules : List Rule
-content_rules = flag (codes "cursor") ∷ flag (codes "resizable") ∷ flag (codes "runs") ∷ flag (codes "brief") ∷ []
+content_rules = flag (codes "cursor") ∷ flag (codes "resizable") ∷ flag (codes "runs") ∷ flag (codes "brief") ∷ flag (codes "strict") ∷ []
 
 abbrev pub edit_rules : List Rule
 edit_rules = name_rule ∷ replica_rule ∷ number_rules ++ trace_rules ++ content_rules
@@ -87,6 +87,7 @@ pub record GivesOptions (rows : List Row) (v : Values) : Type 0 where
   pub resizable : GivesFlag rows (codes "resizable") v.resizable
   pub runs : GivesFlag rows (codes "runs") v.runs
   pub brief : GivesFlag rows (codes "brief") v.brief
+  pub strict : GivesFlag rows (codes "strict") v.strict
   pub limit : v.limit ≡ MAX_LIMIT
 
 pub record GivesValues (rows : List Row) (v : Values) : Type 0 where

@@ -55,7 +55,7 @@ fn add_numbers<'a>(alloc: Global, args: &mut Vec<Arg<'a>>) -> Result<(), AllocEr
     push(args, port.help("The port of exchanges"))
 }
 
-/// What frames there are, and what stands in them, in the log and in exchanges.
+/// What frames there are, what stands in them, in the log and in exchanges, and what is answered.
 fn add_flags<'a>(alloc: Global, args: &mut Vec<Arg<'a>>) -> Result<(), AllocError>
     ensures { OnOk result
         (AddsArguments args.old.items args.new.items (spec.trace_rules ++ spec.content_rules)) }
@@ -65,12 +65,14 @@ fn add_flags<'a>(alloc: Global, args: &mut Vec<Arg<'a>>) -> Result<(), AllocErro
     let resizable = "Take reports of the screen's size among the keys";
     let runs = "Append more than 32 operations to the log in runs";
     let brief = "Exchange with a peer that does so too only what either lacks";
+    let strict = "Fail where the last save or exchange of a buffer failed";
     add_flag(alloc, args, "trace", "Write a frame behind each step")?;
     add_flag(alloc, args, "newest", newest)?;
     add_flag(alloc, args, "cursor", cursor)?;
     add_flag(alloc, args, "resizable", resizable)?;
     add_flag(alloc, args, "runs", runs)?;
-    add_flag(alloc, args, "brief", brief)
+    add_flag(alloc, args, "brief", brief)?;
+    add_flag(alloc, args, "strict", strict)
 }
 
 /// The arguments of `edit`, of which the number of the replica has to be given.

@@ -75,6 +75,7 @@ fn values_of(name: String, found: &ArgMatches<'_>) -> Option<Values>
         resizable: found.get_flag("resizable"),
         runs: found.get_flag("runs"),
         brief: found.get_flag("brief"),
+        strict: found.get_flag("strict"),
         limit: MAX_LIMIT,
         name,
     })

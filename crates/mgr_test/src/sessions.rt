@@ -23,6 +23,7 @@ fn settings(alloc: Global, trace: bool) -> Result<Option<Settings>, AllocError> 
         resizable: false,
         runs: false,
         brief: false,
+        strict: false,
         limit: 1000,
     }))
 }

@@ -26,5 +26,6 @@ returns-clause-options c =
       resizable = flag_read (found_of c.args.found.now) (codes "resizable") _ c.get_flag-4.ensures.none c.get_flag-4.ensures.value c.get_flag-4.ensures.other;
       runs = flag_read (found_of c.args.found.now) (codes "runs") _ c.get_flag-5.ensures.none c.get_flag-5.ensures.value c.get_flag-5.ensures.other;
       brief = flag_read (found_of c.args.found.now) (codes "brief") _ c.get_flag-6.ensures.none c.get_flag-6.ensures.value c.get_flag-6.ensures.other;
+      strict = flag_read (found_of c.args.found.now) (codes "strict") _ c.get_flag-7.ensures.none c.get_flag-7.ensures.value c.get_flag-7.ensures.other;
       limit = refl;
     }
