@@ -1,5 +1,5 @@
 -- The exit status of the program.
-use Rattle.std.specs.Prelude.{◌≡◌, ◌≢◌, ◌⊎◌, ℕ, true, List, [], ◌∷◌, Option, Result, Err, IfSome, codes, OnOk, OnErr, IfErr, string_bytes}
+use Rattle.std.specs.Prelude.{◌≡◌, ◌≢◌, ◌⊎◌, ℕ, true, List, [], ◌∷◌, Option, Some, Result, Err, IfSome, codes, OnOk, OnErr, IfErr, string_bytes}
 use Rattle.rga_ops.specs.Content.{Content, nothing as no_content}
 use Rattle.rga_store.specs.declared.text_store.TheConstants.{MAX_LIMIT}
 use Rattle.rga_devices.specs.Counting.{Calls, CountsAs, StaysFlushed, OnBytes, WritesNothing, one_more}
@@ -18,9 +18,8 @@ use Rattle.mg_settings.specs.Settings.{Values}
 use Rattle.mgr_args.specs.declared.given.Compaction.{Compaction}
 use Rattle.mgr_args.specs.declared.job.Job.{Job}
 use Rattle.mgr_args.specs.declared.job.Job.TheVariants.{Show, Edit, Compact}
-use Rattle.mgr_port.specs.Disk.{DiskStep, StopsBefore, whole_steps}
-use Rattle.mgr_port.specs.Disk.{TellsSteps as Made}
-use Rattle.mgr_show.specs.Compacted.{KeepsContent, compacted}
+use Rattle.mgr_port.specs.Logs.{Standing, SameElsewhere, left}
+use Rattle.mgr_compact.specs.Ends.{EndsWell, EndsEarly, StaysSame, failures_after_compaction}
 use Rattle.mgr_show.specs.Shown.{IsOfInput, ShowsLog, BeginsToShow}
 use Rattle.mgr_show.specs.declared.fault.ShowFault.{ShowFault}
 use Rattle.mgr_show.specs.declared.fault.ShowFault.TheVariants as fault
@@ -60,12 +59,12 @@ pub record Knowledge (R W P : Type 0) : Type 0 where
   pub contents : W → Option (List ℕ)
   pub calls : P → Option (List Call)
   pub failures : P → ℕ
-  pub standing : P → List ℕ → Option (List ℕ)
-  pub steps : P → Option (List DiskStep)
+  pub standing : P → List ℕ → Option Standing
+  pub log_failures : P → ℕ
 
-abbrev pub known : {R W P : Type 0} → (R → Option (List ℕ)) → (W → Option (List ℕ)) → (P → Option (List Call)) → (P → ℕ) → (P → List ℕ → Option (List ℕ)) → (P → Option (List DiskStep)) → Knowledge R W P
-known remaining contents calls failures standing steps =
-    record { remaining = remaining; contents = contents; calls = calls; failures = failures; standing = standing; steps = steps }
+abbrev pub known : {R W P : Type 0} → (R → Option (List ℕ)) → (W → Option (List ℕ)) → (P → Option (List Call)) → (P → ℕ) → (P → List ℕ → Option Standing) → (P → ℕ) → Knowledge R W P
+known remaining contents calls failures standing log_failures =
+    record { remaining = remaining; contents = contents; calls = calls; failures = failures; standing = standing; log_failures = log_failures }
 
 -- ---- the status of a job
 
@@ -85,14 +84,16 @@ pub record IsStatusOfShow {R W : Type 0} (remaining : R → Option (List ℕ)) (
   pub writes : CountsAs fault.Write answer before.output after.output
 
 -- That of an answer to `compact`, which says what became of the log of its name, where that is told, and what is told.
-pub record IsStatusOfCompact {P : Type 0} (standing : P → List ℕ → Option (List ℕ)) (steps : P → Option (List DiskStep)) (c : Compaction) (status : ℕ) (before after : PortSide P) : Type 0 where
+pub record IsStatusOfCompact {P : Type 0} (standing : P → List ℕ → Option Standing) (failures : P → ℕ) (c : Compaction) (status : ℕ) (before after : PortSide P) : Type 0 where
   pub answer : Result (Unit {0}) ShowFault
   pub exact : status ≡ shown_status answer
   pub told_line : TellsMore before.told after.told (shown_telling answer)
-  pub keeps : OnOk answer (IfSome (standing before.port (string_bytes c.name)) (λ bytes. KeepsContent c.dels bytes × Made (steps before.port) (steps after.port) (whole_steps true (compacted c.dels bytes))))
-  pub refused : IfErr answer (λ e. IsOfInput e → IfSome (standing before.port (string_bytes c.name)) (λ bytes. log_of MAX_LIMIT bytes ≡ Err e))
-  pub begun : OnErr answer (IfSome (standing before.port (string_bytes c.name)) (λ bytes. StopsBefore (steps before.port) (steps after.port) (whole_steps true (compacted c.dels bytes))))
-  pub untouched : IfErr answer (λ e. e ≢ fault.Write → e ≢ fault.Memory → steps after.port ≡ steps before.port)
+  pub keeps : OnOk answer (IfSome (standing before.port (string_bytes c.name)) (λ s. EndsWell c.dels s (standing after.port (string_bytes c.name))))
+  pub refused : IfErr answer (λ e. IsOfInput e → IfSome (standing before.port (string_bytes c.name)) (λ s. (log_of MAX_LIMIT s.log ≡ Err e) × (standing after.port (string_bytes c.name) ≡ Some (left s))))
+  pub begun : OnErr answer (IfSome (standing before.port (string_bytes c.name)) (λ s. EndsEarly c.dels s (standing after.port (string_bytes c.name))))
+  pub untouched : IfErr answer (λ e. e ≢ fault.Write → e ≢ fault.Memory → IfSome (standing before.port (string_bytes c.name)) (λ s. StaysSame s (standing after.port (string_bytes c.name))))
+  pub others : SameElsewhere (string_bytes c.name) (standing before.port) (standing after.port)
+  pub device : failures after.port ≡ failures_after_compaction answer (failures before.port)
 
 module _ {R W P : Type 0} (k : Knowledge R W P) where
   -- That of an answer of a session, which says what became of the keys, which device failed and what is told.
@@ -112,7 +113,7 @@ module _ {R W P : Type 0} (k : Knowledge R W P) where
       IsStatusOfShow k.remaining k.contents status (streams before.input before.output before.told) (streams after.input after.output after.told) × (after.port ≡ before.port)
   IsStatusOfJob (Edit settings) status before after = IsStatusOfEdit settings status before after
   IsStatusOfJob (Compact c) status before after =
-      IsStatusOfCompact k.standing k.steps c status (port_side before.port before.told) (port_side after.port after.told) × (after.input ≡ before.input) × (after.output ≡ before.output)
+      IsStatusOfCompact k.standing k.log_failures c status (port_side before.port before.told) (port_side after.port after.told) × (after.input ≡ before.input) × (after.output ≡ before.output)
 
 module _ {W : Type 0} where
   -- A text that was asked for was printed, or not: 3 exactly where standard output failed, and else 0, or 4 where

@@ -72,8 +72,8 @@ pub fn do_job<R: Read, W: Write, P: Port + Logs, T: Tell>(
 ) -> u8
     ensures status { MatchResult job.now
         (λ job. status.IsStatusOfJob
-        (status.known R.remaining W.contents P.calls P.failures P.standing P.steps) job result
-        (status.surroundings reader.old writer.old port.old (T.told errors.old))
+        (status.known R.remaining W.contents P.calls P.Port.failures P.standing P.Logs.failures)
+        job result (status.surroundings reader.old writer.old port.old (T.told errors.old))
         (status.surroundings reader.new writer.new port.new (T.told errors.new)))
         (λ fault. status.IsStatusOf fault result writer.old writer.new
         (T.told errors.old) (T.told errors.new)) }
@@ -114,7 +114,7 @@ fn edit<R: Read, W: Write, P: Port + Logs, T: Tell>(
     errors: &mut T,
 ) -> u8
     ensures status { status.IsStatusOfEdit
-        (status.known R.remaining W.contents P.calls P.failures P.standing P.steps)
+        (status.known R.remaining W.contents P.calls P.Port.failures P.standing P.Logs.failures)
         settings.now result
         (status.surroundings reader.old writer.old port.old (T.told errors.old))
         (status.surroundings reader.new writer.new port.new (T.told errors.new)) }
@@ -127,7 +127,7 @@ fn edit<R: Read, W: Write, P: Port + Logs, T: Tell>(
 }
 
 fn compact<P: Logs, T: Tell>(alloc: Global, log: &Compaction, port: &mut P, errors: &mut T) -> u8
-    ensures status { status.IsStatusOfCompact P.standing P.steps log.now result
+    ensures status { status.IsStatusOfCompact P.standing P.failures log.now result
         (status.port_side port.old (T.told errors.old)) (status.port_side port.new (T.told errors.new)) }
     ensures bound { result ≤ 4 }
 {

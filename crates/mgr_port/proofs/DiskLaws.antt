@@ -1,6 +1,6 @@
 -- What stands under a name behind each beginning of the steps that give it a file.
 use Rattle.std.proofs.Common.{◌≡◌, ◌⊎◌, inl, inr, ℕ, List, [], ◌∷◌, ◌++◌, Bool, true, false, Option, Some, None, refl, sym, ap, ◌∙◌, subst, append_assoc}
-use Rattle.mgr_port.specs.Disk.{DiskStep, Empties, Writes, Syncs, Keeps, TakesName, SyncsFolder, BeginsSteps, Place, behind_step, behind_steps, MayStand, MayBeFound, IsUntouched, naming_steps, whole_steps, TellsSteps, TellsWrittenFront, StopsBefore}
+use Rattle.mgr_port.specs.Disk.{DiskStep, Empties, Writes, Syncs, Keeps, TakesName, SyncsFolder, Removes, BeginsSteps, AreGivenUp, Place, behind_step, behind_steps, MayStand, MayBeFound, IsUntouched, keeping_steps, unnamed_steps, naming_steps, whole_steps, TellsSteps, TellsWrittenFront, StopsBefore}
 
 -- What holds of a place, holds of it behind a part of the first step where that is a write, and behind that step and any
 -- beginning of the others, holds behind any beginning of all.
@@ -72,6 +72,35 @@ module _ (old found : Option (List ℕ)) (bytes : List ℕ) where
       (λ synced then. early (behind_step (behind_step p Empties) (Writes bytes)) Syncs (naming_steps keeps ++ SyncsFolder ∷ []) synced u.unnamed u.unsettled then
       (λ named last. naming keeps (behind_step (behind_step (behind_step p Empties) (Writes bytes)) Syncs) named u.unnamed u.unsettled refl refl last)))
 
+-- ---- a file beside that was given up
+
+abbrev IsUnnamed : Place → Type 0
+IsUnnamed p = (p.is_named ≡ false) × (p.is_settled ≡ false)
+
+keeping : (keeps : Bool) (p : Place) (made : List DiskStep) → IsUnnamed p → BeginsSteps made (keeping_steps keeps) → IsUnnamed (behind_steps p made)
+keeping false p made u none = subst (λ (l : List DiskStep). IsUnnamed (behind_steps p l)) (sym none) u
+keeping true p made u begins =
+    begun IsUnnamed p Keeps [] made begins u (λ part more same. u)
+    (λ others none. subst (λ (l : List DiskStep). IsUnnamed (behind_steps (behind_step p Keeps) l)) (sym none) u)
+
+still_unnamed : (p : Place) (keeps : Bool) (bytes : List ℕ) (made : List DiskStep) → IsUnnamed p → BeginsSteps made (unnamed_steps keeps bytes) → IsUnnamed (behind_steps p made)
+still_unnamed p keeps bytes made u begins =
+    begun IsUnnamed p Empties (Writes bytes ∷ Syncs ∷ keeping_steps keeps) made begins u (λ part more same. u)
+    (λ written more. begun IsUnnamed (behind_step p Empties) (Writes bytes) (Syncs ∷ keeping_steps keeps) written more u (λ part rest same. u)
+    (λ synced then. begun IsUnnamed (behind_step (behind_step p Empties) (Writes bytes)) Syncs (keeping_steps keeps) synced then u (λ part rest same. u)
+    (λ kept last. keeping keeps (behind_step (behind_step (behind_step p Empties) (Writes bytes)) Syncs) kept u last)))
+
+then_removed : (p : Place) (made : List DiskStep) → behind_steps p (made ++ Removes ∷ []) ≡ behind_step (behind_steps p made) Removes
+then_removed p [] = refl
+then_removed p (step ∷ made) = then_removed (behind_step p step) made
+
+pub old_stands : (old found : Option (List ℕ)) (p : Place) (keeps : Bool) (bytes : List ℕ) (made : List DiskStep) → IsUntouched p → AreGivenUp keeps bytes made → MayBeFound old (behind_steps p made) found → found ≡ old
+old_stands old found p keeps bytes made u given may =
+    let still : IsUnnamed (behind_steps p given.begun) = still_unnamed p keeps bytes given.begun (u.unnamed, u.unsettled) given.begins in
+    let here : MayBeFound old (behind_step (behind_steps p given.begun) Removes) found =
+    subst (λ (q : Place). MayBeFound old q found) (ap (behind_steps p) given.is ∙ then_removed p given.begun) may in
+    unnamed old found (behind_step (behind_steps p given.begun) Removes) still.0 still.1 here
+
 -- ---- what stood there
 
 -- it is kept once the file beside has the name
@@ -94,6 +123,7 @@ kept_for_good p (Syncs ∷ steps) kept = kept_for_good (behind_step p Syncs) ste
 kept_for_good p (Keeps ∷ steps) kept = kept_for_good (behind_step p Keeps) steps refl
 kept_for_good p (TakesName ∷ steps) kept = kept_for_good (behind_step p TakesName) steps kept
 kept_for_good p (SyncsFolder ∷ steps) kept = kept_for_good (behind_step p SyncsFolder) steps kept
+kept_for_good p (Removes ∷ steps) kept = kept_for_good (behind_step p Removes) steps kept
 
 pub kept_before : (p : Place) (bytes : List ℕ) (made : List DiskStep) → IsUntouched p → BeginsSteps made (whole_steps true bytes) → IsKept (behind_steps p made)
 kept_before p bytes made u begins =
@@ -110,13 +140,17 @@ tells_more None b c xs ys one two = tt
 tells_more (Some steps) b c xs ys one two =
     subst (λ o. TellsSteps o c ys) one two ∙ ap (λ (l : List DiskStep). Some l) (append_assoc steps xs ys)
 
+begins_none : (wanted : List DiskStep) → BeginsSteps [] wanted
+begins_none [] = refl
+begins_none (step ∷ later) = inl refl
+
 -- the step that comes next failed
-pub stops_here : (a b : Option (List DiskStep)) (step : DiskStep) (later : List DiskStep) → TellsSteps a b [] → StopsBefore a b (step ∷ later)
-stops_here a b step later none = record { made = []; begins = inl refl; tells = none }
+pub stops_here : (a b : Option (List DiskStep)) (wanted : List DiskStep) → TellsSteps a b [] → StopsBefore a b wanted
+stops_here a b wanted none = record { made = []; begins = begins_none wanted; tells = none }
 
 -- of its bytes none were written, or a beginning
 pub stops_in_write : (a b : Option (List DiskStep)) (bytes : List ℕ) (later : List DiskStep) → TellsSteps a b [] ⊎ TellsWrittenFront a b bytes → StopsBefore a b (Writes bytes ∷ later)
-stops_in_write a b bytes later (inl none) = stops_here a b (Writes bytes) later none
+stops_in_write a b bytes later (inl none) = stops_here a b (Writes bytes ∷ later) none
 stops_in_write a b bytes later (inr w) = record {
   made = Writes w.front ∷ [];
   begins = inr (inl (w.front, w.rest, ap (λ (l : List ℕ). Writes l) w.parts, refl));
@@ -130,23 +164,3 @@ stops_behind a b c step later one s = record {
   begins = inr (inr (s.made, refl, s.begins));
   tells = tells_more a b c (step ∷ []) s.made one s.tells;
 }
-
--- ---- a beginning of some of the steps is one of all
-
-begins_longer : (made wanted more : List DiskStep) → BeginsSteps made wanted → BeginsSteps made (wanted ++ more)
-begins_longer made [] [] none = none
-begins_longer made [] (step ∷ more) none = inl none
-begins_longer made (step ∷ later) more (inl none) = inl none
-begins_longer made (step ∷ later) more (inr (inl part)) = inr (inl part)
-begins_longer made (step ∷ later) more (inr (inr (others, is, begins))) = inr (inr (others, is, begins_longer others later more begins))
-
-begins_all : (made more : List DiskStep) → BeginsSteps made (made ++ more)
-begins_all [] [] = refl
-begins_all [] (step ∷ more) = inl refl
-begins_all (step ∷ made) more = inr (inr (made, refl, begins_all made more))
-
-pub stops_longer : (a b : Option (List DiskStep)) (wanted more : List DiskStep) → StopsBefore a b wanted → StopsBefore a b (wanted ++ more)
-stops_longer a b wanted more s = record { made = s.made; begins = begins_longer s.made wanted more s.begins; tells = s.tells }
-
-pub stops_at : (a b : Option (List DiskStep)) (made more : List DiskStep) → TellsSteps a b made → StopsBefore a b (made ++ more)
-stops_at a b made more told = record { made = made; begins = begins_all made more; tells = told }

@@ -1,1 +1,2 @@
 pub mod DiskLaws
+pub mod RaisedLaws

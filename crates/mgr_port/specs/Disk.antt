@@ -4,7 +4,8 @@ use Rattle.mgr_port.specs.declared.disk.Named.{Named}
 use Rattle.mgr_port.specs.declared.disk.Named.TheVariants.{Settled, Unsettled}
 
 -- The file beside is emptied; gets these bytes at its end; is brought to the device; what stands under the name is kept
--- beside it; the file beside gets the name; and the names of the folder are brought to the device.
+-- beside it; the file beside gets the name; the names of the folder are brought to the device; and a file beside that got
+-- no name is removed.
 pub data DiskStep : Type 0 where
   Empties : DiskStep
   Writes : List ℕ → DiskStep
@@ -12,6 +13,7 @@ pub data DiskStep : Type 0 where
   Keeps : DiskStep
   TakesName : DiskStep
   SyncsFolder : DiskStep
+  Removes : DiskStep
 
 -- a disk that tells its steps tells these more
 abbrev pub TellsSteps : Option (List DiskStep) → Option (List DiskStep) → List DiskStep → Type 0
@@ -36,10 +38,17 @@ DoesWrite (Err e) bytes old new = TellsSteps old new [] ⊎ TellsWrittenFront ol
 
 -- ---- a whole file
 
--- it has the name once all of its bytes are on the device, and what stood there is kept where it is to be
+-- before it gets the name, all of its bytes are on the device, and what stands there is kept where it is to be
+abbrev pub keeping_steps : Bool → List DiskStep
+keeping_steps true = Keeps ∷ []
+keeping_steps false = []
+
+abbrev pub unnamed_steps : Bool → List ℕ → List DiskStep
+unnamed_steps keeps bytes = Empties ∷ Writes bytes ∷ Syncs ∷ keeping_steps keeps
+
+-- then it has it
 abbrev pub naming_steps : Bool → List DiskStep
-naming_steps true = Keeps ∷ TakesName ∷ []
-naming_steps false = TakesName ∷ []
+naming_steps keeps = keeping_steps keeps ++ TakesName ∷ []
 
 abbrev pub synced_steps : Bool → List DiskStep
 synced_steps keeps = Syncs ∷ naming_steps keeps
@@ -68,11 +77,21 @@ abbrev pub BeginsSteps : List DiskStep → List DiskStep → Type 0
 BeginsSteps made [] = made ≡ []
 BeginsSteps made (step ∷ later) = (made ≡ []) ⊎ WritesPart step made ⊎ ((others : List DiskStep) × (made ≡ step ∷ others) × BeginsSteps others later)
 
--- so far it went, and the file beside has no name
+-- so far it went, of steps that all come before the file beside has the name
 pub record StopsBefore (old new : Option (List DiskStep)) (wanted : List DiskStep) : Type 0 where
   pub made : List DiskStep
   pub begins : BeginsSteps made wanted
   pub tells : TellsSteps old new made
+
+-- some of the steps before it gets the name were made, and then it was removed
+pub record AreGivenUp (keeps : Bool) (bytes : List ℕ) (made : List DiskStep) : Type 0 where
+  pub begun : List DiskStep
+  pub begins : BeginsSteps begun (unnamed_steps keeps bytes)
+  pub is : made ≡ begun ++ Removes ∷ []
+
+-- what was made when the machine stops: a beginning of all steps, or what was given up
+abbrev pub MayBeMade : Bool → List ℕ → List DiskStep → Type 0
+MayBeMade keeps bytes made = BeginsSteps made (whole_steps keeps bytes) ⊎ AreGivenUp keeps bytes made
 
 -- ---- a machine that stops
 
@@ -92,6 +111,7 @@ behind_step p Syncs = record p { is_synced = true }
 behind_step p Keeps = record p { is_kept = true }
 behind_step p TakesName = record p { is_named = true }
 behind_step p SyncsFolder = record p { is_settled = p.is_named }
+behind_step p Removes = record p { beside = []; is_synced = false }
 
 abbrev pub behind_steps : Place → List DiskStep → Place
 behind_steps p [] = p

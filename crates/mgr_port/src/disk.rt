@@ -1,7 +1,7 @@
 //! A file that is written whole beside another, and then takes its name.
-ghost use Rattle.std.specs.Prelude.{List, Option, IfOk, OnOk, OnErr};
+ghost use Rattle.std.specs.Prelude.{◌∷◌, List, Option, IfOk, OnOk, OnErr};
 ghost use Rattle.mgr_port.specs.Disk.{DiskStep, Empties, Syncs, Keeps, TakesName, SyncsFolder};
-ghost use Rattle.mgr_port.specs.Disk.{Does, DoesWrite, TellsSteps, StopsBefore, naming_steps, synced_steps, last_steps, named_steps, steps_to};
+ghost use Rattle.mgr_port.specs.Disk.{Does, DoesWrite, TellsSteps, StopsBefore, keeping_steps, unnamed_steps, naming_steps, last_steps, steps_to};
 
 use mg_files::LogLines;
 use std::io;
@@ -67,7 +67,7 @@ pub fn put_whole<D: Disk>(disk: &mut D, bytes: &[u8], keeps: bool) -> io::Result
     ensures named { IfOk result (λ named.
         TellsSteps (D.steps disk.old) (D.steps disk.new) (steps_to named keeps bytes.now)) }
     ensures unnamed { OnErr result
-        (StopsBefore (D.steps disk.old) (D.steps disk.new) (named_steps keeps bytes.now)) }
+        (StopsBefore (D.steps disk.old) (D.steps disk.new) (unnamed_steps keeps bytes.now)) }
 {
     disk.empty()?;
     disk.write(bytes)?;
@@ -80,7 +80,7 @@ pub(crate) fn put_log<D: Disk>(disk: &mut D, lines: &LogLines, keeps: bool) -> i
     ensures named { IfOk result (λ named.
         TellsSteps (D.steps disk.old) (D.steps disk.new) (steps_to named keeps lines.now)) }
     ensures unnamed { OnErr result
-        (StopsBefore (D.steps disk.old) (D.steps disk.new) (named_steps keeps lines.now)) }
+        (StopsBefore (D.steps disk.old) (D.steps disk.new) (unnamed_steps keeps lines.now)) }
 {
     disk.empty()?;
     disk.write_lines(lines)?;
@@ -94,7 +94,7 @@ pub(crate) fn name_written<D: Disk>(disk: &mut D, keeps: bool) -> io::Result<Nam
     ensures named { IfOk result (λ named.
         TellsSteps (D.steps disk.old) (D.steps disk.new) (last_steps named keeps)) }
     ensures unnamed { OnErr result
-        (StopsBefore (D.steps disk.old) (D.steps disk.new) (synced_steps keeps)) }
+        (StopsBefore (D.steps disk.old) (D.steps disk.new) (Syncs ∷ keeping_steps keeps)) }
 {
     disk.sync()?;
     give_name(disk, keeps)?;
@@ -110,7 +110,7 @@ fn give_name<D: Disk>(disk: &mut D, keeps: bool) -> io::Result<()>
     ensures named { OnOk result
         (TellsSteps (D.steps disk.old) (D.steps disk.new) (naming_steps keeps)) }
     ensures unnamed { OnErr result
-        (StopsBefore (D.steps disk.old) (D.steps disk.new) (naming_steps keeps)) }
+        (StopsBefore (D.steps disk.old) (D.steps disk.new) (keeping_steps keeps)) }
 {
     if keeps {
         disk.keep()?;

@@ -1,13 +1,16 @@
 //! Logs that are written anew.
-ghost use Rattle.std.specs.Prelude.{◌≡◌, ℕ, List, [], Option, Some, true, IfOk, IfSome, OnErr};
-ghost use Rattle.mgr_port.specs.Disk.{DiskStep, TellsSteps, StopsBefore, named_steps, steps_to};
+ghost use Rattle.std.specs.Prelude.{◌≡◌, ℕ, List, [], Option, Some, IfOk, IfSome};
+ghost use Rattle.std.specs.Option.{option_map};
+ghost use Rattle.mg_files.specs.Calls.{failures_after};
+ghost use Rattle.mgr_port.specs.Logs.{Standing, SameElsewhere, Names, left, raised};
 
-use crate::disk::Named;
-use std::io;
+use mg_files::PortFault;
+use rga_devices::Counted;
 use std::io::{Read, Write};
 
 /// Logs by the names of their notes, each of which can be written anew. They may tell what stands
-/// under a name, and the steps by which a log gets its name (`Disk`), in their order.
+/// under a name, with the steps by which it got there (`Disk`). `Memory` counts for no failure, as of a
+/// port.
 pub trait Logs {
     /// A log that is read.
     type Log: Read + Drop;
@@ -15,35 +18,50 @@ pub trait Logs {
     /// A file beside it, which is to take its name.
     type Next: Write + Drop;
 
-    /// The log under a name, where it is told.
-    ghost standing: { Self → List ℕ → Option (List ℕ) };
+    /// What stands under a name, where it is told.
+    ghost standing: { Self → List ℕ → Option Standing };
 
-    /// The steps so far, where they are told.
-    ghost steps: { Self → Option (List DiskStep) };
+    /// How many calls failed, those of the logs and files that were given back too.
+    ghost failures: { Self → ℕ };
 
-    /// Opens the log of a name. Nobody else has it as long as it is open; an error where somebody
-    /// has, and where there is no log.
-    fn open_log(&mut self, name: &str) -> io::Result<Self::Log>
-        ensures log { IfOk result (λ log.
-            Self.Log.remaining log ≡ standing self.old name.now) }
-        ensures steps { steps self.new ≡ steps self.old };
+    /// Opens the log of a name. Nobody else has it as long as it is open; `File` where somebody has,
+    /// and where there is no log.
+    fn open_log(&mut self, name: &str) -> Result<Self::Log, PortFault>
+        ensures log { IfOk result (λ log. IfSome (standing self.old name.now)
+            (λ s. Self.Log.remaining log ≡ Some s.log)) }
+        ensures same { standing self.new name.now ≡ standing self.old name.now }
+        ensures others { SameElsewhere name.now (standing self.old) (standing self.new) }
+        ensures device { failures self.new ≡ failures_after result (failures self.old) };
 
     /// Makes an empty file beside a log.
-    fn make_next(&mut self, name: &str, log: &Self::Log) -> io::Result<Self::Next>
-        ensures empty { IfOk result (λ next.
-            IfSome (steps self.old) (λ _. Self.Next.contents next ≡ Some [])) }
-        ensures steps { steps self.new ≡ steps self.old };
+    fn make_next(&mut self, name: &str, log: &Self::Log) -> Result<Self::Next, PortFault>
+        ensures empty { IfOk result (λ next. IfSome (standing self.old name.now)
+            (λ _. Self.Next.contents next ≡ Some [])) }
+        ensures same { standing self.new name.now ≡ standing self.old name.now }
+        ensures others { SameElsewhere name.now (standing self.old) (standing self.new) }
+        ensures device { failures self.new ≡ failures_after result (failures self.old) };
 
     /// Gives the file beside the name of the log, which is kept: as `put_whole` does with all that was
-    /// written to it. An error too where the log is not as it was read. Where it fails, there is no
-    /// file beside any more.
-    fn name_next(&mut self, name: &str, log: &Self::Log, next: Self::Next) -> io::Result<Named>
-        ensures named { IfOk result (λ named. IfSome (Self.Next.contents next) (λ bytes.
-            TellsSteps (steps self.old) (steps self.new) (steps_to named true bytes))) }
-        ensures unnamed { OnErr result (IfSome (Self.Next.contents next) (λ bytes.
-            StopsBefore (steps self.old) (steps self.new) (named_steps true bytes))) };
+    /// written to it. `File` too where the log is not as it was read. Where it fails, there is no file
+    /// beside any more, or it has the name and only that may not be on the device.
+    fn name_next(
+        &mut self,
+        name: &str,
+        log: Counted<Self::Log>,
+        next: Counted<Self::Next>,
+    ) -> Result<(), PortFault>
+        ensures named { IfSome (standing self.old name.now) (λ s.
+            IfSome (Self.Next.contents next.inner) (λ bytes.
+            Names result bytes s (standing self.new name.now))) }
+        ensures others { SameElsewhere name.now (standing self.old) (standing self.new) }
+        ensures device { failures self.new ≡ failures_after result
+            (raised (raised (failures self.old) log.failures) next.failures) };
 
     /// Removes the file beside, which gets no name.
-    fn leave_next(&mut self, name: &str, next: Self::Next)
-        ensures { steps self.new ≡ steps self.old };
+    fn leave_next(&mut self, name: &str, log: Counted<Self::Log>, next: Counted<Self::Next>)
+        ensures left { standing self.new name.now
+            ≡ option_map left (standing self.old name.now) }
+        ensures others { SameElsewhere name.now (standing self.old) (standing self.new) }
+        ensures device { failures self.new
+            ≡ raised (raised (failures self.old) log.failures) next.failures };
 }

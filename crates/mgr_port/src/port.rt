@@ -3,15 +3,15 @@ ghost use Rattle.std.specs.Prelude.{◌≡◌, ◌≢◌, ◌<◌, Bool, Err, If
 ghost use Rattle.mg_files.specs.Calls.{failures_after, failures_after_link};
 ghost use Rattle.mg_files.specs.declared.port.LinkFault.TheVariants.{NoPort};
 ghost use Rattle.mg_files.specs.declared.port.PortFault.TheVariants.{Memory};
+ghost use Rattle.mgr_port.specs.Logs.{raised};
 
-use crate::beside::remove_next;
-use crate::disk::Named;
 use crate::logs::Logs;
 use crate::names::Paths;
 use crate::note::Note;
-use crate::rewriting::{OpenLog, make_next, name_next};
+use crate::rewriting::{OpenLog, leave_next, make_next, name_next, open_log};
 use crate::sockets::{accept_one, connect_to, listen_at};
 use mg_files::{Found, LinkFault, LogLines, Port, PortFault};
+use rga_devices::Counted;
 use std::alloc::AllocError;
 use std::fs::File;
 use std::io;
@@ -98,6 +98,13 @@ fn link_told<T: Drop>(failures: &mut u64, answer: io::Result<T>) -> Result<T, Li
             Err(LinkFault::Socket)
         }
     }
+}
+
+/// How many calls failed, with so many more of a device that was given back.
+fn failures_with(failures: u64, more: u64) -> u64
+    ensures { result ≡ raised failures more }
+{
+    failures.saturating_add(more)
 }
 
 /// Counts a failure.
@@ -267,7 +274,9 @@ impl<R: Files<File = File> + Net + AllocGlobal + Drop> Port for FilePort<R> {
 }
 
 impl<R: Files<File = File> + Net + AllocGlobal + Drop> Logs for FilePort<R> {
-    ghost use Rattle.std.specs.Prelude.{None};
+    ghost use Rattle.std.specs.Prelude.{◌≡◌, None};
+    ghost use Rattle.mg_files.specs.Calls.{failures_after};
+    ghost use Rattle.mgr_port.specs.Logs.{raised};
 
     type Log = OpenLog;
 
@@ -275,27 +284,40 @@ impl<R: Files<File = File> + Net + AllocGlobal + Drop> Logs for FilePort<R> {
 
     ghost standing = { λ _ _. None };
 
-    ghost steps = { λ _. None };
+    ghost failures = { λ p. p.failures };
 
     /// A log that may not be written is refused.
-    fn open_log(&mut self, name: &str) -> io::Result<OpenLog> {
-        let paths = Paths::new(&self.rt, name)?;
-        OpenLog::open(&self.rt, paths.log.as_str())
+    fn open_log(&mut self, name: &str) -> Result<OpenLog, PortFault> {
+        let opened = open_log(&self.rt, name);
+        told(&mut self.failures, opened)
     }
 
-    fn make_next(&mut self, name: &str, log: &OpenLog) -> io::Result<File> {
-        let paths = Paths::new(&self.rt, name)?;
-        make_next(&self.rt, paths.next_log.as_str(), log)
+    fn make_next(&mut self, name: &str, log: &OpenLog) -> Result<File, PortFault> {
+        let made = make_next(&self.rt, name, log);
+        told(&mut self.failures, made)
     }
 
-    fn name_next(&mut self, name: &str, log: &OpenLog, next: File) -> io::Result<Named> {
-        let paths = Paths::new(&self.rt, name)?;
-        name_next(&self.rt, &paths, log, next)
+    fn name_next(
+        &mut self,
+        name: &str,
+        log: Counted<OpenLog>,
+        next: Counted<File>,
+    ) -> Result<(), PortFault>
+        ensures device { self.new.failures ≡ failures_after result
+            (raised (raised self.old.failures log.failures) next.failures) }
+    {
+        self.failures = failures_with(self.failures, log.failures());
+        self.failures = failures_with(self.failures, next.failures());
+        let named = name_next(&self.rt, name, &log.into_inner(), next.into_inner());
+        told(&mut self.failures, named)
     }
 
-    fn leave_next(&mut self, name: &str, next: File) {
-        if let Ok(paths) = Paths::new(&self.rt, name) {
-            remove_next(&self.rt, paths.next_log.as_str(), &next);
-        }
+    fn leave_next(&mut self, name: &str, log: Counted<OpenLog>, next: Counted<File>)
+        ensures device { self.new.failures
+            ≡ raised (raised self.old.failures log.failures) next.failures }
+    {
+        self.failures = failures_with(self.failures, log.failures());
+        self.failures = failures_with(self.failures, next.failures());
+        leave_next(&self.rt, name, &next.into_inner());
     }
 }

@@ -89,12 +89,23 @@ pub(crate) fn keep_as_read<R: Files<File = File> + AllocGlobal>(
     keep(rt, path, Keeping::ByName)
 }
 
+/// The log of a name, locked.
+pub(crate) fn open_log<R: Files<File = File> + AllocGlobal>(
+    rt: &R,
+    name: &str,
+) -> io::Result<OpenLog> {
+    let paths = Paths::new(rt, name)?;
+    OpenLog::open(rt, paths.log.as_str())
+}
+
 /// An empty file beside a log, locked, with the owner and the rights of the log.
 pub(crate) fn make_next<R: Files<File = File> + AllocGlobal>(
     rt: &R,
-    path: &str,
+    name: &str,
     log: &OpenLog,
 ) -> io::Result<File> {
+    let paths = Paths::new(rt, name)?;
+    let path = paths.next_log.as_str();
     // One that was killed when it gave the log its name may have left it this one too.
     remove_next(rt, path, &log.file);
     let next = take_beside(rt, path)?;
@@ -102,9 +113,19 @@ pub(crate) fn make_next<R: Files<File = File> + AllocGlobal>(
     Ok(next)
 }
 
-/// Gives what was written beside a log the name of the log, which is kept. Where that fails, there is
-/// no file beside any more.
+/// Gives what was written beside a log the name of the log, which is kept, and waits until that is on
+/// the device. Where a step before the last fails, there is no file beside any more.
 pub(crate) fn name_next<R: Files<File = File> + AllocGlobal>(
+    rt: &R,
+    name: &str,
+    read: &OpenLog,
+    next: File,
+) -> io::Result<()> {
+    let paths = Paths::new(rt, name)?;
+    name_beside(rt, &paths, read, next)?.settled()
+}
+
+fn name_beside<R: Files<File = File> + AllocGlobal>(
     rt: &R,
     paths: &Paths,
     read: &OpenLog,
@@ -123,4 +144,11 @@ pub(crate) fn name_next<R: Files<File = File> + AllocGlobal>(
         remove_next(rt, path, &next);
     }
     named
+}
+
+/// Removes a file beside a log of a name.
+pub(crate) fn leave_next<R: Files<File = File> + AllocGlobal>(rt: &R, name: &str, next: &File) {
+    if let Ok(paths) = Paths::new(rt, name) {
+        remove_next(rt, paths.next_log.as_str(), next);
+    }
 }

@@ -1,6 +1,5 @@
 //! Stores and logs that are compacted, to devices that fail, and logs that are written anew by a
 //! disk of which a step fails.
-use crate::disks::has_made;
 use crate::sending::{device, is_filled};
 use mgr_compact::compact_note;
 use mgr_show::{ShowFault, compact_log};
@@ -177,6 +176,12 @@ fn a_log_is_compacted_where_it_is_accepted(rt: HostRuntime) {
     assert!(rt; log_compacts(alloc, &LOG[..20], torn, ""), "torn");
 }
 
+/// Whether these steps were made, in words.
+fn has_rewritten(alloc: Global, logs: &MemoryLogs, steps: &str) -> bool {
+    let mut line = String::new(alloc);
+    logs.push_steps(&mut line).is_ok() && line.as_str() == steps
+}
+
 /// Whether this is answered where a log is written anew by a disk that makes so many steps, which
 /// are these, in words; and the log is this then.
 fn rewrites(
@@ -190,8 +195,10 @@ fn rewrites(
     match Vec::from_slice(alloc, log.as_bytes()) {
         Ok(log) => {
             let mut logs = MemoryLogs::new(alloc, log, left);
-            compact_note(alloc, &mut logs, "note", false) == answer
-                && has_made(alloc, &logs.disk, steps)
+            let failed = answer == Err(ShowFault::Write);
+            compact_note(alloc, &mut logs, "", false) == answer
+                && logs.failures == u64::from(failed)
+                && has_rewritten(alloc, &logs, steps)
                 && logs.log.as_slice() == text.as_bytes()
         }
         Err(_) => false,
@@ -200,11 +207,11 @@ fn rewrites(
 
 /// How many steps are made before one fails, these steps, and the log then.
 const STEPS: &[(usize, &str, &str)] = &[
-    (0, "", LOG),
-    (1, " empty", LOG),
-    (2, " empty write", LOG),
-    (3, " empty write sync", LOG),
-    (4, " empty write sync keep", LOG),
+    (0, " leave", LOG),
+    (1, " empty leave", LOG),
+    (2, " empty write leave", LOG),
+    (3, " empty write sync leave", LOG),
+    (4, " empty write sync keep leave", LOG),
     (5, " empty write sync keep name", THREE),
 ];
 
@@ -219,7 +226,7 @@ fn a_log_that_is_written_anew_is_the_old_one_or_the_new_one(rt: HostRuntime) {
     }
     assert!(rt; rewrites(alloc, LOG, 6, Ok(()), ALL_STEPS, THREE), "all");
     assert!(rt;
-        rewrites(alloc, REFUSED, 6, conflict(), "", REFUSED),
+        rewrites(alloc, REFUSED, 6, conflict(), " leave", REFUSED),
         "refused"
     );
 }

@@ -4,7 +4,7 @@ use std::alloc::Global;
 use test_ports::MemoryDisk;
 
 /// Whether the disk made these steps, in words.
-pub(crate) fn has_made(alloc: Global, disk: &MemoryDisk, steps: &str) -> bool {
+fn has_made(alloc: Global, disk: &MemoryDisk, steps: &str) -> bool {
     let mut line = String::new(alloc);
     disk.push_steps(&mut line).is_ok() && line.as_str() == steps
 }

@@ -1,6 +1,7 @@
--- The steps of a disk in memory.
-use Rattle.std.specs.Prelude.{ℕ, List}
-use Rattle.mgr_port.specs.Disk.{DiskStep, Empties, Writes, Syncs, Keeps, TakesName, SyncsFolder}
+-- The steps of a disk in memory, and the log over it.
+use Rattle.std.specs.Prelude.{ℕ, Bool, true, false, List, [], ◌∷◌, ◌++◌, Option, Some, None}
+use Rattle.mgr_port.specs.Disk.{DiskStep, Empties, Writes, Syncs, Keeps, TakesName, SyncsFolder, Removes}
+use Rattle.mgr_port.specs.Logs.{Standing}
 use Rattle.test_ports.specs.declared.disk.StepKind.{StepKind}
 use Rattle.test_ports.specs.declared.disk.StepKind.TheVariants as kind
 
@@ -11,3 +12,20 @@ disk_step_of kind.Sync bytes = Syncs
 disk_step_of kind.Keep bytes = Keeps
 disk_step_of kind.TakeName bytes = TakesName
 disk_step_of kind.SyncFolder bytes = SyncsFolder
+
+-- the step of a file beside that was removed
+abbrev pub left_steps : Bool → List DiskStep
+left_steps true = Removes ∷ []
+left_steps false = []
+
+-- the one log stands under the empty name
+abbrev pub standing_at : List ℕ → Standing → Option Standing
+standing_at [] s = Some s
+standing_at (byte ∷ name) s = None
+
+-- a log after these steps, and the removal of the file beside
+abbrev pub with_steps : List ℕ → List DiskStep → Bool → Standing
+with_steps log steps left = record { log = log; steps = steps ++ left_steps left }
+
+abbrev pub memory_standing : List ℕ → List DiskStep → Bool → List ℕ → Option Standing
+memory_standing log steps left name = standing_at name (with_steps log steps left)

@@ -1,18 +1,30 @@
 //! A log in memory that is written anew.
+ghost use Rattle.std.specs.Prelude.{◌≡◌, [], false, Some, Err};
+ghost use Rattle.mg_files.specs.Calls.{failures_after};
+ghost use Rattle.mgr_port.specs.Logs.{Names, raised};
+ghost use Rattle.test_ports.specs.Steps.{with_steps};
+
 use crate::disk::MemoryDisk;
+use mg_files::PortFault;
 use mgr_port::{Logs, Named, put_whole};
-use std::alloc::Global;
+use rga_devices::Counted;
+use std::alloc::{AllocError, Global};
 use std::io;
 use std::io::{Cursor, ErrorKind};
 
-/// Holds one log, under any name, and tells the steps by which another takes its place, one of which
-/// fails.
+/// Holds one log, under the empty name, and tells the steps by which another takes its place, one of
+/// which fails. It refuses every other name.
 #[derive(Drop)]
 pub struct MemoryLogs {
     alloc: Global,
     /// The log that stands there.
     pub log: Vec<u8>,
+    /// The disk of the last file beside it.
     pub disk: MemoryDisk,
+    /// Whether that file was removed.
+    pub left: bool,
+    /// How many calls failed.
+    pub failures: u64,
 }
 
 impl MemoryLogs {
@@ -22,44 +34,138 @@ impl MemoryLogs {
             alloc,
             log,
             disk: MemoryDisk::new(alloc, left),
+            left: false,
+            failures: 0,
+        }
+    }
+
+    /// Adds the steps so far to a line, as words.
+    pub fn push_steps(&self, line: &mut String) -> Result<(), AllocError> {
+        self.disk.push_steps(line)?;
+        line.push_str(if self.left { " leave" } else { "" })
+    }
+}
+
+/// How many calls failed, with so many more.
+fn failures_with(failures: u64, more: u64) -> u64
+    ensures { result ≡ raised failures more }
+{
+    failures.saturating_add(more)
+}
+
+/// The fault of a step that failed, which is counted.
+fn refused(failures: &mut u64, error: &io::Error) -> PortFault
+    ensures { failures.new ≡ failures_after {A = Unit {0}} (Err result) failures.old }
+{
+    if error.kind() == ErrorKind::OutOfMemory {
+        return PortFault::Memory;
+    }
+    *failures = failures.saturating_add(1);
+    PortFault::File
+}
+
+/// Gives the name of a log to the bytes beside it, by the steps of a disk that has made none.
+fn take_place(
+    disk: &mut MemoryDisk,
+    log: &mut Vec<u8>,
+    left: &mut bool,
+    failures: &mut u64,
+    next: Vec<u8>,
+) -> Result<(), PortFault>
+    requires { disk.old.steps.items ≡ [] }
+    ensures named { Names result next.items (with_steps log.old.items [] false)
+        (Some (with_steps log.new.items disk.new.steps.items left.new)) }
+    ensures device { failures.new ≡ failures_after result failures.old }
+{
+    match put_whole(disk, &next, true) {
+        Ok(named) => {
+            *log = next;
+            *left = false;
+            match named {
+                Named::Settled => Ok(()),
+                Named::Unsettled(error) => Err(refused(failures, &error)),
+            }
+        }
+        Err(error) => {
+            *left = true;
+            Err(refused(failures, &error))
         }
     }
 }
 
 impl Logs for MemoryLogs {
-    ghost use Rattle.std.specs.Prelude.{Some};
+    ghost use Rattle.std.specs.Prelude.{◌≡◌, IfSome};
+    ghost use Rattle.std.specs.Option.{option_map};
+    ghost use Rattle.mg_files.specs.Calls.{failures_after};
+    ghost use Rattle.mgr_port.specs.Logs.{SameElsewhere, Names, left, raised};
+    ghost use Rattle.test_ports.specs.Steps.{memory_standing};
 
     type Log = Cursor<Vec<u8>>;
 
     type Next = Vec<u8>;
 
-    ghost standing = { λ logs _. Some logs.log.items };
+    ghost standing = { λ logs. memory_standing logs.log.items logs.disk.steps.items logs.left };
 
-    ghost steps = { λ logs. Some logs.disk.steps.items };
+    ghost failures = { λ logs. logs.failures };
 
-    fn open_log(&mut self, _name: &str) -> io::Result<Cursor<Vec<u8>>> {
-        match Vec::from_slice(self.alloc, &self.log) {
-            Ok(log) => Ok(Cursor::new(log)),
-            Err(_) => Err(io::Error::from(ErrorKind::OutOfMemory)),
+    fn open_log(&mut self, name: &str) -> Result<Cursor<Vec<u8>>, PortFault> {
+        if !name.is_empty() {
+            self.failures = self.failures.saturating_add(1);
+            return Err(PortFault::File);
         }
+        Ok(Cursor::new(Vec::from_slice(self.alloc, &self.log)?))
     }
 
-    fn make_next(&mut self, _name: &str, _log: &Cursor<Vec<u8>>) -> io::Result<Vec<u8>> {
+    fn make_next(&mut self, _name: &str, _log: &Cursor<Vec<u8>>) -> Result<Vec<u8>, PortFault> {
         Ok(Vec::new(self.alloc))
     }
 
     fn name_next(
         &mut self,
-        _name: &str,
-        _log: &Cursor<Vec<u8>>,
-        next: Vec<u8>,
-    ) -> io::Result<Named> {
-        let named = put_whole(&mut self.disk, &next, true);
-        if named.is_ok() {
-            self.log = next;
+        name: &str,
+        log: Counted<Cursor<Vec<u8>>>,
+        next: Counted<Vec<u8>>,
+    ) -> Result<(), PortFault>
+        ensures named { let old = memory_standing self.old.log.items self.old.disk.steps.items self.old.left in
+            let new = memory_standing self.new.log.items self.new.disk.steps.items self.new.left in
+            IfSome (old name.now) (λ s. Names result next.inner.items s (new name.now)) }
+        ensures others { let old = memory_standing self.old.log.items self.old.disk.steps.items self.old.left in
+            let new = memory_standing self.new.log.items self.new.disk.steps.items self.new.left in
+            SameElsewhere name.now old new }
+        ensures device { self.new.failures ≡ failures_after result
+            (raised (raised self.old.failures log.failures) next.failures) }
+    {
+        self.failures = failures_with(self.failures, log.failures());
+        self.failures = failures_with(self.failures, next.failures());
+        if !name.is_empty() {
+            self.failures = self.failures.saturating_add(1);
+            return Err(PortFault::File);
         }
-        named
+        self.disk.steps.clear();
+        take_place(
+            &mut self.disk,
+            &mut self.log,
+            &mut self.left,
+            &mut self.failures,
+            next.into_inner(),
+        )
     }
 
-    fn leave_next(&mut self, _name: &str, _next: Vec<u8>) {}
+    fn leave_next(&mut self, name: &str, log: Counted<Cursor<Vec<u8>>>, next: Counted<Vec<u8>>)
+        ensures left { let old = memory_standing self.old.log.items self.old.disk.steps.items self.old.left in
+            let new = memory_standing self.new.log.items self.new.disk.steps.items self.new.left in
+            new name.now ≡ option_map left (old name.now) }
+        ensures others { let old = memory_standing self.old.log.items self.old.disk.steps.items self.old.left in
+            let new = memory_standing self.new.log.items self.new.disk.steps.items self.new.left in
+            SameElsewhere name.now old new }
+        ensures device { self.new.failures
+            ≡ raised (raised self.old.failures log.failures) next.failures }
+    {
+        self.failures = failures_with(self.failures, log.failures());
+        self.failures = failures_with(self.failures, next.failures());
+        if name.is_empty() {
+            self.disk.steps.clear();
+            self.left = true;
+        }
+    }
 }

@@ -8,8 +8,10 @@ returns-in-Err-clause-status g c =
       answer = Err c.in-Err.fault;
       exact = c.told.ensures.status ∙ c.of_show.ensures.status;
       told_line = rw c.of_show.ensures.text at c.told.ensures.told;
-      keeps = e.compacted;
+      keeps = rw c.as_str.ensures.value at e.compacted;
       refused = rw c.as_str.ensures.value at e.refused;
       begun = rw c.as_str.ensures.value at e.begun;
-      untouched = e.untouched;
+      untouched = rw c.as_str.ensures.value at e.untouched;
+      others = rw c.as_str.ensures.value at e.others;
+      device = e.device;
     }

@@ -1,0 +1,40 @@
+-- What is told of logs that are written anew.
+use Rattle.std.specs.Prelude.{◌≡◌, ◌≢◌, ◌⊎◌, ℕ, zero, suc, List, [], ◌∷◌, Bool, true, Option, Some, Result, Ok, Err}
+use Rattle.rga_devices.specs.Counting.{one_more}
+use Rattle.mg_files.specs.declared.port.PortFault.{PortFault}
+use Rattle.mgr_port.specs.Disk.{DiskStep, Removes, AreGivenUp, named_steps, whole_steps}
+
+-- the log under a name, and the steps that were made with the last file beside it that was to take the name
+pub record Standing : Type 0 where
+  pub log : List ℕ
+  pub steps : List DiskStep
+
+-- nothing else changed: what is told of each other name
+abbrev pub SameElsewhere : List ℕ → (List ℕ → Option Standing) → (List ℕ → Option Standing) → Type 0
+SameElsewhere name old new = (other : List ℕ) → other ≢ name → new other ≡ old other
+
+-- the file beside has no name, and nothing was done with it but that it was removed
+abbrev pub left : Standing → Standing
+left s = record s { steps = Removes ∷ [] }
+
+-- the file beside has the name, after these steps
+abbrev pub renamed : (Bool → List ℕ → List DiskStep) → List ℕ → Standing
+renamed steps bytes = record { log = bytes; steps = steps true bytes }
+
+-- the old log has the name
+abbrev pub GivesUp : List ℕ → Standing → Option Standing → Type 0
+GivesUp bytes s found = (made : List DiskStep) × AreGivenUp true bytes made × (found ≡ Some (record s { steps = made }))
+
+-- after an error the old log has the name, or the new one, and only the last step is missing
+abbrev pub StopsEarly : List ℕ → Standing → Option Standing → Type 0
+StopsEarly bytes s found = GivesUp bytes s found ⊎ (found ≡ Some (renamed named_steps bytes))
+
+-- what is told of a name once these bytes were to stand there
+abbrev pub Names : {A : Type 0} → Result A PortFault → List ℕ → Standing → Option Standing → Type 0
+Names (Ok a) bytes s found = found ≡ Some (renamed whole_steps bytes)
+Names (Err fault) bytes s found = StopsEarly bytes s found
+
+-- so many failures more
+abbrev pub raised : ℕ → ℕ → ℕ
+raised n zero = n
+raised n (suc k) = one_more (raised n k)
