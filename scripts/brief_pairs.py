@@ -29,6 +29,10 @@ from play.peers import await_listener, free_port
 
 PAIRS = 1000
 SECONDS = 60
+
+# How many ports are tried for one who waits.
+PORTS = 5
+
 SIDES = ("waits", "connects")
 
 # Of ten pairs, in how many one number was used apart.
@@ -138,15 +142,25 @@ def message_of(process):
     return shown.decode().split("\n")[-2]
 
 
-def exchanged(mgr, folder, pair, port, *words):
+def waiting(mgr, folder, words):
+    """Begins a session that waits for a peer; returns it and its port. Another program may take a port first: then another one."""
+    for _ in range(PORTS):
+        port = free_port()
+        waits = editor(mgr, folder, port, words, SERVE)
+        if await_listener(port, lambda: waits.poll() is not None):
+            return waits, port
+        waits.kill()
+        waits.communicate()
+    raise Unexpected("nobody waits")
+
+
+def exchanged(mgr, folder, pair, *words):
     """Has two meet that have these logs; returns what came of it."""
     for name, log in zip(SIDES, pair.logs):
         (folder / name).mkdir(parents=True)
         (folder / name / "note.ops").write_text(log)
-    waits = editor(mgr, folder / SIDES[0], port, words, SERVE)
+    waits, port = waiting(mgr, folder / SIDES[0], words)
     try:
-        if not await_listener(port, lambda: waits.poll() is not None):
-            raise Unexpected("nobody waits")
         connects = editor(mgr, folder / SIDES[1], port, words, EXCHANGE)
         messages = [message_of(waits), message_of(connects)]
     finally:
@@ -161,11 +175,11 @@ def expect(what, wanted, came):
 
 def tried(mgr, seed):
     """Exchanges a pair whole and briefly; returns the kind of what was said, or raises what was not as it has to be."""
-    pair, port = Pair(seed), free_port()
+    pair = Pair(seed)
     folder = pathlib.Path(tempfile.mkdtemp(prefix="mgr-pair-"))
     try:
-        whole = exchanged(mgr, folder / "whole", pair, port)
-        brief = exchanged(mgr, folder / "brief", pair, port, "--brief")
+        whole = exchanged(mgr, folder / "whole", pair)
+        brief = exchanged(mgr, folder / "brief", pair, "--brief")
         wanted = ["Sent N, received N"] * 2 if pair.agree else ["line N: Conflict", "broken off"]
         expect("what was said behind a whole exchange", wanted, whole.kinds)
         expect("what was said behind a brief one", wanted, brief.kinds)
