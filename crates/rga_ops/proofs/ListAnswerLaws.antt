@@ -1,9 +1,8 @@
 -- The answers to a list that is taken whole or not at all: which of them comes exactly when.
-use Rattle.std.proofs.Common.{◌≡◌, ℕ, ◌<◌, ◌≤◌, Bool, true, false, cond, List, [], ◌∷◌, ◌++◌, refl, sym, ap, ◌∙◌, subst, nat_le, leb-true, leb-false, le-leb, le_trans, arith, inl, inr, true≢false}
+use Rattle.std.proofs.Common.{◌≡◌, ℕ, ◌<◌, ◌≤◌, Bool, true, false, cond, List, [], ◌∷◌, ◌++◌, refl, sym, ap, ◌∙◌, subst, nat_le, leb-true, leb-false, le-leb, arith, inl, inr, true≢false}
 use Rattle.std.specs.Prelude.{Option, Some, None, Ok, Err, ◌⊎◌, ◌↔◌}
 use Rattle.std.specs.Option.{option_or}
 use Rattle.std.specs.FinSet as finite_set
-use Rattle.std.proofs.lemmas.List.Elements.{Contains-append_left, Contains-append_right}
 use Rattle.std.proofs.lemmas.Option.{same_Some, none-some}
 use Rattle.rga_ops.specs.Identifier.{Identifier}
 use Rattle.rga_ops.specs.Operation.{checked, id_of}
@@ -11,10 +10,10 @@ use Rattle.rga_ops.specs.Content.{Content, nothing, known_ids, join, single, con
 use Rattle.rga_ops.specs.Answer.{taken_one_by_one}
 use Rattle.rga_ops.specs.ListAnswer.{Verdict, and_check, all_checked, has_another, first_conflict, union_answer, list_answer, AreWellFormed, IsJoinable, IsFirstIllFormed, IsFirstConflict}
 use Rattle.rga_ops.proofs.ContentLaws.{join_assoc, join_nothing}
-use Rattle.rga_ops.proofs.OperationLaws.{Contains-first, Contains-later, Contains-cases, Contains-nil, Contains-append, content_inserted, content_of-append}
+use Rattle.rga_ops.proofs.OperationLaws.{Contains-first, Contains-later, Contains-cases, Contains-nil, content_inserted}
 use Rattle.rga_ops.proofs.AnswerLaws.{passed, bad, IsOfOperation, ill_formed-iff, IsAnswered}
 use Rattle.rga_ops.proofs.TakenLaws.{AreTaken, taken_list_is, taken_list_agrees}
-use Rattle.rga_ops.proofs.KnownLaws.{len-le_union, known_join, taken_list_within, takeable_is_taken}
+use Rattle.rga_ops.proofs.KnownLaws.{taken_list_within, takeable_is_taken}
 use Rattle.rga_ops.proofs.AgreeLaws.{has_another-iff, no_other-iff, joinable_nothing, joinable-iff}
 use Rattle.rga_ops.specs.declared.op.Op.{Op}
 use Rattle.rga_ops.specs.declared.op.Op.TheVariants.{Insert}

@@ -4,7 +4,6 @@ use Rattle.std.specs.Ordering.{ordering_then, nat_cmp}
 use Rattle.std.specs.declared.cmp.Ordering.{Ordering}
 use Rattle.std.specs.declared.cmp.Ordering.TheVariants.{Less}
 use Rattle.std.specs.Coded.{Coded, code_by, coded×, coded_ℕ}
-use Rattle.rga_ops.specs.declared.id.TheConstants.Id.{MAX_COUNTER}
 
 -- a counter and a replica; what contracts see of an `Id`
 pub record Identifier : Type 0 where
@@ -40,4 +39,4 @@ is_root a = is_id a root
 -- a counter from 1 to the greatest and a replica from 1 to 65535
 abbrev pub is_in_range : ℕ → ℕ → Bool
 is_in_range counter replica =
-    (nat_le 1 counter && nat_le counter MAX_COUNTER) && (nat_le 1 replica && nat_le replica 65535)
+    (nat_le 1 counter && nat_le counter 9007199254740991) && (nat_le 1 replica && nat_le replica 65535)

@@ -8,7 +8,6 @@ use Rattle.rga_world.specs.declared.event.Event.{Event}
 use Rattle.rga_world.specs.declared.event.Event.TheVariants.{Edit, Revert, Save, Deliver, DeliverList, Restart}
 use Rattle.rga_world.specs.declared.refusal.WorldRefusal.{WorldRefusal}
 use Rattle.rga_world.specs.declared.refusal.WorldRefusal.TheVariants.{Store}
-use Rattle.rga_world.specs.declared.world.TheConstants.{MAX_SITES}
 
 -- The outcome is what the old value becomes, or why it stays, want of memory aside. Where memory is wanted it stays too.
 abbrev pub Happens : {A : Type 0} → Result (Unit {0}) WorldRefusal → A → A → Outcome A → Type 0
@@ -30,4 +29,4 @@ MayWantMemory w (Restart number) = number < length w.sites
 
 -- a world may have so many sites
 abbrev pub is_count : ℕ → Bool
-is_count n = nat_le 1 n && nat_le n MAX_SITES
+is_count n = nat_le 1 n && nat_le n 64
