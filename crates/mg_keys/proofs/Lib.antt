@@ -1,3 +1,4 @@
+pub mod ArgumentLaws
 pub mod BegunLaws
 pub mod HighLaws
 pub mod NameLaws

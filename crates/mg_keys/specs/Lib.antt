@@ -1,6 +1,7 @@
 pub mod Bytes
 pub mod Utf8
 pub mod Argument
+pub mod ArgumentKeys
 pub mod Commands
 pub mod KeyTable
 pub mod Names

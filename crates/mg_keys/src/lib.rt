@@ -4,8 +4,8 @@
 //! prompt, a search, a question while matches are replaced. A step is what a whole key sequence
 //! asks of the editor. The crate stands on mg_plain, whose commands most of them run. The layer
 //! above may rest on one definition over whole lists of bytes (`meaning`): `feed` answers by it
-//! whatever was fed before; no call takes memory, and none fails. The law says that what is read as
-//! a character is UTF-8.
+//! whatever was fed before; no call takes memory, and none fails. The laws say that what is read as
+//! a character is UTF-8, and which arguments keys give.
 #![tactic(auto)]
 
 mod argument;
