@@ -1,14 +1,14 @@
 -- No line of a log holds the first operations of two lines to which it is compacted, so these are no more than its own.
-use Rattle.std.proofs.Common.{◌≡◌, ℕ, zero, suc, ◌+◌, ◌-◌, ◌<◌, ◌≤◌, Bool, true, false, cond, ◌&&◌, ◌||◌, ◌==◌, nat_le, nat_lt, List, [], ◌∷◌, ◌++◌, map, length, Option, Some, None, Result, Ok, Err, refl, sym, ap, ◌∙◌, subst, arith, inl, inr, ◌⊎◌, T, le-leb, length-append, true≢false, lit≤}
+use Rattle.std.proofs.Common.{◌≡◌, ℕ, zero, suc, ◌+◌, ◌-◌, ◌<◌, ◌≤◌, Bool, true, false, cond, ◌&&◌, ◌||◌, ◌==◌, nat_le, nat_lt, List, [], ◌∷◌, ◌++◌, map, length, Some, None, Result, Ok, Err, refl, sym, ap, ◌∙◌, subst, arith, inl, inr, ◌⊎◌, T, le-leb, length-append, true≢false}
 use Rattle.std.specs.Prelude.{Contains, option_and_then}
 use Rattle.std.specs.List.{AllByRecursion}
 use Rattle.std.specs.Ordering.{is_lt}
 use Rattle.std.specs.FinMap as finite_map
 use Rattle.std.specs.FinSet as finite_set
-use Rattle.std.proofs.lemmas.Bool.{and_parts, eq-eqb, lt-ltb, or_left, or_right}
+use Rattle.std.proofs.lemmas.Bool.{eq-eqb, lt-ltb, or_left, or_right}
 use Rattle.std.proofs.lemmas.List.{length-map}
 use Rattle.std.proofs.lemmas.List.Elements.{Contains-append_left, Contains-append_right}
-use Rattle.rga_ops.specs.Identifier.{Identifier, identifier, id_cmp, is_id}
+use Rattle.rga_ops.specs.Identifier.{Identifier, id_cmp}
 use Rattle.rga_ops.specs.Content.{Element, element, Content, content_of, Holds, IsAgreed}
 use Rattle.rga_ops.specs.Operations.{insertion_of, rising}
 use Rattle.rga_ops.specs.declared.id.TheConstants.Id.{MAX_COUNTER}
@@ -18,10 +18,9 @@ use Rattle.rga_ops.proofs.IdentifierLaws.{is_id-itself}
 use Rattle.rga_ops.proofs.OperationLaws.{Contains-first, Contains-later, Contains-cases, Contains-nil, Contains-append, content_inserted, content_deleted, inserted-iff, deleted-iff}
 use Rattle.rga_ops.proofs.SortedLaws.{all_zip}
 use Rattle.rga_lines.specs.RunConstants.{MAX_RUN}
-use Rattle.rga_lines.specs.DeletionRun.{DeletionRun}
 use Rattle.rga_lines.specs.Line.TheVariants.{One, Run, Deletions, Head, Last}
 use Rattle.rga_lines.specs.LineFault.{LineFault}
-use Rattle.rga_lines.specs.Runs.{Stretch, next, run_operations, stretch_operations, deletions_from, run_deletions, IsRun, IsDeletionRun}
+use Rattle.rga_lines.specs.Runs.{next, run_operations, deletions_from, IsRun, IsDeletionRun}
 use Rattle.rga_lines.specs.Table.{AnyReading, any_line_at}
 use Rattle.rga_lines.specs.Log.{operations_in, operations_of, operations_at, then_operations, IsOperation}
 use Rattle.rga_lines.proofs.ReadingLemmas.{any_run, any_deletions}
@@ -32,7 +31,7 @@ use Rattle.rga_compaction.specs.Compacting.{character_below, next_character, goi
 use Rattle.rga_compaction.specs.FewLines.{said, Says, AreApart, AllApart, first_operations}
 use Rattle.rga_compaction.proofs.GoingOnLemmas.{goes_on, one_deleted}
 use Rattle.rga_compaction.proofs.CompactLaws.{IsAmong, begin_all, all_run_beginnings, all_deletion_beginnings}
-use Rattle.rga_compaction.proofs.TurnLaws.{Rise, AreAbove, larger_counter, entries_rise, rising_rise}
+use Rattle.rga_compaction.proofs.TurnLaws.{Rise, larger_counter, entries_rise, rising_rise}
 
 -- ---- an injection into lines
 

@@ -25,7 +25,7 @@ use Rattle.rga_devices.specs.Counting.{Calls, WritesAllBut}
 use Rattle.rga_lines.specs.Stream.{newline, bytes_of_lines}
 use Rattle.rga_exchange.proofs.BegunLemmas.{begun_next}
 use Rattle.rga_exchange.specs.RunLines.{stretch_line}
-use Rattle.rga_compaction.specs.Compacting.{is_among, is_in_some, beginnings, run_of, run_size, deletion_run_of, deletion_size, most_deletions, deletion_line, compact_lines}
+use Rattle.rga_compaction.specs.Compacting.{is_in_some, beginnings, run_of, run_size, deletion_run_of, deletion_size, most_deletions, deletion_line, compact_lines}
 use Rattle.rga_compaction.specs.Turns.{covers, ends_with, ends_behind, deleted_behind, lines_at, lines_from}
 
 -- a larger identifier of the same replica has a larger counter

@@ -1,11 +1,10 @@
 -- What saves, restarts and exchanges of the program are in a world.
 use Rattle.std.proofs.Common.{◌≡◌, ℕ, zero, suc, ◌+◌, ◌≤◌, List, [], ◌∷◌, ◌++◌, length, Some, slice_get, slice_set, refl, sym, ap, ◌∙◌, subst, inl, inr, arith}
 use Rattle.std.specs.Prelude.{◌↔◌, ◌⊎◌, Result, Ok, Err, Contains}
-use Rattle.std.specs.FinMap as finite_map
 use Rattle.std.specs.FinSet as finite_set
 use Rattle.std.proofs.Math.Seq.{take-length}
 use Rattle.std.proofs.lemmas.Option.{same_Some}
-use Rattle.rga_ops.specs.Content.{element, Content, Agree, Holds, IsAgreed, IsWithin, nothing, join, content_of, known_ids, known_count}
+use Rattle.rga_ops.specs.Content.{Content, Agree, Holds, IsAgreed, IsWithin, nothing, join, content_of, known_ids, known_count}
 use Rattle.rga_ops.specs.Answer.{taken, and_take, taken_one_by_one}
 use Rattle.rga_ops.specs.ListAnswer.{IsJoinable, list_answer}
 use Rattle.rga_ops.specs.Operations.{operations}
@@ -30,12 +29,11 @@ use Rattle.rga_world.specs.Together.{IsReached}
 use Rattle.rga_world.specs.Words.{with_site}
 use Rattle.rga_world.specs.declared.event.Event.TheVariants.{Save, Deliver, DeliverList, Restart}
 use Rattle.rga_world.specs.declared.refusal.WorldRefusal.TheVariants.{NoOperation}
-use Rattle.rga_world.proofs.Consistent.{IsConsistent}
 use Rattle.rga_world.proofs.ListPlaces.{set_here, set_old}
 use Rattle.rga_world.proofs.SiteSteps.{set_same}
 use Rattle.rga_world.proofs.WordLaws.{changed_to, gives, list_found, saved-iff, restarted-iff}
 use Rattle.rga_world.proofs.RunLaws.{reached_consistent, saved_joinable}
-use Rattle.rga_world.proofs.StoredLaws.{AreStorable, reached_storable, held_listed}
+use Rattle.rga_world.proofs.StoredLaws.{reached_storable, held_listed}
 
 -- ---- a save and a restart
 

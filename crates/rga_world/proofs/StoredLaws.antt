@@ -1,6 +1,6 @@
 -- What the sites of a reached world hold, stores may hold: well-formed operations that can be written, within the limit.
-use Rattle.std.proofs.Common.{◌≡◌, ℕ, zero, suc, ◌+◌, ◌<◌, ◌≤◌, ◌^◌, ◌&&◌, ◌||◌, Bool, true, false, nat_le, le-leb, leb-true, lit≤, List, [], ◌∷◌, ◌++◌, map, filter, take, drop, length, length-append, Some, None, slice_get, slice_set, replicate, refl, sym, ap, ◌∙◌, subst, inl, inr, arith, true≢false}
-use Rattle.std.specs.Prelude.{Option, Result, Ok, Err, Contains}
+use Rattle.std.proofs.Common.{◌≡◌, ℕ, zero, suc, ◌+◌, ◌<◌, ◌≤◌, ◌^◌, ◌&&◌, ◌||◌, true, nat_le, le-leb, leb-true, lit≤, List, [], ◌∷◌, ◌++◌, map, filter, take, drop, length, length-append, Some, slice_get, refl, sym, ap, ◌∙◌, subst, inl, inr, arith, true≢false}
+use Rattle.std.specs.Prelude.{Ok, Err, Contains}
 use Rattle.std.specs.Char.{IsScalar}
 use Rattle.std.specs.List.{list_any, AllByRecursion}
 use Rattle.std.specs.Option.{unwrap_or}

@@ -1,5 +1,5 @@
 -- What events lead to, in words.
-use Rattle.std.proofs.Common.{◌≡◌, ℕ, ◌<◌, ◌≤◌, ◌⊎◌, ◌&&◌, Bool, true, false, cond, nat_le, le-leb, List, take, drop, length, Some, None, Vec, slice_get, refl, sym, ap, ◌∙◌, subst, inl, inr}
+use Rattle.std.proofs.Common.{◌≡◌, ℕ, ◌<◌, ◌≤◌, ◌⊎◌, ◌&&◌, Bool, true, false, cond, nat_le, le-leb, List, take, drop, length, Some, None, Vec, slice_get, refl, sym, ap, ◌∙◌, inl, inr}
 use Rattle.std.specs.Prelude.{◌↔◌, Option, Result, Ok, Err}
 use Rattle.std.specs.declared.alloc.Global.{Global}
 use Rattle.std.proofs.lemmas.Bool.{lt-leb}
@@ -17,13 +17,13 @@ use Rattle.rga_doc.specs.LocalEdit.{splice_answer, splice_operations}
 use Rattle.rga_doc.specs.Revert.{revert_answer, revert_operations}
 use Rattle.rga_world.specs.Sites.{Site, World}
 use Rattle.rga_world.specs.Steps.{Outcome, outcome_then, found, of_store, replica_of, site_at, saved_operation, saved_list, with_content, with_operations, delivered, list_delivered, saved_site, restarted, changed, given, stepped}
-use Rattle.rga_world.specs.Words.{with_site, HasChanged, IsSavedSite, IsRestarted, IsEdited, IsReverted, IsGiven, IsDelivered, IsListGiven, IsListDelivered, LacksSite, LacksOperation, IsRefusedByStore}
+use Rattle.rga_world.specs.Words.{with_site, HasChanged, IsSavedSite, IsRestarted, IsEdited, IsReverted, IsDelivered, IsListGiven, IsListDelivered, LacksSite, LacksOperation, IsRefusedByStore}
 use Rattle.rga_world.specs.declared.event.Event.{Event}
 use Rattle.rga_world.specs.declared.event.Event.TheVariants.{Edit, Revert, Save, Deliver, DeliverList, Restart}
 use Rattle.rga_world.specs.declared.refusal.WorldRefusal.{WorldRefusal}
 use Rattle.rga_world.specs.declared.refusal.WorldRefusal.TheVariants.{NoSite, NoOperation, Store}
 use Rattle.rga_world.proofs.StepLaws.{same_Ok, then_ok, found_ok, store_ok, is_changed, takes_given, joined_ok, saved_list_ok}
-use Rattle.rga_world.proofs.RefusalLaws.{ok-err, then_err, found_none, of_err, same_Store, site-operation, site-store, operation-store, joined_err, saved_list_err, IsRefusal, nowhere, within, refusal, IsUngiven, from_nowhere, of_nothing, not_taken, ungiven}
+use Rattle.rga_world.proofs.RefusalLaws.{ok-err, then_err, found_none, of_err, same_Store, site-operation, site-store, operation-store, joined_err, saved_list_err, nowhere, within, refusal, from_nowhere, of_nothing, not_taken, ungiven}
 use Rattle.rga_world.proofs.RunLaws.{took_or}
 
 -- ---- outcomes

@@ -1,4 +1,4 @@
-use Rattle.std.proofs.Common.{◌≡◌, ◌∙◌, ℕ, [], length, sym, ap, subst}
+use Rattle.std.proofs.Common.{◌≡◌, ◌∙◌, [], length, sym, ap, subst}
 use Rattle.std.specs.Prelude.{IfOk, OnOk}
 use Rattle.rga_ops.specs.Content.{IsSound}
 use Rattle.rga_ops.specs.Operations.{operations}
