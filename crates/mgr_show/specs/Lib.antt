@@ -1,3 +1,4 @@
 pub mod Log
 pub mod Shown
 pub mod Compacted
+pub mod Sources

@@ -14,8 +14,10 @@ mod compact;
 mod fault;
 pub mod laws;
 mod show;
+mod sources;
 mod text;
 
 pub use compact::compact_log;
 pub use fault::ShowFault;
 pub use show::{show_ops, write_text};
+pub use sources::Sources;
