@@ -5,7 +5,7 @@ use rga_tree::TreeStore;
 use rga_world::{Event, World, WorldRefusal};
 use std::alloc::Global;
 use std::process::Abort;
-use test_fixtures::{are_ops_of, prints, spells};
+use test_fixtures::{are_ops_of, id, prints, spells};
 
 type Trees = World<TreeStore>;
 
@@ -18,6 +18,10 @@ enum Step {
     Restart(usize),
     /// A taker, a giver, and the place of the operation.
     Deliver(usize, usize, usize),
+    /// A taker, a giver, and the places of the operations.
+    DeliverList(usize, usize, (usize, usize)),
+    /// A site undoes an edit that inserted one element and deleted another one, of this character.
+    Revert(usize, (u64, u16), (u64, u16), char),
     /// The text of a site.
     Text(usize),
     /// The operations that a site has saved.
@@ -36,6 +40,25 @@ fn edit(
 ) -> Result<Event, Refusal> {
     let put = text.chars().collect::<Vec<char>>(alloc)?;
     Ok(Event::Edit { site, lo, hi, put })
+}
+
+/// The undo at a site of an edit that replaced one element, of this character, by another one.
+fn revert(
+    alloc: Global,
+    site: usize,
+    gone: (u64, u16),
+    back: (u64, u16),
+    ch: char,
+) -> Result<Event, Refusal> {
+    let mut inserted = Vec::new(alloc);
+    inserted.push(id(gone.0, gone.1)?)?;
+    let mut deleted = Vec::new(alloc);
+    deleted.push((id(back.0, back.1)?, ch))?;
+    Ok(Event::Revert {
+        site,
+        gone: inserted,
+        back: deleted,
+    })
 }
 
 fn shows<S: TextStore>(world: &World<S>, site: usize, text: &str) -> bool {
@@ -68,6 +91,13 @@ fn answers<S: TextStore>(
             giver,
             place,
         },
+        Step::DeliverList(taker, giver, (lo, hi)) => Event::DeliverList {
+            taker,
+            giver,
+            lo,
+            hi,
+        },
+        Step::Revert(site, gone, back, ch) => revert(alloc, site, gone, back, ch)?,
         Step::Text(site) => return Ok(shows(world, site, answer)),
         Step::Saved(site) => return Ok(has_saved(alloc, world, site, answer)),
     };
@@ -132,6 +162,27 @@ fn deliveries_in_any_order_and_repeated(rt: HostRuntime) {
         (Step::Text(1), "b"),
     ];
     walk(&rt, rt.alloc(), 3, ROWS);
+}
+
+#[test]
+fn an_undo_is_delivered_with_all_else(rt: HostRuntime) {
+    const ROWS: &[Row] = &[
+        (Step::Edit(0, (0, 0), "a"), "Ok(())"),
+        (Step::Edit(0, (0, 1), "b"), "Ok(())"),
+        (Step::Text(0), "b"),
+        (Step::Revert(0, (2, 1), (1, 1), 'a'), "Ok(())"),
+        (Step::Text(0), "a"),
+        (Step::Save(0), "Ok(())"),
+        (Step::Saved(0), "a1.1<0.0 b2.1<0.0 a3.1<1.1 -1.1 -2.1"),
+        (Step::DeliverList(1, 0, (3, 6)), "Err(NoOperation)"),
+        (Step::DeliverList(1, 0, (4, 2)), "Err(NoOperation)"),
+        (Step::Text(1), ""),
+        (Step::DeliverList(1, 0, (1, 4)), "Ok(())"),
+        (Step::Text(1), "b"),
+        (Step::DeliverList(1, 0, (0, 5)), "Ok(())"),
+        (Step::Text(1), "a"),
+    ];
+    walk(&rt, rt.alloc(), 2, ROWS);
 }
 
 /// Whether a world of so many sites with this limit is refused so, or made where no refusal is named.
