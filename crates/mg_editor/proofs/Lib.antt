@@ -1,2 +1,9 @@
 pub mod Steps
 pub mod FrameLaws
+pub mod SetLaws
+pub mod HoldingLaws
+pub mod CallLaws
+pub mod CourseLaws
+pub mod EachLaws
+pub mod RequestLaws
+pub mod MeetingLaws

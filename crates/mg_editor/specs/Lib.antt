@@ -7,3 +7,4 @@ pub mod Finding
 pub mod Meeting
 pub mod Carrying
 pub mod Frames
+pub mod Holding

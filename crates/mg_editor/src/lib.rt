@@ -10,7 +10,8 @@
 //! windows, the prompt, the message and the keys. A press that answers `Memory` changed nothing but
 //! that a key sequence begun is forgotten; where the search behind a replacement finds none, the
 //! replacement stays and query-replace ends. It may rest on `Carried` too: which calls a request
-//! makes of a port, and what that leaves; and on the theorems of `laws`. `frame` shows the editor's own windows.
+//! makes of a port, and what that leaves; on the theorems of `laws`; and on those of `held`, which
+//! tie presses and requests to the steps of mg_held. `frame` shows the editor's own windows.
 #![tactic(auto)]
 
 mod carrying;
@@ -18,6 +19,7 @@ mod editor;
 mod failing;
 mod fault;
 mod framing;
+pub mod held;
 pub mod laws;
 mod meeting;
 mod opening;

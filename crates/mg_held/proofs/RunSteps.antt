@@ -34,7 +34,7 @@ logged_name b = saved_name b
 
 -- ---- a save, by the calls that it told
 
-made_are : (before made due : List Call) → Adds (Some before) (Some (before ++ made)) due → made ≡ due
+pub made_are : (before made due : List Call) → Adds (Some before) (Some (before ++ made)) due → made ≡ due
 made_are before made due adds = append_cancel_left before made due (same_Some (before ++ made) (before ++ due) adds)
 
 pub after_save : (held : Content) (answer : Result Bool PortFault) (b d : OpenState) (s t : Held) → IsLogged held b (s b.buffer.name).log → SavesOnce answer b d s t → HoldsMore held d t
