@@ -63,10 +63,10 @@ save_goes answer before old new b d is h =
     }
 
 -- what a save leaves of a buffer
-record Keeps (b d : OpenState) : Type 0 where
-  name : d.buffer.name ≡ b.buffer.name
-  content : d.buffer.content ≡ b.buffer.content
-  limit : d.buffer.limit ≡ b.buffer.limit
+pub record Keeps (b d : OpenState) : Type 0 where
+  pub name : d.buffer.name ≡ b.buffer.name
+  pub content : d.buffer.content ≡ b.buffer.content
+  pub limit : d.buffer.limit ≡ b.buffer.limit
 
 logged_keeps : (b : OpenState) → Keeps b (logged b)
 logged_keeps b = by (has_unsaved b)
@@ -78,10 +78,10 @@ logged_keeps b = by (has_unsaved b)
 saved_keeps : (b : OpenState) → Keeps b (saved b)
 saved_keeps b = let k = logged_keeps b in record { name = k.name; content = k.content; limit = k.limit }
 
-save_content : (answer : Result Bool PortFault) (old new : Option (List Call)) (b d : OpenState) → SavesTo answer old new b d → d.buffer.content ≡ b.buffer.content
-save_content (Ok changed) old new b d h = ap (λ (x : OpenState). x.buffer.content) h.left ∙ (saved_keeps b).content
-save_content (Err fault) old new b d (AtLog, h) = ap (λ (x : OpenState). x.buffer.content) h.left
-save_content (Err fault) old new b d (AtText, h) = ap (λ (x : OpenState). x.buffer.content) h.left ∙ (logged_keeps b).content
+pub save_keeps : (answer : Result Bool PortFault) (old new : Option (List Call)) (b d : OpenState) → SavesTo answer old new b d → Keeps b d
+save_keeps (Ok changed) old new b d h = subst (Keeps b) (sym h.left) (saved_keeps b)
+save_keeps (Err fault) old new b d (AtLog, h) = subst (Keeps b) (sym h.left) (record { name = refl; content = refl; limit = refl })
+save_keeps (Err fault) old new b d (AtText, h) = subst (Keeps b) (sym h.left) (logged_keeps b)
 
 saved_once : (b : OpenState) (s t : Held) → MayLead (save_calls b) s t → SavesOnce (Ok (is_changed b)) b (saved b) s t
 saved_once b s t leads = record { before = []; made = save_calls b; saves = record { told = refl; calls = refl; left = refl }; leads = leads }
@@ -119,7 +119,7 @@ meets before made kept old new b d is writable spare m (ops, takes) =
       goes = λ s t leads.
           let last = leads_split (save_calls b ++ made) save.made s t leads in
           let split = leads_split (save_calls b) made s last.0 last.1 in
-          let content : IsWritableWhole m.met.buffer.content = subst IsWritableWhole (save_content kept m.mid new m.met d m.saves) writable in
+          let content : IsWritableWhole m.met.buffer.content = subst IsWritableWhole (save_keeps kept m.mid new m.met d m.saves).content writable in
           let alone : ChangesAlone (saved b) m.met split.0 last.0 = record {
             rest = m.rest;
             writable = content;

@@ -1,8 +1,6 @@
 -- What actions and presses leave of each buffer, as steps of what is held.
-use Rattle.std.proofs.Common.{◌≡◌, ◌⊎◌, inl, inr, ◌∙◌, ℕ, ◌<◌, Bool, true, false, List, [], ◌∷◌, ◌++◌, length, set, Option, Some, None, Ok, Err, MatchResult, refl, sym, ap, subst}
-use Rattle.std.specs.Prelude.{if◌then◌else◌}
+use Rattle.std.proofs.Common.{◌≡◌, ◌⊎◌, inl, inr, ℕ, ◌<◌, List, [], ◌∷◌, ◌++◌, length, set, Option, Some, None, Ok, Err, refl, sym, ap, subst}
 use Rattle.std.specs.List.{Contains}
-use Rattle.std.specs.Option.{option_map_or}
 use Rattle.std.proofs.lemmas.List.{length-set}
 use Rattle.std.proofs.lemmas.List.Elements.{Contains-get_or}
 use Rattle.rga_ops.specs.Content.{Content, IsWithin, content_of}
@@ -12,17 +10,15 @@ use Rattle.mg_plain.specs.Matches.{found_match}
 use Rattle.mg_plain.specs.declared.command.Command.{Command}
 use Rattle.mg_plain.specs.declared.steps.Direction.TheVariants.{Forward}
 use Rattle.mg_plain.specs.declared.command.Command.TheVariants.{ReplaceOne, SearchForward}
-use Rattle.mg_buffer.specs.Faults.{FaultVerdict, run_answer, undo_answer}
-use Rattle.mg_buffer.specs.OpenState.{OpenState, is_changed}
+use Rattle.mg_buffer.specs.Faults.{run_answer, undo_answer}
+use Rattle.mg_buffer.specs.OpenState.{OpenState}
 use Rattle.mg_buffer.specs.Ran.{Ran, operations_of_splices}
-use Rattle.mg_buffer.specs.Sight.{Notes, command_call}
+use Rattle.mg_buffer.specs.Sight.{command_call}
 use Rattle.mg_buffer.specs.State.{State}
 use Rattle.mg_buffer.specs.Undid.{Undid}
 use Rattle.mg_held.specs.Held.{Held}
 use Rattle.mg_held.specs.Kept.{IsWritableWhole}
 use Rattle.mg_held.specs.Run.{BufferStep, Runs, Undoes, Rests, ChangesAlone, MayStep, MayGo}
-use Rattle.mg_keys.specs.declared.step.Step.{Step}
-use Rattle.mg_keys.specs.declared.step.Step.TheVariants as step
 use Rattle.mg_minibuffer.specs.declared.ending.Action.{Action}
 use Rattle.mg_minibuffer.specs.declared.ending.Action.TheVariants.{Nothing, EndRun, Run, Undo, Arrange, Switch, Kill}
 use Rattle.mg_minibuffer.specs.declared.ending.Ending.{Ending}
@@ -35,15 +31,16 @@ use Rattle.mg_minibuffer.specs.declared.prompt.Prompt.TheVariants.{Replacing}
 use Rattle.mg_minibuffer.specs.Endings.{ending_of}
 use Rattle.mg_minibuffer.specs.ReplacementStep.{asks_at_next_match, sum}
 use Rattle.mg_minibuffer.specs.Scenes.{Scene}
-use Rattle.mg_workspace.specs.Actions.{ActionOutcome, ActionVerdict, ActsInCurrent, Done, current_state, with_state_and_notes, gone_to, refusal_outcome, removal_outcome, removed}
-use Rattle.mg_workspace.specs.Buffers.{buffer_at, idled, no_buffer}
+use Rattle.mg_workspace.specs.Actions.{ActionOutcome, ActionVerdict, Done, current_state}
+use Rattle.mg_workspace.specs.Buffers.{idled, no_buffer}
 use Rattle.mg_workspace.specs.Names.{asked, next_round}
 use Rattle.mg_workspace.specs.Workspaces.{Workspace, scene_of, workspace_buffer}
 use Rattle.mg_workspace.specs.declared.fault.ActionFault.TheVariants.{Refused}
-use Rattle.mg_workspace.specs.declared.fault.Cause.TheVariants as cause
 use Rattle.mg_editor.specs.Editors.{Editor}
 use Rattle.mg_editor.specs.Holding.{AreOpen, GoesOn}
-use Rattle.mg_editor.specs.Presses.{PressAnswer, Ended, FollowsReaction, Pressed, StepTaken, ending_without_memory, ran_out}
+use Rattle.mg_editor.specs.Presses.{PressAnswer, Ended, FollowsReaction, Pressed, ending_without_memory}
+use Rattle.mg_editor.proofs.ActionCases.{acted, switches, kills}
+use Rattle.mg_editor.proofs.PressCases.{behind_a_press}
 use Rattle.mg_editor.proofs.SetLaws.{set_cases, set_has, still_there, was_there}
 
 module _ (s : Held) where
@@ -103,12 +100,6 @@ module _ (s : Held) where
       one_step w v Rests (record (workspace_buffer w).buffer { undone = None }) there e writable
       (λ alone. (alone, record { name = refl; content = refl; unsaved = refl; limit = refl }))
 
-  acted : (Becomes : State → Notes → Type 0) (w v : Workspace) (r : ActionVerdict) (verdict : FaultVerdict) → ActsInCurrent verdict Becomes w (v, r)
-      → (v ≡ w) ⊎ ((verdict ≡ Ok tt) × (b : State) × (notes : Notes) × Becomes b notes × (v ≡ with_state_and_notes b notes w))
-  acted Becomes w v r verdict (inl lacks) = inl (ap (λ (o : ActionOutcome). o.0) lacks)
-  acted Becomes w v r (Ok u) (inr t) = inr (refl, t.0, t.1, t.2, ap (λ (o : ActionOutcome). o.0) t.3)
-  acted Becomes w v r (Err e) (inr is) = inl (ap (λ (o : ActionOutcome). o.0) is)
-
   runs : (command : Command) (n : ℕ) (w v : Workspace) (r : ActionVerdict) → w.buffers.current < length w.buffers.all → AllWritable v → Done (Run command n) w (v, r) → AllCome w v
   runs command n w v r there writable did =
       let call = command_call command n w.fill in
@@ -125,20 +116,6 @@ module _ (s : Held) where
             (λ alone. (alone, record { revertible = old.revertible (workspace_buffer w) (Contains-get_or w.buffers.all w.buffers.current no_buffer old.current); allowed = t.0; undid = t.3 }))
       ]
 
-  switches : (w v : Workspace) (r : ActionVerdict) (to : Option ℕ) → (v, r) ≡ option_map_or (λ i. (gone_to i w, Ok tt)) to (refusal_outcome cause.NoSuchBuffer w) → v.buffers.all ≡ w.buffers.all
-  switches w v r None e = ap (λ (o : ActionOutcome). o.0.buffers.all) e
-  switches w v r (Some i) e = ap (λ (o : ActionOutcome). o.0.buffers.all) e
-
-  kills : (w v : Workspace) (r : ActionVerdict) (gone : Option ℕ) → (v, r) ≡ option_map_or (λ i. removal_outcome i w) gone (refusal_outcome cause.NoSuchBuffer w) → AllCome w v
-  kills w v r None e = same_work w v (ap (λ (o : ActionOutcome). o.0) e)
-  kills w v r (Some i) e = by (is_changed (buffer_at i w.buffers)) _ e
-    where
-      by : (changed only : Bool) → (v, r) ≡ (if changed then refusal_outcome cause.BufferIsChanged w else (if only then refusal_outcome cause.OnlyOneBuffer w else (removed i w, Ok tt))) → AllCome w v
-      by true only is = same_work w v (ap (λ (o : ActionOutcome). o.0) is)
-      by false true is = same_work w v (ap (λ (o : ActionOutcome). o.0) is)
-      by false false is = λ d c.
-          stays w.buffers.all d (was_there w.buffers.all i d (subst (λ (l : List OpenState). Contains l d) (ap (λ (o : ActionOutcome). o.0.buffers.all) is) c))
-
   acts : (action : Action) (w v : Workspace) (r : ActionVerdict) → AreOpen w.buffers → AllWritable v → Done action w (v, r) → AllCome w v
   acts Nothing w v r old writable e = same_work w v (ap (λ (o : ActionOutcome). o.0) e)
   acts EndRun w v r old writable e = idles w v old.current (ap (λ (o : ActionOutcome). o.0.buffers.all) e) writable
@@ -147,7 +124,10 @@ module _ (s : Held) where
   acts (Arrange a) w v r old writable (inl e) = same_work w v (ap (λ (o : ActionOutcome). o.0) e)
   acts (Arrange a) w v r old writable (inr e) = idles w v old.current (ap (λ (o : ActionOutcome). o.0.buffers.all) e) writable
   acts (Switch name) w v r old writable e = same_all w v (switches w v r (asked name (next_round (length w.buffers.all) w.buffers.current) w.buffers.all) e)
-  acts (Kill name) w v r old writable e = kills w v r (asked name w.buffers.current w.buffers.all) e
+  acts (Kill name) w v r old writable e = elim (kills w v r (asked name w.buffers.current w.buffers.all) e) [
+    | inl same ↦ same_all w v same
+    | inr o ↦ λ d c. stays w.buffers.all d (was_there w.buffers.all o.0 d (subst (λ (l : List OpenState). Contains l d) o.1 c))
+  ]
 
   -- ---- the match at point was replaced, and the next one looked for
 
@@ -228,28 +208,9 @@ module _ (s : Held) where
   follows (Replaces pattern put count) old new request are writable (inr t) = runs (ReplaceOne pattern put) 1 old.work new.work (Err (Refused t.0)) are.current writable t.1
   follows Accepts old new request are writable it = same_work old.work new.work (ap (λ (e : Editor). e.work) it.0)
 
-  answered : (reaction : Reaction) (before old new : Editor) (r : PressAnswer) → before.work ≡ old.work → AreOpen old.work.buffers → AllWritable new.work
-      → MatchResult r (FollowsReaction reaction old new) (λ _. new ≡ ran_out before) → AllCome old.work new.work
-  answered reaction before old new (Ok request) same are writable it = follows reaction old new request are writable it
-  answered reaction before old new (Err fault) same are writable it = same_work old.work new.work (ap (λ (e : Editor). e.work) it ∙ same)
-
-  took : (step : Step) (before old new : Editor) (r : PressAnswer) → before.work ≡ old.work → AreOpen old.work.buffers → AllWritable new.work → StepTaken step before old new r → AllCome old.work new.work
-  took step.Pending before old new r same are writable it = same_work old.work new.work (ap (λ (e : Editor). e.work) it.0)
-  took (step.Run c n) before old new r same are writable it = answered _ before old new r same are writable it
-  took (step.Ask q) before old new r same are writable it = answered _ before old new r same are writable it
-  took (step.Edge w) before old new r same are writable it = answered _ before old new r same are writable it
-  took (step.Text c) before old new r same are writable it = answered _ before old new r same are writable it
-  took step.Rub before old new r same are writable it = answered _ before old new r same are writable it
-  took step.Accept before old new r same are writable it = answered _ before old new r same are writable it
-  took step.Cancel before old new r same are writable it = answered _ before old new r same are writable it
-  took step.Next before old new r same are writable it = answered _ before old new r same are writable it
-  took step.Prev before old new r same are writable it = answered _ before old new r same are writable it
-  took (step.Answer a) before old new r same are writable it = answered _ before old new r same are writable it
-  took step.Leave before old new r same are writable it = answered _ before old new r same are writable it
-  took step.Unbound before old new r same are writable it = answered _ before old new r same are writable it
-
   pub pressed_on : (byte : ℕ) (old new : Editor) (r : PressAnswer) → AreOpen old.work.buffers → AreOpen new.work.buffers → Pressed byte old new r
       → (d : OpenState) → Contains new.work.buffers.all d → GoesOn old.work.buffers s d s
   pressed_on byte old new r are now p d c =
-      let come = took p.step old (record old { talk = p.read }) new r refl are now.writable p.taken d c in
+      let come = behind_a_press (AllCome old.work) byte old new r (same_work old.work old.work refl)
+      (λ reaction request read it. follows reaction (record old { talk = read }) new request are now.writable it) p d c in
       record { b = come.b; was = come.was; steps = come.steps; goes = here_goes come.steps come.b d come.goes }

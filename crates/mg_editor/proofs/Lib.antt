@@ -1,9 +1,13 @@
 pub mod Steps
 pub mod FrameLaws
 pub mod SetLaws
+pub mod PressCases
+pub mod ActionCases
 pub mod HoldingLaws
 pub mod CallLaws
 pub mod CourseLaws
 pub mod EachLaws
 pub mod RequestLaws
 pub mod MeetingLaws
+pub mod LoggedLaws
+pub mod NamesLaws

@@ -8,7 +8,7 @@ use Rattle.mg_buffer.specs.OpenState.{OpenState, with_brief, with_runs}
 use Rattle.mg_files.specs.Files.{Files}
 use Rattle.mg_files.specs.Loading.{load_outcome}
 use Rattle.mg_held.specs.Held.{Held, AnswersLoad}
-use Rattle.mg_held.specs.Kept.{IsWritableWhole}
+use Rattle.mg_held.specs.Kept.{IsWritableWhole, IsLoggedBy}
 use Rattle.mg_held.specs.Run.{BufferStep, MayGo}
 use Rattle.mg_workspace.specs.Buffers.{Buffers, buffer_at}
 use Rattle.mg_workspace.specs.Workspaces.{Workspace}
@@ -42,3 +42,7 @@ pub record IsOpenedBy (name : List ℕ) (before : Workspace) (s : Held) (d : Ope
   pub outcome : load_outcome name before.replica before.limit found ≡ Ok (loaded, end)
   pub is : d ≡ with_brief before.brief (with_runs before.runs loaded)
   pub held : t name ≡ s name
+
+-- each is kept beside the log that is held under its name
+abbrev pub AreLogged : Buffers → Held → Type 0
+AreLogged bs s = (b : OpenState) → Contains bs.all b → IsLoggedBy b (s b.buffer.name).log

@@ -134,6 +134,10 @@ opened_by name replica limit found b end h = by (opening_answer replica limit) (
     by (Ok u) (Err e) p q g = absurd (let clash : failed e ≡ done b end = g in cc)
     by (Err e) l p q g = absurd (let clash : failed e ≡ done b end = g in cc)
 
+-- under that name
+pub opened_name : (name : List ℕ) (replica limit : ℕ) (found : Files) (b : OpenState) (end : LogEnd) → load_outcome name replica limit found ≡ Ok (b, end) → b.buffer.name ≡ name
+opened_name name replica limit found b end h = ap (λ (x : OpenState). x.buffer.name) (opened_by name replica limit found b end h).is
+
 abbrev Answer : Type 0
 Answer = Result Loaded LoadFault
 
