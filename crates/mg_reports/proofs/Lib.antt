@@ -1,1 +1,2 @@
 pub mod ReportLaws
+pub mod WrittenLaws
