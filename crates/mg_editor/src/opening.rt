@@ -38,8 +38,13 @@ fn load<S: TextStore>(
     ensures { let v = values.now in
         result ≢ Err Memory → result ≡ load_outcome v.name v.replica v.limit found }
 {
-    let name = String::from_str(alloc, values.name.as_str())?;
-    mg_files::load(alloc, name, values.replica, values.limit, found)
+    mg_files::load(
+        alloc,
+        values.name.as_str(),
+        values.replica,
+        values.limit,
+        found,
+    )
 }
 
 /// Opens a buffer by what was found under its name, as `mg_files::load` does, with the replica and
@@ -55,7 +60,7 @@ pub(crate) fn open<S: TextStore>(
         finding.open_outcome (load_outcome (string_bytes name) w.replica w.limit found) w }
     ensures same { OnErr result (work.new ≡ work.old) }
 {
-    let (opened, end) = mg_files::load(alloc, name, work.replica(), work.limit(), found)?;
+    let (opened, end) = mg_files::load(alloc, name.as_str(), work.replica(), work.limit(), found)?;
     work.open(opened)?;
     Ok(end)
 }

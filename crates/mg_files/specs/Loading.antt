@@ -1,5 +1,5 @@
 -- What is loaded from the files under a name, and why nothing is.
-use Rattle.std.specs.Prelude.{ℕ, ◌==◌, nat_lt, Bool, true, false, List, [], length, Option, Some, None, Result, Ok, Err, chars, if◌then◌else◌}
+use Rattle.std.specs.Prelude.{◌≡◌, ℕ, ◌==◌, nat_lt, Bool, true, false, List, [], length, Option, Some, None, Result, Ok, Err, IfSome, chars, if◌then◌else◌}
 use Rattle.std.specs.Result.{result_and}
 use Rattle.std.specs.Str.{is_utf8}
 use Rattle.rga_ops.specs.Content.{Content, nothing, content_of}
@@ -96,3 +96,9 @@ opening_answer replica limit =
 abbrev pub load_outcome : List ℕ → ℕ → ℕ → Files → Result (OpenState × LogEnd) LoadFault
 load_outcome name replica limit found =
     result_and (opening_answer replica limit) (opened_and_end name replica limit (files_loaded replica limit found))
+
+-- Where a load may answer Memory, nothing is refused that is found without memory: the replica and the limit are allowed, and
+-- where no log is there the text is UTF-8.
+abbrev pub MayWantMemory : ℕ → ℕ → Files → Type 0
+MayWantMemory replica limit found =
+    (opening_answer replica limit ≡ Ok tt) × (found.log ≡ None → IfSome found.text (λ bytes. is_utf8 bytes ≡ true))

@@ -1,9 +1,9 @@
 //! How a buffer is loaded.
-ghost use Rattle.std.specs.Prelude.{◌≡◌, ◌≢◌, [], true, false, None, Ok, Err, MatchResult, IfOk, IfSome, ◌⊎◌, chars, string_bytes};
+ghost use Rattle.std.specs.Prelude.{◌≡◌, ◌≢◌, [], true, false, None, Ok, Err, MatchResult, IfOk, IfSome, ◌⊎◌, chars};
 ghost use Rattle.rga_ops.specs.Prelude.{nothing};
 ghost use Rattle.rga_doc.specs.Document.{document};
 ghost use Rattle.mg_files.specs.Files.{Files, text_bytes};
-ghost use Rattle.mg_files.specs.Loading.{load_outcome, opened_and_end, opening_answer, ends_open, log_loaded, text_loaded, loaded};
+ghost use Rattle.mg_files.specs.Loading.{load_outcome, opened_and_end, opening_answer, MayWantMemory, ends_open, log_loaded, text_loaded, loaded};
 ghost use Rattle.std.specs.Str.{is_utf8};
 ghost use Rattle.rga_exchange.specs.declared.log.LogEnd.TheVariants.{Whole};
 ghost use Rattle.mg_files.specs.declared.fault.LoadFault.TheVariants.{Memory, NotText};
@@ -29,22 +29,19 @@ use std::alloc::Global;
 /// Faults, in this order: `Store` with `BadId` for replica 0 and with `Range` unless the limit is 1
 /// to `MAX_LIMIT`; `Log` with the first fault of the log; `NotText`; `Store` with `Full` where the
 /// text has more characters than the limit; `Memory`. Only a log and the characters of a text ask
-/// for memory before a fault.
+/// for memory before a fault; the name is copied after all of them.
 pub fn load<S: TextStore>(
     alloc: Global,
-    name: String,
+    name: &str,
     replica: u16,
     limit: usize,
     found: Found,
 ) -> Result<(VisitedBuffer<S>, LogEnd), LoadFault>
-    ensures exact { result ≢ Err Memory →
-        result ≡ load_outcome (string_bytes name) replica limit found }
+    ensures exact { result ≢ Err Memory → result ≡ load_outcome name.now replica limit found }
     // What is loaded of a text shows that text.
     ensures shown { IfOk result (λ o. found.log ≡ None → IfSome found.text
         (λ bytes. text_bytes o.0.buffer.content ≡ bytes)) }
-    ensures memory { result ≡ Err Memory →
-        (opening_answer replica limit ≡ Ok tt) × (found.log ≡ None → IfSome found.text
-        (λ bytes. is_utf8 bytes ≡ true)) }
+    ensures memory { result ≡ Err Memory → MayWantMemory replica limit found }
 {
     check_opening(replica, limit)?;
     let Found { log, text } = found;
@@ -90,18 +87,19 @@ fn is_open(end: LogEnd) -> bool
 /// The buffer of a log.
 fn load_log<S: TextStore>(
     alloc: Global,
-    name: String,
+    name: &str,
     replica: u16,
     limit: usize,
     bytes: &[u8],
 ) -> Result<(VisitedBuffer<S>, LogEnd), LoadFault>
     requires { opening_answer replica limit ≡ Ok tt }
     ensures { result ≢ Err Memory →
-        result ≡ opened_and_end (string_bytes name) replica limit (log_loaded limit bytes.now) }
+        result ≡ opened_and_end name.now replica limit (log_loaded limit bytes.now) }
 {
     let mut doc = empty_doc(alloc, replica, limit)?;
     let mut reader = Counted::new(bytes);
     let end = read_log(alloc, &mut doc, &mut reader)?;
+    let name = String::from_str(alloc, name)?;
     let buffer = Buffer::new(alloc, doc, name, Vec::new(alloc));
     Ok((VisitedBuffer::new(buffer, is_open(end)), end))
 }
@@ -109,20 +107,21 @@ fn load_log<S: TextStore>(
 /// The buffer of a text. What is no text is found before memory is asked for.
 fn load_text<S: TextStore>(
     alloc: Global,
-    name: String,
+    name: &str,
     replica: u16,
     limit: usize,
     bytes: &[u8],
 ) -> Result<(VisitedBuffer<S>, LogEnd), LoadFault>
     requires { opening_answer replica limit ≡ Ok tt }
     ensures exact { result ≢ Err Memory → result
-        ≡ opened_and_end (string_bytes name) replica limit (text_loaded replica limit bytes.now) }
+        ≡ opened_and_end name.now replica limit (text_loaded replica limit bytes.now) }
     ensures shown { IfOk result (λ o. text_bytes o.0.buffer.content ≡ bytes.now) }
     ensures memory { result ≡ Err Memory → is_utf8 bytes.now ≡ true }
 {
     let put = characters_of(alloc, bytes)?;
     let mut doc = empty_doc(alloc, replica, limit)?;
     let ops = doc.splice(0, 0, &put)?;
+    let name = String::from_str(alloc, name)?;
     let buffer = Buffer::new(alloc, doc, name, ops);
     Ok((VisitedBuffer::new(buffer, false), LogEnd::Whole))
 }
@@ -143,15 +142,16 @@ fn characters_of(alloc: Global, bytes: &[u8]) -> Result<Vec<char>, LoadFault>
 /// The buffer of neither.
 fn load_nothing<S: TextStore>(
     alloc: Global,
-    name: String,
+    name: &str,
     replica: u16,
     limit: usize,
 ) -> Result<(VisitedBuffer<S>, LogEnd), LoadFault>
     requires { opening_answer replica limit ≡ Ok tt }
     ensures { result ≢ Err Memory → result
-        ≡ opened_and_end (string_bytes name) replica limit (Ok (loaded nothing [] Whole)) }
+        ≡ opened_and_end name.now replica limit (Ok (loaded nothing [] Whole)) }
 {
     let doc = empty_doc(alloc, replica, limit)?;
+    let name = String::from_str(alloc, name)?;
     let buffer = Buffer::new(alloc, doc, name, Vec::new(alloc));
     Ok((VisitedBuffer::new(buffer, false), LogEnd::Whole))
 }

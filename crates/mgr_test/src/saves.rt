@@ -12,8 +12,7 @@ fn empty<S: TextStore>(alloc: Global) -> Option<VisitedBuffer<S>> {
         log: None,
         text: None,
     };
-    let name = String::from_str(alloc, "notes").ok()?;
-    let (opened, _) = load(alloc, name, 1, 100, found).ok()?;
+    let (opened, _) = load(alloc, "notes", 1, 100, found).ok()?;
     Some(opened)
 }
 

@@ -8,4 +8,4 @@ pub returns : goal.returns
 returns g c =
     let made : c.in_ok-doc.doc ≡ document nothing c.args.limit c.args.replica false = c.in_ok-doc.ensures in
     let is = log_is_loaded c.args.limit c.args.replica c.args.bytes c.in_ok-end.end c.new-reader.result c.read_log.new.reader c.in_ok-doc.doc c.read_log.new.taker made c.new-reader.ensures c.in_ok-end.ensures.taken c.in_ok-end.ensures.limit in
-    λ fine. rw (is.outcome, c.new-2.ensures, c.is_open.ensures, c.new-buffer.ensures, is.document, c.new.ensures.items) refl
+    λ fine. rw (is.outcome, c.new-2.ensures, c.is_open.ensures, c.new-buffer.ensures, is.document, c.new.ensures.items, c.in_ok-name.ensures.ok) refl

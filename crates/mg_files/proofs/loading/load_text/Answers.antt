@@ -44,4 +44,4 @@ returns-clause-exact g c =
     ∙ (λ k. document (nothing_join (content_of all) k) c.args.limit c.args.replica c.splice.new.self.listed) in
     let loaded = text_is_loaded c.args.replica c.args.limit c.args.bytes.now c.deref.result.now c.in_ok-doc.doc (limit_of c.args.replica c.args.limit c.requires) c.in_ok-put.ensures.1 made put in
     let taken = loaded ∙ ap (of_verdict c.args.replica (chars c.args.bytes.now)) c.in_ok-ops.ensures.exact in
-    λ fine. rw (taken, c.new.ensures, c.new-buffer.ensures, left, ops) refl
+    λ fine. rw (taken, c.new.ensures, c.new-buffer.ensures, left, ops, c.in_ok-name.ensures.ok) refl
