@@ -4,7 +4,7 @@ use Rattle.rga_exchange.specs.declared.log.LogEnd.{LogEnd}
 use Rattle.mg_buffer.specs.OpenState.{OpenState}
 use Rattle.mg_files.specs.Calls.{Call, load_told, Adds}
 use Rattle.mg_files.specs.Files.{Files}
-use Rattle.mg_files.specs.Loading.{load_outcome}
+use Rattle.mg_files.specs.Loading.{load_outcome, MayWantMemory}
 use Rattle.mg_files.specs.declared.fault.LoadFault.{LoadFault}
 use Rattle.mg_files.specs.declared.fault.LoadFault.TheVariants.{Memory}
 use Rattle.mg_files.specs.declared.port.PortFault.{PortFault}
@@ -37,11 +37,13 @@ abbrev pub of_load : Result LogEnd LoadFault → Opening
 of_load (Ok end) = Ok end
 of_load (Err fault) = Err (Load fault)
 
--- Memory was wanting, before the files of that name were asked for or behind it; or else the port gave this answer: files,
--- which were loaded with the replica and the limit of the workspace, or a fault.
+-- Memory was wanting, before the files of that name were asked for, or after it: then they are refused for nothing that is found
+-- without memory. Or else the port gave this answer: files, which were loaded with the replica and the limit of the workspace,
+-- or a fault.
 abbrev pub Loads : List ℕ → Option (List Call) → Option (List Call) → Opening → Workspace → Workspace → Type 0
 Loads name calls more r w v =
-    ((v ≡ w) × (r ≡ Err (Load Memory)) × (Adds calls more [] ⊎ ((found : Files) × Adds calls more (load_told (Ok found) name))))
+    ((v ≡ w) × (r ≡ Err (Load Memory)) × (Adds calls more []
+    ⊎ ((found : Files) × Adds calls more (load_told (Ok found) name) × MayWantMemory w.replica w.limit found)))
     ⊎ ((given : Result Files PortFault) × Adds calls more (load_told given name) × MatchResult given
     (λ found. let o = open_outcome (load_outcome name w.replica w.limit found) w in (v ≡ o.0) × (r ≡ of_load o.1))
     (λ fault. (v ≡ w) × (r ≡ Err (Port fault))))

@@ -126,6 +126,6 @@ impl<S: Teller> Editor<S> {
     {
         let text = string_of(self.alloc, name)?;
         let found = port.load(text.as_str())?;
-        Ok(open(self.alloc, &mut self.work, text, found)?)
+        Ok(open(self.alloc, &mut self.work, text.as_str(), found)?)
     }
 }

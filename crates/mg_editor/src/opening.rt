@@ -1,18 +1,17 @@
 //! An editor that opens.
-ghost use Rattle.std.specs.Prelude.{◌≡◌, ◌≢◌, ◌<◌, Err, IfOk, IfErr, OnErr, length, string_bytes};
+ghost use Rattle.std.specs.Prelude.{◌≡◌, ◌≢◌, ◌<◌, Err, IfOk, IfErr, OnErr, length};
 ghost use Rattle.rga_ops.specs.Prelude.{text};
-ghost use Rattle.mg_files.specs.Loading.{load_outcome};
+ghost use Rattle.mg_files.specs.Loading.{load_outcome, MayWantMemory};
 ghost use Rattle.mg_files.specs.declared.fault.LoadFault.TheVariants.{Memory};
 ghost use Rattle.mg_workspace.specs.Buffers.{most_buffers};
 ghost use Rattle.mg_editor.specs.Finding as finding;
 ghost use Rattle.mg_editor.specs.Opening as spec;
 
 use crate::editor::Editor;
-use mg_buffer::VisitedBuffer;
 use mg_dialogue::Dialogue;
 use mg_files::{Found, LoadFault};
 use mg_minibuffer::Message;
-use mg_settings::{Settings, Values};
+use mg_settings::Settings;
 use mg_workspace::Workspace;
 use rga_exchange::LogEnd;
 use rga_ops::Refusal;
@@ -29,38 +28,22 @@ pub(crate) fn message_of_end(end: LogEnd) -> Message
     }
 }
 
-/// The buffer that the values name, by what was found under its name.
-fn load<S: TextStore>(
-    alloc: Global,
-    values: &Values,
-    found: Found,
-) -> Result<(VisitedBuffer<S>, LogEnd), LoadFault>
-    ensures { let v = values.now in
-        result ≢ Err Memory → result ≡ load_outcome v.name v.replica v.limit found }
-{
-    mg_files::load(
-        alloc,
-        values.name.as_str(),
-        values.replica,
-        values.limit,
-        found,
-    )
-}
-
 /// Opens a buffer by what was found under its name, as `mg_files::load` does, with the replica and
 /// the limit of the workspace. Answers how its log ends. A fault changes nothing.
 pub(crate) fn open<S: TextStore>(
     alloc: Global,
     work: &mut Workspace<S>,
-    name: String,
+    name: &str,
     found: Found,
 ) -> Result<LogEnd, LoadFault>
     requires { length work.old.buffers.all < most_buffers }
     ensures exact { let w = work.old in result ≢ Err Memory → (work.new, result) ≡
-        finding.open_outcome (load_outcome (string_bytes name) w.replica w.limit found) w }
+        finding.open_outcome (load_outcome name.now w.replica w.limit found) w }
+    ensures memory { let w = work.old in
+        result ≡ Err Memory → MayWantMemory w.replica w.limit found }
     ensures same { OnErr result (work.new ≡ work.old) }
 {
-    let (opened, end) = mg_files::load(alloc, name.as_str(), work.replica(), work.limit(), found)?;
+    let (opened, end) = mg_files::load(alloc, name, work.replica(), work.limit(), found)?;
     work.open(opened)?;
     Ok(end)
 }
@@ -72,9 +55,18 @@ impl<S: TextStore> Editor<S> {
     ///
     /// Faults: those of `mg_files::load`.
     pub fn new(alloc: Global, settings: &Settings, found: Found) -> Result<Editor<S>, LoadFault>
-        ensures { result ≢ Err Memory → result ≡ spec.opened_editor settings.now found }
+        ensures exact { result ≢ Err Memory → result ≡ spec.opened_editor settings.now found }
+        ensures memory { let v = settings.now in
+            result ≡ Err Memory → MayWantMemory v.replica v.limit found }
     {
-        let (opened, end) = load(alloc, settings.values(), found)?;
+        let values = settings.values();
+        let (opened, end) = mg_files::load(
+            alloc,
+            values.name.as_str(),
+            values.replica,
+            values.limit,
+            found,
+        )?;
         Ok(Editor {
             alloc,
             work: Workspace::new(alloc, settings, opened)?,
