@@ -58,7 +58,7 @@ opens : (name : List ℕ) (before made : List Call) (s t : Held) (r : Opening) (
     → (d : OpenState) → Contains v.buffers.all d → Open name old d s t
 opens name before made s t r old v (inl (is, answer, inl adds)) leads d c =
     inl (stay_here old.work.buffers v.buffers.all s t (ap (λ (w : Workspace). w.buffers.all) is) (nothing_made before made s t (adds ∙ ap Some (append-nil before)) leads) d c)
-opens name before made s t r old v (inl (is, answer, inr (found, adds))) leads d c =
+opens name before made s t r old v (inl (is, answer, inr (found, adds, may))) leads d c =
     inl (stay_here old.work.buffers v.buffers.all s t (ap (λ (w : Workspace). w.buffers.all) is) (load_leaves name (Ok found) before made s t adds leads) d c)
 opens name before made s t r old v (inr (Err fault, adds, (is, answer))) leads d c =
     inl (stay_here old.work.buffers v.buffers.all s t (ap (λ (w : Workspace). w.buffers.all) is) (load_leaves name (Err fault) before made s t adds leads) d c)
