@@ -15,6 +15,12 @@ _mgr_notes() {
     compopt -o filenames
 }
 
+# Folders and files whose names begin so: each may be a log.
+_mgr_files() {
+    mapfile -t COMPREPLY < <(compgen -f -- "$1")
+    compopt -o filenames
+}
+
 # An option that begins so, of those that follow, or a note.
 _mgr_word() {
     local word=$1 before="${COMP_WORDS[*]:1:COMP_CWORD-1}"
@@ -32,6 +38,10 @@ _mgr() {
     if [[ $before == @(--replica|--rows|--cols|--fill|--port|--with|=|:) || $word == [=:] ]]; then
         return
     fi
+    # `who --lines` takes no value.
+    if [[ $before == --lines && ${COMP_WORDS[1]} == show ]]; then
+        return
+    fi
     case ${1##*/} in
         mgr-live)
             _mgr_word "$word" --replica --fill --port --with --take-file --keep-file --no-autosave --version --help
@@ -41,11 +51,19 @@ _mgr() {
             ;;
         *)
             if ((COMP_CWORD == 1)); then
-                mapfile -t COMPREPLY < <(compgen -W "compact edit show help --version --help" -- "$word")
+                mapfile -t COMPREPLY < <(compgen -W "compact edit join log show who help --version --help" -- "$word")
             elif [[ ${COMP_WORDS[1]} == edit ]]; then
                 _mgr_word "$word" --replica --rows --cols --fill --port --trace --newest --cursor --resizable --runs --brief --strict --help
             elif [[ ${COMP_WORDS[1]} == compact ]]; then
                 _mgr_word "$word" --dels --help
+            elif [[ ${COMP_WORDS[1]} == show ]]; then
+                _mgr_word "$word" --lines --help
+            elif [[ ${COMP_WORDS[1]} == log ]]; then
+                _mgr_word "$word" --json --help
+            elif [[ ${COMP_WORDS[1]} == who ]]; then
+                _mgr_word "$word" --lines --help
+            elif [[ ${COMP_WORDS[1]} == join ]]; then
+                _mgr_files "$word"
             fi
             ;;
     esac

@@ -1,5 +1,5 @@
 -- What the shell is told of a fault.
-use Rattle.std.specs.Prelude.{ℕ, List, ◌++◌, Result, Ok, Err, codes}
+use Rattle.std.specs.Prelude.{ℕ, List, ◌++◌, Option, None, Some, Result, Ok, Err, codes, slice_get}
 use Rattle.std.specs.Fmt.{decimal}
 use Rattle.rga_lines.specs.FaultName.{fault_name}
 use Rattle.rga_lines.specs.LineFault.{LineFault}
@@ -15,6 +15,8 @@ use Rattle.mg_workspace.specs.declared.failures.Failure.{Failure}
 use Rattle.mg_workspace.specs.declared.failures.Failure.TheVariants as failure
 use Rattle.mg_session.specs.declared.fault.SessionFault.{SessionFault}
 use Rattle.mg_session.specs.declared.fault.SessionFault.TheVariants as session
+use Rattle.mgr_show.specs.declared.fault.JoinFault.{JoinFault}
+use Rattle.mgr_show.specs.declared.fault.JoinFault.TheVariants as join
 use Rattle.mgr_show.specs.declared.fault.ShowFault.{ShowFault}
 use Rattle.mgr_show.specs.declared.fault.ShowFault.TheVariants as show
 use Rattle.mgr.specs.declared.report.Message.{Message}
@@ -66,10 +68,19 @@ session_status session.Screen = 3
 session_status session.Memory = 4
 session_status (session.Failed why) = failure_status why
 
+abbrev pub join_status : JoinFault → ℕ
+join_status (join.Log index fault) = show_status fault
+join_status join.Write = 3
+join_status join.Memory = 4
+
 -- those of answers: 0 where there is no fault
 abbrev pub shown_status : Result (Unit {0}) ShowFault → ℕ
 shown_status (Ok done) = 0
 shown_status (Err fault) = show_status fault
+
+abbrev pub joined_status : Result (Unit {0}) JoinFault → ℕ
+joined_status (Ok done) = 0
+joined_status (Err fault) = join_status fault
 
 abbrev pub edited_status : Result (Unit {0}) SessionFault → ℕ
 edited_status (Ok done) = 0
@@ -113,6 +124,17 @@ show_message (show.Torn number) = line_report number (codes "Torn")
 show_message show.Read = codes "device fault"
 show_message show.Write = codes "device fault"
 show_message show.Memory = codes "out of memory"
+
+-- with the name of a log in front, if there is one
+abbrev pub named_text : Option (List ℕ) → List ℕ → List ℕ
+named_text None text = text
+named_text (Some name) text = name ++ (codes ": " ++ text)
+
+-- of one of the logs with these names
+abbrev pub join_message : List (List ℕ) → JoinFault → List ℕ
+join_message names (join.Log index fault) = named_text (slice_get names index) (show_message fault)
+join_message names join.Write = codes "device fault"
+join_message names join.Memory = codes "out of memory"
 
 abbrev pub failure_message : Failure → List ℕ
 failure_message failure.Device = codes "device fault"

@@ -1,26 +1,34 @@
 -- The exit status of the program.
-use Rattle.std.specs.Prelude.{◌≡◌, ◌≢◌, ◌⊎◌, ℕ, true, List, [], ◌∷◌, Option, Some, Result, Err, IfSome, codes, OnOk, OnErr, IfErr, string_bytes}
+use Rattle.std.specs.Prelude.{◌≡◌, ◌≢◌, ◌⊎◌, ℕ, true, List, [], ◌∷◌, Option, Some, Result, Err, IfSome, codes, length, map, OnOk, OnErr, IfErr, string_bytes}
 use Rattle.rga_ops.specs.Content.{Content, nothing as no_content}
 use Rattle.rga_store.specs.declared.text_store.TheConstants.{MAX_LIMIT}
-use Rattle.rga_devices.specs.Counting.{Calls, CountsAs, StaysFlushed, OnBytes, WritesNothing, one_more}
+use Rattle.rga_devices.specs.Counting.{Calls, CountsAs, StaysFlushed, OnBytes, Writes, WritesFront, WritesNothing, one_more}
 use Rattle.rga_exchange.specs.Taking.{content_intake, HasTakenWholeLines}
 use Rattle.rga_exchange.specs.declared.taking.Form.TheVariants.{Log}
 use Rattle.mgr_args.specs.declared.job.JobFault.{JobFault}
 use Rattle.mgr_args.specs.declared.job.JobFault.TheVariants.{Help, Version, Usage, Memory}
 use Rattle.mgr_show.specs.Log.{log_of}
-use Rattle.mgr.specs.Report.{edited_status, shown_status}
-use Rattle.mgr.specs.Telling.{KnownTelling, TellsMore, line, text, shown_telling, edited_telling}
+use Rattle.mgr.specs.Report.{edited_status, joined_status, shown_status}
+use Rattle.mgr.specs.Telling.{KnownTelling, TellsMore, line, text, edited_telling, joined_telling, shown_telling}
 use Rattle.mg_session.specs.declared.fault.SessionFault.{SessionFault}
 use Rattle.mg_session.specs.declared.fault.SessionFault.TheVariants as session
 use Rattle.mg_files.specs.Calls.{Call}
 use Rattle.mg_session.specs.Running.{devices, IsSession}
 use Rattle.mg_settings.specs.Settings.{Values}
-use Rattle.mgr_args.specs.declared.given.Compaction.{Compaction}
+use Rattle.mgr_args.specs.declared.given.Note.{Note}
+use Rattle.mgr_args.specs.declared.given.Shown.TheVariants.{Input, Front}
 use Rattle.mgr_args.specs.declared.job.Job.{Job}
-use Rattle.mgr_args.specs.declared.job.Job.TheVariants.{Show, Edit, Compact}
+use Rattle.mgr_args.specs.declared.job.Job.TheVariants.{Show, Edit, Compact, Join, Log, Who}
 use Rattle.mgr_port.specs.Logs.{Standing, SameElsewhere, left}
 use Rattle.mgr_compact.specs.Ends.{EndsWell, EndsEarly, StaysSame, failures_after_compaction}
-use Rattle.mgr_show.specs.Shown.{IsOfInput, ShowsLog, BeginsToShow}
+use Rattle.mgr_show.specs.Shown.{IsOfInput, ShowsLog, BeginsToShow, log_content, shown_bytes}
+use Rattle.mgr_look.specs.Authors.{authors_bytes}
+use Rattle.mgr_look.specs.Notes.{BeginsToWriteAbout, WritesAbout, read_of}
+use Rattle.mgr_look.specs.Told.{BeginsToWriteNumbers, WritesNumbers}
+use Rattle.mgr_show.specs.Joined.{BeginsToJoin, IsOfLog, Joins, NamesOneOf, OnLogs, join_of, reads_failed}
+use Rattle.mgr_show.specs.Note.{IsReadable, front_of, log_name, note_of}
+use Rattle.mgr_show.specs.declared.fault.JoinFault.{JoinFault}
+use Rattle.mgr_show.specs.declared.fault.JoinFault.TheVariants as join
 use Rattle.mgr_show.specs.declared.fault.ShowFault.{ShowFault}
 use Rattle.mgr_show.specs.declared.fault.ShowFault.TheVariants as fault
 
@@ -37,11 +45,25 @@ pub record PortSide (P : Type 0) : Type 0 where
   pub port : P
   pub told : KnownTelling
 
--- all of these
+-- the files that are read by their names, standard output, and what was told on standard error
+pub record Sourcing (S W : Type 0) : Type 0 where
+  pub sources : S
+  pub output : Calls W
+  pub told : KnownTelling
+
+-- standard input and output and the port
 pub record Surroundings (R W P : Type 0) : Type 0 where
   pub input : Calls R
   pub output : Calls W
   pub port : P
+  pub told : KnownTelling
+
+-- all of these
+pub record Outside (R W P S : Type 0) : Type 0 where
+  pub input : Calls R
+  pub output : Calls W
+  pub port : P
+  pub sources : S
   pub told : KnownTelling
 
 abbrev pub streams : {R W : Type 0} → Calls R → Calls W → KnownTelling → Streams R W
@@ -50,8 +72,14 @@ streams input output told = record { input = input; output = output; told = told
 abbrev pub port_side : {P : Type 0} → P → KnownTelling → PortSide P
 port_side port told = record { port = port; told = told }
 
+abbrev pub sourcing : {S W : Type 0} → S → Calls W → KnownTelling → Sourcing S W
+sourcing sources output told = record { sources = sources; output = output; told = told }
+
 abbrev pub surroundings : {R W P : Type 0} → Calls R → Calls W → P → KnownTelling → Surroundings R W P
 surroundings input output port told = record { input = input; output = output; port = port; told = told }
+
+abbrev pub outside : {R W P S : Type 0} → Calls R → Calls W → P → S → KnownTelling → Outside R W P S
+outside input output port sources told = record { input = input; output = output; port = port; sources = sources; told = told }
 
 -- the bytes that are known of the input and the output, and what the port tells
 pub record Knowledge (R W P : Type 0) : Type 0 where
@@ -84,16 +112,75 @@ pub record IsStatusOfShow {R W : Type 0} (remaining : R → Option (List ℕ)) (
   pub writes : CountsAs fault.Write answer before.output after.output
 
 -- That of an answer to `compact`, which says what became of the log of its name, where that is told, and what is told.
-pub record IsStatusOfCompact {P : Type 0} (standing : P → List ℕ → Option Standing) (failures : P → ℕ) (c : Compaction) (status : ℕ) (before after : PortSide P) : Type 0 where
+pub record IsStatusOfCompact {P : Type 0} (standing : P → List ℕ → Option Standing) (failures : P → ℕ) (c : Note) (status : ℕ) (before after : PortSide P) : Type 0 where
   pub answer : Result (Unit {0}) ShowFault
   pub exact : status ≡ shown_status answer
   pub told_line : TellsMore before.told after.told (shown_telling answer)
-  pub keeps : OnOk answer (IfSome (standing before.port (string_bytes c.name)) (λ s. EndsWell c.dels s (standing after.port (string_bytes c.name))))
+  pub keeps : OnOk answer (IfSome (standing before.port (string_bytes c.name)) (λ s. EndsWell c.flag s (standing after.port (string_bytes c.name))))
   pub refused : IfErr answer (λ e. IsOfInput e → IfSome (standing before.port (string_bytes c.name)) (λ s. (log_of MAX_LIMIT s.log ≡ Err e) × (standing after.port (string_bytes c.name) ≡ Some (left s))))
-  pub begun : OnErr answer (IfSome (standing before.port (string_bytes c.name)) (λ s. EndsEarly c.dels s (standing after.port (string_bytes c.name))))
+  pub begun : OnErr answer (IfSome (standing before.port (string_bytes c.name)) (λ s. EndsEarly c.flag s (standing after.port (string_bytes c.name))))
   pub untouched : IfErr answer (λ e. e ≢ fault.Write → e ≢ fault.Memory → IfSome (standing before.port (string_bytes c.name)) (λ s. StaysSame s (standing after.port (string_bytes c.name))))
   pub others : SameElsewhere (string_bytes c.name) (standing before.port) (standing after.port)
   pub device : failures after.port ≡ failures_after_compaction answer (failures before.port)
+
+module _ {S W : Type 0} (contents : W → Option (List ℕ)) (failures : S → ℕ) where
+  -- That of an answer to a job that reads one log and writes what it makes of it, which says what was written, where what
+  -- stands in the log is told, why nothing was, and what is told.
+  pub record IsStatusOfLog (log : Option (List ℕ)) (Written Begun : List ℕ → Type 0) (Refused : List ℕ → ShowFault → Type 0) (status : ℕ) (before after : Sourcing S W) : Type 0 where
+    pub answer : Result (Unit {0}) ShowFault
+    pub exact : status ≡ shown_status answer
+    pub told_line : TellsMore before.told after.told (shown_telling answer)
+    pub written : OnOk answer (IfSome log Written)
+    pub refused : IfErr answer (λ e. IsOfInput e → IfSome log (λ bytes. Refused bytes e))
+    pub unwritten : IfErr answer (λ e. e ≢ fault.Write → after.output ≡ before.output)
+    pub begun : OnErr answer (IfSome log (λ bytes. WritesNothing contents before.output after.output ⊎ Begun bytes))
+    pub flushed : OnOk answer (after.output.flushed ≡ true)
+    pub reads : OnOk answer (failures after.sources ≡ failures before.sources)
+    pub writes : CountsAs fault.Write answer before.output after.output
+
+module _ {S W : Type 0} (files : S → List ℕ → Option (List ℕ)) (contents : W → Option (List ℕ)) (failures : S → ℕ) where
+  -- of `show` with a name: the text of the log, or of its first lines
+  abbrev pub IsStatusOfFront : List ℕ → Option ℕ → ℕ → Sourcing S W → Sourcing S W → Type 0
+  IsStatusOfFront name lines status before after =
+      IsStatusOfLog contents failures (files before.sources (log_name name))
+      (λ bytes. IsReadable (front_of lines bytes) × Writes contents before.output after.output (shown_bytes (log_content (front_of lines bytes))))
+      (λ bytes. IsReadable (front_of lines bytes) × WritesFront contents before.output after.output (shown_bytes (log_content (front_of lines bytes))))
+      (λ bytes e. note_of MAX_LIMIT (front_of lines bytes) ≡ Err e) status before after
+
+  -- of `who`: the text of the log by those who wrote it
+  abbrev pub IsStatusOfWho : Note → ℕ → Sourcing S W → Sourcing S W → Type 0
+  IsStatusOfWho n status before after =
+      IsStatusOfLog contents failures (files before.sources (log_name (string_bytes n.name)))
+      (λ bytes. WritesAbout contents before.output after.output bytes (authors_bytes n.flag (log_content bytes)))
+      (λ bytes. BeginsToWriteAbout contents before.output after.output bytes (authors_bytes n.flag (log_content bytes)))
+      (λ bytes e. read_of bytes ≡ Err e) status before after
+
+  -- That of an answer to `log`, which says what was written of what stands in the log and in the text.
+  pub record IsStatusOfNumbers (n : Note) (status : ℕ) (before after : Sourcing S W) : Type 0 where
+    pub answer : Result (Unit {0}) ShowFault
+    pub exact : status ≡ shown_status answer
+    pub told_line : TellsMore before.told after.told (shown_telling answer)
+    pub written : OnOk answer (WritesNumbers contents before.output after.output n.flag (string_bytes n.name) (files before.sources (log_name (string_bytes n.name))) (files before.sources (string_bytes n.name)))
+    pub refused : IfErr answer (λ e. IsOfInput e → IfSome (files before.sources (log_name (string_bytes n.name))) (λ bytes. read_of bytes ≡ Err e))
+    pub unwritten : IfErr answer (λ e. e ≢ fault.Write → after.output ≡ before.output)
+    pub begun : OnErr answer (WritesNothing contents before.output after.output
+        ⊎ BeginsToWriteNumbers contents before.output after.output n.flag (string_bytes n.name) (files before.sources (log_name (string_bytes n.name))) (files before.sources (string_bytes n.name)))
+    pub flushed : OnOk answer (after.output.flushed ≡ true)
+    pub writes : CountsAs fault.Write answer before.output after.output
+
+  -- That of an answer to `join`, which says what was written of the logs, which of them is refused, and what is told.
+  pub record IsStatusOfJoin (names : List (List ℕ)) (status : ℕ) (before after : Sourcing S W) : Type 0 where
+    pub answer : Result (Unit {0}) JoinFault
+    pub exact : status ≡ joined_status answer
+    pub told_line : TellsMore before.told after.told (joined_telling names answer)
+    pub joined : OnOk answer (OnLogs (files before.sources) names (λ logs. Joins contents before.output after.output logs))
+    pub refused : IfErr answer (λ e. IsOfLog e → OnLogs (files before.sources) names (λ logs. join_of MAX_LIMIT logs ≡ Err e))
+    pub named : IfErr answer (λ e. NamesOneOf (length names) e)
+    pub unwritten : IfErr answer (λ e. e ≢ join.Write → e ≢ join.Memory → after.output ≡ before.output)
+    pub begun : OnErr answer (OnLogs (files before.sources) names (λ logs. WritesNothing contents before.output after.output ⊎ BeginsToJoin contents before.output after.output logs))
+    pub flushed : OnOk answer (after.output.flushed ≡ true)
+    pub reads : failures after.sources ≡ reads_failed answer (failures before.sources)
+    pub writes : CountsAs join.Write answer before.output after.output
 
 module _ {R W P : Type 0} (k : Knowledge R W P) where
   -- That of an answer of a session, which says what became of the keys, which device failed and what is told.
@@ -107,13 +194,32 @@ module _ {R W P : Type 0} (k : Knowledge R W P) where
     pub screen : CountsAs session.Screen answer before.output after.output
     pub file : answer ≡ Err session.File → k.failures after.port ≡ one_more (k.failures before.port)
 
-  -- of a job; `show` has nothing to do with the port, and `compact` nothing with standard input and output
-  abbrev pub IsStatusOfJob : Job → ℕ → Surroundings R W P → Surroundings R W P → Type 0
-  IsStatusOfJob Show status before after =
+module _ {R W P S : Type 0} (k : Knowledge R W P) (files : S → List ℕ → Option (List ℕ)) (failures : S → ℕ) where
+  -- standard input and the port are as they were
+  abbrev pub OnlyReads : Outside R W P S → Outside R W P S → Type 0
+  OnlyReads before after = (after.input ≡ before.input) × (after.port ≡ before.port)
+
+  -- the files, standard output and what was told
+  abbrev pub read_side : Outside R W P S → Sourcing S W
+  read_side o = sourcing o.sources o.output o.told
+
+  -- of a job: each has to do with some of them alone
+  abbrev pub IsStatusOfJob : Job → ℕ → Outside R W P S → Outside R W P S → Type 0
+  IsStatusOfJob (Show Input) status before after =
       IsStatusOfShow k.remaining k.contents status (streams before.input before.output before.told) (streams after.input after.output after.told) × (after.port ≡ before.port)
-  IsStatusOfJob (Edit settings) status before after = IsStatusOfEdit settings status before after
+      × (after.sources ≡ before.sources)
+  IsStatusOfJob (Show (Front name lines)) status before after =
+      IsStatusOfFront files k.contents failures (string_bytes name) lines status (read_side before) (read_side after) × OnlyReads before after
+  IsStatusOfJob (Edit settings) status before after =
+      IsStatusOfEdit k settings status (surroundings before.input before.output before.port before.told) (surroundings after.input after.output after.port after.told)
+      × (after.sources ≡ before.sources)
   IsStatusOfJob (Compact c) status before after =
-      IsStatusOfCompact k.standing k.log_failures c status (port_side before.port before.told) (port_side after.port after.told) × (after.input ≡ before.input) × (after.output ≡ before.output)
+      IsStatusOfCompact k.standing k.log_failures c status (port_side before.port before.told) (port_side after.port after.told) × (after.input ≡ before.input)
+      × (after.output ≡ before.output) × (after.sources ≡ before.sources)
+  IsStatusOfJob (Join names) status before after =
+      IsStatusOfJoin files k.contents failures (map string_bytes names.items) status (read_side before) (read_side after) × OnlyReads before after
+  IsStatusOfJob (Log n) status before after = IsStatusOfNumbers files k.contents failures n status (read_side before) (read_side after) × OnlyReads before after
+  IsStatusOfJob (Who n) status before after = IsStatusOfWho files k.contents failures n status (read_side before) (read_side after) × OnlyReads before after
 
 module _ {W : Type 0} where
   -- A text that was asked for was printed, or not: 3 exactly where standard output failed, and else 0, or 4 where

@@ -11,6 +11,7 @@
 
 mod report;
 mod shell;
+mod sources;
 mod streams;
 mod tell;
 

@@ -1,20 +1,22 @@
 //! The job of the command line, done, and what the shell is told of it.
-ghost use Rattle.std.specs.Prelude.{◌≡◌, ◌≤◌, [], ◌∷◌, IfErr, MatchResult};
-ghost use Rattle.mgr.specs.Report.{report_text};
+ghost use Rattle.std.specs.Prelude.{◌≡◌, ◌≤◌, [], ◌∷◌, IfErr, MatchResult, map, option_map, string_bytes};
+ghost use Rattle.mgr.specs.Report.{join_message, join_status, named_text, report_text};
 ghost use Rattle.mgr.specs.Telling.{TellsMore, line};
 ghost use Rattle.mgr.specs.Status as status;
 ghost use Rattle.mgr.specs.Peers as spec;
 
 use crate::report::Report;
+use crate::sources::PathFiles;
 use crate::streams::hold_closed;
 use crate::tell::{StandardError, Tell};
 use mg_files::Port;
 use mg_session::run_keys;
 use mg_settings::Settings;
-use mgr_args::{Compaction, Job, JobFault, job_of, job_status, words};
+use mgr_args::{Job, JobFault, Note, Shown, job_of, job_status, words};
 use mgr_compact::compact_note;
+use mgr_look::{write_authors, write_numbers};
 use mgr_port::{FilePort, Logs};
-use mgr_show::{show_ops, write_text};
+use mgr_show::{JoinFault, Sources, join_logs, show_note, show_ops, write_text};
 use rga_devices::Counted;
 use rga_flat::FlatStore;
 use std::alloc::Global;
@@ -36,6 +38,7 @@ pub fn run<R: Env + Files<File = File> + Net + AllocGlobal + Input + Print + Epr
     let mut reader = Counted::new(rt.reader());
     let mut writer = Counted::new(io::writer(rt));
     let mut port = FilePort::new(rt, port_number(&job));
+    let mut sources = PathFiles::new(rt, reads_streams(&job));
     let mut errors = StandardError::new(rt);
     do_job(
         rt.alloc(),
@@ -43,6 +46,7 @@ pub fn run<R: Env + Files<File = File> + Net + AllocGlobal + Input + Print + Epr
         &mut reader,
         &mut writer,
         &mut port,
+        &mut sources,
         &mut errors,
     )
 }
@@ -57,33 +61,50 @@ fn port_number(job: &Result<Job, JobFault>) -> Option<u16>
     }
 }
 
+/// Whether the files that a job reads by their names may be pipes and devices.
+fn reads_streams(job: &Result<Job, JobFault>) -> bool {
+    match job {
+        Ok(Job::Join(_)) => true,
+        _ => false,
+    }
+}
+
 /// Does a job, or tells why there is none, and answers the exit status: 0 done, 1 the input is
 /// refused, 2 a wrong command line, 3 a device failed, 4 memory was refused. What is told is the one
 /// line of the fault, or the text of a wrong command line, and nothing where the status is 0.
 /// `compact` leaves the log as it was where the status is not 0, but at a device that fails once the
 /// new one has its name.
-pub fn do_job<R: Read, W: Write, P: Port + Logs, T: Tell>(
+pub fn do_job<R: Read, W: Write, P: Port + Logs, S: Sources, T: Tell>(
     alloc: Global,
     job: &Result<Job, JobFault>,
     reader: &mut Counted<R>,
     writer: &mut Counted<W>,
     port: &mut P,
+    sources: &mut S,
     errors: &mut T,
 ) -> u8
     ensures status { MatchResult job.now
         (λ job. status.IsStatusOfJob
         (status.known R.remaining W.contents P.calls P.Port.failures P.standing P.Logs.failures)
-        job result (status.surroundings reader.old writer.old port.old (T.told errors.old))
-        (status.surroundings reader.new writer.new port.new (T.told errors.new)))
+        S.contents S.failures job result
+        (status.outside reader.old writer.old port.old sources.old (T.told errors.old))
+        (status.outside reader.new writer.new port.new sources.new (T.told errors.new)))
         (λ fault. status.IsStatusOf fault result writer.old writer.new
         (T.told errors.old) (T.told errors.new)) }
-    ensures idle { IfErr job.now (λ _. (reader.new ≡ reader.old) × (port.new ≡ port.old)) }
+    ensures idle { IfErr job.now (λ _. (reader.new ≡ reader.old) × (port.new ≡ port.old)
+        × (sources.new ≡ sources.old)) }
     ensures bound { result ≤ 4 }
 {
     match job {
-        Ok(Job::Show) => show(alloc, reader, writer, errors),
+        Ok(Job::Show(Shown::Input)) => show(alloc, reader, writer, errors),
+        Ok(Job::Show(Shown::Front(name, lines))) => {
+            show_front(alloc, name, *lines, sources, writer, errors)
+        }
         Ok(Job::Edit(settings)) => edit(alloc, settings, reader, writer, port, errors),
-        Ok(Job::Compact(log)) => compact(alloc, log, port, errors),
+        Ok(Job::Compact(note)) => compact(alloc, note, port, errors),
+        Ok(Job::Join(names)) => join(alloc, names, sources, writer, errors),
+        Ok(Job::Log(note)) => numbers(alloc, note, sources, writer, errors),
+        Ok(Job::Who(note)) => who(alloc, note, sources, writer, errors),
         Err(fault) => refuse(alloc, fault, writer, errors),
     }
 }
@@ -100,6 +121,26 @@ fn show<R: Read, W: Write, T: Tell>(
     ensures bound { result ≤ 4 }
 {
     match show_ops(alloc, reader, writer) {
+        Ok(()) => 0,
+        Err(fault) => told(errors, Report::of_show(&fault)),
+    }
+}
+
+/// The text of a note, or of the first lines of its log.
+fn show_front<S: Sources, W: Write, T: Tell>(
+    alloc: Global,
+    name: &str,
+    lines: Option<u64>,
+    sources: &mut S,
+    writer: &mut Counted<W>,
+    errors: &mut T,
+) -> u8
+    ensures status { status.IsStatusOfFront S.contents W.contents S.failures name.now lines result
+        (status.sourcing sources.old writer.old (T.told errors.old))
+        (status.sourcing sources.new writer.new (T.told errors.new)) }
+    ensures bound { result ≤ 4 }
+{
+    match show_note(alloc, sources, name, lines, writer) {
         Ok(()) => 0,
         Err(fault) => told(errors, Report::of_show(&fault)),
     }
@@ -126,12 +167,96 @@ fn edit<R: Read, W: Write, P: Port + Logs, T: Tell>(
     }
 }
 
-fn compact<P: Logs, T: Tell>(alloc: Global, log: &Compaction, port: &mut P, errors: &mut T) -> u8
-    ensures status { status.IsStatusOfCompact P.standing P.failures log.now result
+fn compact<P: Logs, T: Tell>(alloc: Global, note: &Note, port: &mut P, errors: &mut T) -> u8
+    ensures status { status.IsStatusOfCompact P.standing P.failures note.now result
         (status.port_side port.old (T.told errors.old)) (status.port_side port.new (T.told errors.new)) }
     ensures bound { result ≤ 4 }
 {
-    match compact_note(alloc, port, log.name.as_str(), log.dels) {
+    match compact_note(alloc, port, note.name.as_str(), note.flag) {
+        Ok(()) => 0,
+        Err(fault) => told(errors, Report::of_show(&fault)),
+    }
+}
+
+fn join<S: Sources, W: Write, T: Tell>(
+    alloc: Global,
+    names: &Vec<String>,
+    sources: &mut S,
+    writer: &mut Counted<W>,
+    errors: &mut T,
+) -> u8
+    ensures status { status.IsStatusOfJoin S.contents W.contents S.failures
+        (map string_bytes names.now.items) result
+        (status.sourcing sources.old writer.old (T.told errors.old))
+        (status.sourcing sources.new writer.new (T.told errors.new)) }
+    ensures bound { result ≤ 4 }
+{
+    match join_logs(alloc, sources, names, writer) {
+        Ok(()) => 0,
+        Err(fault) => told_of_logs(errors, names, fault),
+    }
+}
+
+/// Tells of the fault of a join, and answers its exit status.
+fn told_of_logs<T: Tell>(errors: &mut T, names: &[String], fault: JoinFault) -> u8
+    ensures status { result ≡ join_status fault }
+    ensures told { TellsMore (T.told errors.old) (T.told errors.new)
+        (line (join_message (map string_bytes names.now) fault) ∷ []) }
+{
+    match fault {
+        JoinFault::Log(index, fault) => {
+            told_of_log(errors, names.get(index), Report::of_show(&fault))
+        }
+        JoinFault::Write => told(errors, Report::device()),
+        JoinFault::Memory => told(errors, Report::memory()),
+    }
+}
+
+/// Tells of the fault of a log, with its name in front, and answers its exit status.
+fn told_of_log<T: Tell>(errors: &mut T, name: Option<&String>, report: Report) -> u8
+    ensures status { result ≡ report.status }
+    ensures told { TellsMore (T.told errors.old) (T.told errors.new)
+        (line (named_text (option_map (λ n. string_bytes n.now) name.entry)
+        (report_text report.message)) ∷ []) }
+{
+    match name {
+        Some(name) => errors.tell_of(name.as_str(), report),
+        None => errors.tell(report),
+    }
+    report.status
+}
+
+fn numbers<S: Sources, W: Write, T: Tell>(
+    alloc: Global,
+    note: &Note,
+    sources: &mut S,
+    writer: &mut Counted<W>,
+    errors: &mut T,
+) -> u8
+    ensures status { status.IsStatusOfNumbers S.contents W.contents S.failures note.now result
+        (status.sourcing sources.old writer.old (T.told errors.old))
+        (status.sourcing sources.new writer.new (T.told errors.new)) }
+    ensures bound { result ≤ 4 }
+{
+    match write_numbers(alloc, sources, note.name.as_str(), note.flag, writer) {
+        Ok(()) => 0,
+        Err(fault) => told(errors, Report::of_show(&fault)),
+    }
+}
+
+fn who<S: Sources, W: Write, T: Tell>(
+    alloc: Global,
+    note: &Note,
+    sources: &mut S,
+    writer: &mut Counted<W>,
+    errors: &mut T,
+) -> u8
+    ensures status { status.IsStatusOfWho S.contents W.contents S.failures note.now result
+        (status.sourcing sources.old writer.old (T.told errors.old))
+        (status.sourcing sources.new writer.new (T.told errors.new)) }
+    ensures bound { result ≤ 4 }
+{
+    match write_authors(alloc, sources, note.name.as_str(), note.flag, writer) {
         Ok(()) => 0,
         Err(fault) => told(errors, Report::of_show(&fault)),
     }

@@ -1,5 +1,5 @@
 //! What is told beside what is written.
-ghost use Rattle.std.specs.Prelude.{[], ◌∷◌};
+ghost use Rattle.std.specs.Prelude.{[], ◌∷◌, ◌++◌, codes};
 ghost use Rattle.mgr.specs.Report.{report_text};
 ghost use Rattle.mgr.specs.Telling.{KnownTelling, TellsMore, line, text};
 
@@ -17,6 +17,11 @@ pub trait Tell {
     fn tell(&mut self, report: Report)
         ensures { TellsMore (told self.old) (told self.new)
             (line (report_text report.message) ∷ []) };
+
+    /// Tells the line of a report of the log with this name, which stands in front.
+    fn tell_of(&mut self, log: &str, report: Report)
+        ensures { TellsMore (told self.old) (told self.new)
+            (line (log.now ++ (codes ": " ++ report_text report.message)) ∷ []) };
 
     /// Tells the text of a fault of the command line.
     fn tell_text(&mut self, fault: &JobFault)
@@ -42,6 +47,10 @@ impl<R: Eprint> Tell for StandardError<R> {
 
     fn tell(&mut self, report: Report) {
         let _ = self.rt.eprintln(report);
+    }
+
+    fn tell_of(&mut self, log: &str, report: Report) {
+        let _ = eprintln!(self.rt; "{log}: {report}");
     }
 
     fn tell_text(&mut self, fault: &JobFault) {

@@ -1,7 +1,8 @@
 -- Arguments and jobs that are added.
-use Rattle.std.proofs.Common.{◌≡◌, ◌∙◌, ap, ap₂, sym, subst, ℕ, List, [], ◌∷◌, ◌++◌, Option, Some, true, false, map, ◌||◌}
+use Rattle.std.proofs.Common.{◌≡◌, ◌∙◌, ap, ap₂, sym, subst, ℕ, List, [], ◌∷◌, ◌++◌, Option, None, Some, true, false, map, ◌||◌}
 use Rattle.std.proofs.lemmas.List.{append_assoc, map-append}
 use Rattle.std.specs.Borrow.{Bor}
+use Rattle.std.specs.Prelude.{IsSomeAnd}
 use Rattle.clap.specs.Built.{AddsArg, AddsInTurn, AddsSubcommand}
 use Rattle.clap.specs.Simple.{App, app_of, app_of_fields, with_rule, with_subcommand}
 use Rattle.clap.specs.Walk.{Rule, rule_of}
@@ -9,6 +10,7 @@ use Rattle.clap.specs.declared.builder.action.ArgAction.{ArgAction}
 use Rattle.clap.specs.declared.builder.arg.Arg.{Arg}
 use Rattle.clap.specs.declared.builder.command.Command.{Command, Command-F}
 use Rattle.clap.specs.declared.builder.command.Command.TheViews.{out-Command as fields_of}
+use Rattle.clap.specs.declared.builder.range.ValueRange.{ValueRange}
 use Rattle.clap.specs.declared.builder.texts.Texts.TheVariants.{One}
 use Rattle.clap.specs.declared.builder.value_parser.ValueParser.{ValueParser}
 use Rattle.mgr_args.specs.Rules.{AddsArguments, AddsJobs, AreJobs, IsLocal, IsPlain, IsToldOf, local, sketched, told_rules, with_jobs, with_rules}
@@ -41,6 +43,16 @@ pub rule_parsed : (a b : Arg) (q : ValueParser) (r : Rule) → b ≡ record a { 
 rule_parsed a b q r is by of =
     let whole : b ≡ record a { value_parser = Some q } = is ∙ ap (λ o. record a { value_parser = o }) by in
     subst (IsLocal (record r { parser = Some q })) (sym whole) (ap (λ (r : Rule). record r { parser = Some q }) of.0, of.1)
+
+pub rule_ranged : (a b : Arg) (s : ValueRange) (r : Rule) → b ≡ record a { num_vals = b.num_vals } → IsSomeAnd b.num_vals (λ n. n ≡ s) → IsLocal r a → IsLocal (record r { range = Some s }) b
+rule_ranged a b s r is ranged of =
+    let by : b.num_vals ≡ Some s = some_is b.num_vals ranged in
+    let whole : b ≡ record a { num_vals = Some s } = is ∙ ap (λ o. record a { num_vals = o }) by in
+    subst (IsLocal (record r { range = Some s })) (sym whole) (ap (λ (r : Rule). record r { range = Some s }) of.0, of.1)
+  where
+    some_is : (o : Option ValueRange) → IsSomeAnd o (λ n. n ≡ s) → o ≡ Some s
+    some_is None none = absurd none
+    some_is (Some n) same = ap Some same
 
 -- ---- what is added to a command
 
@@ -89,16 +101,20 @@ pub takes_all : (old new : Command) (args : List Arg) (app : App) (rules : List 
     → IsPlain (with_rules app rules) new
 takes_all old new args app rules is plain same = subst (λ a. IsPlain (with_rules a rules) new) plain.0 (with_all old new args rules is same plain.1)
 
--- three jobs more
-pub three_jobs : (old one two new : List Command) (x y z : Command) (a b c : App) → one ≡ old ++ x ∷ [] → IsPlain a x → two ≡ one ++ y ∷ [] → IsPlain b y
-    → new ≡ two ++ z ∷ [] → IsPlain c z → AddsJobs old new (a ∷ b ∷ c ∷ [])
-three_jobs old one two new x y z a b c first is_a second is_b third is_c =
-    let before : new ≡ old ++ x ∷ y ∷ z ∷ [] =
-    third ∙ ap (λ l. l ++ z ∷ []) (second ∙ ap (λ l. l ++ y ∷ []) first) ∙ append_assoc (old ++ x ∷ []) (y ∷ []) (z ∷ []) ∙ append_assoc old (x ∷ []) (y ∷ z ∷ []) in
-    record {
-      sketched = ap sketched before ∙ map-append (λ c. (app_of c, (fields_of c).has_globals)) old (x ∷ y ∷ z ∷ [])
-          ∙ (λ i. sketched old ++ (is_a.0 i, is_a.1 i) ∷ (is_b.0 i, is_b.1 i) ∷ (is_c.0 i, is_c.1 i) ∷ []);
-    }
+-- one job more
+pub one_job : (old new : List Command) (c : Command) (job : App) → new ≡ old ++ c ∷ [] → IsPlain job c → AddsJobs old new (job ∷ [])
+one_job old new c job is plain = record {
+  sketched = ap sketched is ∙ map-append (λ c. (app_of c, (fields_of c).has_globals)) old (c ∷ [])
+      ∙ ap₂ (λ x y. sketched old ++ (x, y) ∷ []) plain.0 plain.1;
+}
+
+-- some, and then more
+pub more_jobs : (old mid new : List Command) (js ks : List App) → AddsJobs old mid js → AddsJobs mid new ks → AddsJobs old new (js ++ ks)
+more_jobs old mid new js ks one two = record {
+  sketched = two.sketched ∙ ap (λ l. l ++ map (λ job. (job, false)) ks) one.sketched
+      ∙ append_assoc (sketched old) (map (λ job. (job, false)) js) (map (λ job. (job, false)) ks)
+      ∙ ap (λ l. sketched old ++ l) (sym (map-append (λ job. (job, false)) js ks));
+}
 
 -- a program that has them
 pub with_all_jobs : (old new : Command) (commands : List Command) (jobs : List App) → AddsInTurn AddsSubcommand old commands new → AreJobs commands jobs

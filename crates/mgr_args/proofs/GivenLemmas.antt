@@ -10,31 +10,32 @@ use Rattle.clap.proofs.WalkLemmas.{one_text-rows}
 use Rattle.rga_store.specs.declared.text_store.TheConstants.{MAX_LIMIT}
 use Rattle.mg_screen.specs.Size.{least_rows, most_rows, least_columns, most_columns}
 use Rattle.mg_settings.specs.Settings.{Values, AreAllowed, greatest_replica, greatest_port, greatest_fill}
-use Rattle.mgr_args.specs.Edit.{GivesFlag, GivesNumber, GivesNumberIf, GivesSettings, GivesValues}
+use Rattle.mgr_args.specs.Edit.{GivesSettings, GivesValues}
+use Rattle.mgr_args.specs.Given.{GivesFlag, GivesNumber, GivesNumberIf}
 
 -- two texts at one place are one
 pub same_some : {A : Type 0} (o : Option A) (a b : A) → o ≡ Some a → o ≡ Some b → a ≡ b
 same_some o a b at also = let same : Some a ≡ Some b = sym at ∙ also in cc
 
--- a text is a number of 16 bits in decimal digits
-abbrev IsNumber : List ℕ → Type 0
-IsNumber text = IsNumeral 10 (without_leading_plus text) × (digits_value 10 (without_leading_plus text) < 2 ^ 16)
+-- a text is a number of that many bits in decimal digits
+abbrev IsNumber : ℕ → List ℕ → Type 0
+IsNumber bits text = IsNumeral 10 (without_leading_plus text) × (digits_value 10 (without_leading_plus text) < 2 ^ bits)
 
 -- what is read of the text under an id is what stands there
-pub number_read : {E : Type 0} (gives : List ℕ → Result ℕ E → Type 0) (f : Found) (id : List ℕ) (o : Option ℕ)
-    → ((t : List ℕ) (r : Result ℕ E) → gives t r → ParsesUnsigned 16 10 t r) → (one_text f id ≡ None → o ≡ None)
-    → ((t : List ℕ) → one_text f id ≡ Some t → ReadsOne gives t o) → GivesNumberIf (rows_of f) id o
-number_read gives f id o parses none reads = at (one_text f id) refl o none reads
+pub number_read : {E : Type 0} (bits : ℕ) (gives : List ℕ → Result ℕ E → Type 0) (f : Found) (id : List ℕ) (o : Option ℕ)
+    → ((t : List ℕ) (r : Result ℕ E) → gives t r → ParsesUnsigned bits 10 t r) → (one_text f id ≡ None → o ≡ None)
+    → ((t : List ℕ) → one_text f id ≡ Some t → ReadsOne gives t o) → GivesNumberIf bits (rows_of f) id o
+number_read bits gives f id o parses none reads = at (one_text f id) refl o none reads
   where
     at : (t : Option (List ℕ)) → one_text f id ≡ t → (p : Option ℕ) → (one_text f id ≡ None → p ≡ None)
-        → ((t : List ℕ) → one_text f id ≡ Some t → ReadsOne gives t p) → GivesNumberIf (rows_of f) id p
+        → ((t : List ℕ) → one_text f id ≡ Some t → ReadsOne gives t p) → GivesNumberIf bits (rows_of f) id p
     at None is None none reads = λ n g. absurd (let clash : None ≡ Some g.text = sym is ∙ one_text-rows f id ∙ g.at in cc)
     at None is (Some n) none reads = absurd (let clash : Some n ≡ None = none is in cc)
     at (Some t) is None none reads = λ n g.
         let same : t ≡ g.text = same_some (one_of id (rows_of f)) t g.text (sym (one_text-rows f id) ∙ is) g.at in
-        let fits : digits_value 10 (without_leading_plus g.text) < 2 ^ 16 = subst (λ m. m < 2 ^ 16) (sym g.value) g.fits in
+        let fits : digits_value 10 (without_leading_plus g.text) < 2 ^ bits = subst (λ m. m < 2 ^ bits) (sym g.value) g.fits in
         let failed = reads t is in
-        parses t (Err failed.0) failed.1 (subst IsNumber (sym same) (g.numeral, fits))
+        parses t (Err failed.0) failed.1 (subst (IsNumber bits) (sym same) (g.numeral, fits))
     at (Some t) is (Some n) none reads =
         let read = parses t (Ok n) (reads t is) in
         record {
@@ -42,7 +43,7 @@ number_read gives f id o parses none reads = at (one_text f id) refl o none read
           at = sym (one_text-rows f id) ∙ is;
           numeral = read.0.0;
           value = sym read.1;
-          fits = subst (λ m. m < 2 ^ 16) (sym read.1) read.0.1;
+          fits = subst (λ m. m < 2 ^ bits) (sym read.1) read.0.1;
         }
 
 -- and so it is of a flag
@@ -55,25 +56,25 @@ flag_read f id is none up down = record {
 }
 
 -- one number stands under an id
-pub one_number : (rows : List Row) (id : List ℕ) (n m : ℕ) → GivesNumber rows id n → GivesNumber rows id m → n ≡ m
-one_number rows id n m g h =
+pub one_number : (bits : ℕ) (rows : List Row) (id : List ℕ) (n m : ℕ) → GivesNumber bits rows id n → GivesNumber bits rows id m → n ≡ m
+one_number bits rows id n m g h =
     let text : g.text ≡ h.text = same_some (one_of id rows) g.text h.text g.at h.at in
     sym g.value ∙ ap (λ t. digits_value 10 (without_leading_plus t)) text ∙ h.value
 
-port_too : (P : ℕ → Type 0) (rows : List Row) (id : List ℕ) (p q : Option ℕ) → GivesNumberIf rows id p → GivesNumberIf rows id q → ForSome p P → ForSome q P
+port_too : (P : ℕ → Type 0) (rows : List Row) (id : List ℕ) (p q : Option ℕ) → GivesNumberIf 16 rows id p → GivesNumberIf 16 rows id q → ForSome p P → ForSome q P
 port_too P rows id p None g h allowed = λ x is. absurd (let clash : None ≡ Some x = is in cc)
 port_too P rows id None (Some m) g h allowed = absurd (g m h)
 port_too P rows id (Some n) (Some m) g h allowed = λ x is.
-    subst P (one_number rows id n m g h ∙ same_some (Some m) m x refl is) (allowed n refl)
+    subst P (one_number 16 rows id n m g h ∙ same_some (Some m) m x refl is) (allowed n refl)
 
 -- values of the same rows are allowed together
 pub allowed_too : (rows : List Row) (v w : Values) → GivesValues rows v → GivesValues rows w → AreAllowed v → AreAllowed w
 allowed_too rows v w g h a =
     let name : v.name ≡ w.name = same_some (first_of _ rows) v.name w.name g.name h.name in
-    let replica : v.replica ≡ w.replica = one_number rows _ _ _ g.options.replica h.options.replica in
-    let lines : v.rows ≡ w.rows = one_number rows _ _ _ g.options.rows_of h.options.rows_of in
-    let columns : v.columns ≡ w.columns = one_number rows _ _ _ g.options.columns h.options.columns in
-    let fill : v.fill ≡ w.fill = one_number rows _ _ _ g.options.fill h.options.fill in
+    let replica : v.replica ≡ w.replica = one_number 16 rows _ _ _ g.options.replica h.options.replica in
+    let lines : v.rows ≡ w.rows = one_number 16 rows _ _ _ g.options.rows_of h.options.rows_of in
+    let columns : v.columns ≡ w.columns = one_number 16 rows _ _ _ g.options.columns h.options.columns in
+    let fill : v.fill ≡ w.fill = one_number 16 rows _ _ _ g.options.fill h.options.fill in
     let limit : v.limit ≡ w.limit = g.options.limit ∙ sym h.options.limit in
     record {
       named = subst (λ n. 1 ≤ length n) name a.named;

@@ -1,3 +1,4 @@
 pub mod CommandLineLemmas
 pub mod Adding
 pub mod GivenLemmas
+pub mod ShowLaws

@@ -1,25 +1,22 @@
 -- What a command line asks for.
-use Rattle.std.specs.Prelude.{◌||◌, ℕ, Bool, true, false, List, [], ◌∷◌, ◌++◌, codes, drop, nat_eq}
+use Rattle.std.specs.Prelude.{◌||◌, ℕ, Bool, true, List, [], ◌∷◌, ◌++◌, codes, drop, nat_eq}
 use Rattle.std.specs.Prelude.{if◌then◌else◌}
 use Rattle.std.specs.List.{starts_with}
 use Rattle.std.specs.Str.{bytes_eq}
 use Rattle.clap.specs.Simple.{App, Shape, new_app, on_top}
-use Rattle.mgr_args.specs.Compact.{compact_app}
 use Rattle.mgr_args.specs.Edit.{edit_app}
-use Rattle.mgr_args.specs.Rules.{with_jobs}
+use Rattle.mgr_args.specs.Rules.{join_app, note_app, show_app, with_jobs}
 use Rattle.mgr_args.specs.declared.job.Topic.{Topic}
 use Rattle.mgr_args.specs.declared.job.Topic.TheVariants as topic
 
 abbrev pub Text : Type 0
 Text = List ℕ
 
--- a job, help on a topic, the version, or nothing that the program has; what stands behind `edit` and `compact` is read
--- by clap
+-- a job, by these words after the one that names it, which clap reads; help on the program, the version, or nothing
+-- that the program has
 pub data Wish : Type 0 where
-  showing : Wish
-  editing : List Text → Wish
-  compacting : List Text → Wish
-  help : Topic → Wish
+  asking : Topic → List Text → Wish
+  help : Wish
   version : Wish
   mistake : Wish
 
@@ -31,27 +28,36 @@ is_help_flag word = bytes_eq word (codes "--help") || starts_with nat_eq word (c
 abbrev pub is_version_flag : Text → Bool
 is_version_flag word = bytes_eq word (codes "--version") || starts_with nat_eq word (codes "-V")
 
--- one word, `--`, which ends the flags
-abbrev pub is_end_of_flags : List Text → Bool
-is_end_of_flags (word ∷ []) = bytes_eq word (codes "--")
-is_end_of_flags _ = false
+-- the word of a job
+abbrev pub word_of : Topic → Text
+word_of topic.Program = []
+word_of topic.Show = codes "show"
+word_of topic.Edit = codes "edit"
+word_of topic.Compact = codes "compact"
+word_of topic.Join = codes "join"
+word_of topic.Log = codes "log"
+word_of topic.Who = codes "who"
 
--- the words behind `show`, which takes none
-abbrev pub show_wish : List Text → Wish
-show_wish [] = showing
-show_wish (word ∷ rest) =
-    if is_help_flag word then help topic.Show
-    else if is_end_of_flags (word ∷ rest) then showing else mistake
+-- the job of a word, or the program
+abbrev pub topic_of_word : Text → Topic
+topic_of_word word =
+    if bytes_eq word (codes "show") then topic.Show
+    else if bytes_eq word (codes "edit") then topic.Edit
+    else if bytes_eq word (codes "compact") then topic.Compact
+    else if bytes_eq word (codes "join") then topic.Join
+    else if bytes_eq word (codes "log") then topic.Log
+    else if bytes_eq word (codes "who") then topic.Who else topic.Program
+
+-- what a word and those behind it ask for, if the first is of that topic
+abbrev pub wish_on : Topic → Text → List Text → Wish
+wish_on topic.Program word rest =
+    if is_help_flag word then help else if is_version_flag word then version else mistake
+wish_on on word rest = asking on rest
 
 -- the words behind the program's name
 abbrev pub arguments_wish : List Text → Wish
 arguments_wish [] = mistake
-arguments_wish (word ∷ rest) =
-    if bytes_eq word (codes "show") then show_wish rest
-    else if bytes_eq word (codes "edit") then editing rest
-    else if bytes_eq word (codes "compact") then compacting rest
-    else if is_help_flag word then help topic.Program
-    else if is_version_flag word then version else mistake
+arguments_wish (word ∷ rest) = wish_on (topic_of_word word) word rest
 
 -- `help` in front is `--help` behind: `help show` is `show --help`
 abbrev pub with_help_flag : List Text → List Text
@@ -66,12 +72,9 @@ wish_of words = arguments_wish (with_help_flag (drop 1 words))
 -- what help is on, where the words behind the program's name ask for it
 abbrev pub topic_of : List Text → Topic
 topic_of [] = topic.Program
-topic_of (word ∷ rest) =
-    if bytes_eq word (codes "show") then topic.Show
-    else if bytes_eq word (codes "edit") then topic.Edit
-    else if bytes_eq word (codes "compact") then topic.Compact else topic.Program
+topic_of (word ∷ rest) = topic_of_word word
 
--- the command line as clap is told of it: `show`, which stands alone, and `edit` and `compact` with what they take
+-- the command line as clap is told of it: its jobs, with what they take
 abbrev pub required : Shape → Shape
 required top = record top {
   has_version = true;
@@ -83,7 +86,9 @@ abbrev pub program_alone : App
 program_alone = on_top required (new_app (codes "mgr"))
 
 abbrev pub job_apps : List App
-job_apps = new_app (codes "show") ∷ edit_app ∷ compact_app ∷ []
+job_apps =
+    show_app ∷ edit_app ∷ note_app (codes "compact") (codes "dels") ∷ join_app
+    ∷ note_app (codes "log") (codes "json") ∷ note_app (codes "who") (codes "lines") ∷ []
 
 abbrev pub command_line : App
 command_line = with_jobs program_alone job_apps

@@ -1,20 +1,14 @@
 -- What `edit` takes, as clap is told of it, and what it was given.
-use Rattle.std.specs.Prelude.{◌≡◌, ◌<◌, ◌^◌, ℕ, Bool, true, false, List, [], ◌∷◌, ◌++◌, codes, Option, Some, None}
-use Rattle.std.specs.Str.Parse.{IsNumeral, digits_value, without_leading_plus}
-use Rattle.clap.specs.Simple.{App, new_app, new_rule}
-use Rattle.clap.specs.Walk.{Row, Rule, first_of, one_of}
-use Rattle.clap.specs.declared.builder.action.ArgAction.TheVariants.{Set}
-use Rattle.clap.specs.declared.builder.value_parser.ValueParser.TheVariants as parser
+use Rattle.std.specs.Prelude.{◌≡◌, ℕ, true, List, [], ◌∷◌, ◌++◌, codes, Option, Some, None}
+use Rattle.clap.specs.Simple.{App, new_app}
+use Rattle.clap.specs.Walk.{Row, Rule, first_of}
 use Rattle.rga_store.specs.declared.text_store.TheConstants.{MAX_LIMIT}
 use Rattle.mg_screen.specs.Size.{least_rows, most_rows, least_columns, most_columns}
 use Rattle.mg_settings.specs.Settings.{Values, AreAllowed, greatest_replica, greatest_port, greatest_fill}
-use Rattle.mgr_args.specs.Rules.{flag, name_rule, with_rules}
+use Rattle.mgr_args.specs.Given.{GivesFlag, GivesNumber, GivesNumberIf}
+use Rattle.mgr_args.specs.Rules.{flag, name_rule, number_rule, with_rules}
 
 -- ---- what it takes
-
--- a number behind `--id`, within limits
-abbrev pub number_rule : List ℕ → ℕ → ℕ → Rule
-number_rule id least most = record (new_rule id) { long = Some id; action = Some Set; value_names = 1; parser = Some (parser.Unsigned least most) }
 
 abbrev pub with_default : List ℕ → Rule → Rule
 with_default value rule = record rule { defaults = value ∷ [] }
@@ -49,38 +43,20 @@ edit_app = with_rules (new_app (codes "edit")) edit_rules
 
 -- ---- what it was given, by the rows of what clap found
 
--- a number of 16 bits stands under that id, in decimal digits
-pub record GivesNumber (rows : List Row) (id : List ℕ) (n : ℕ) : Type 0 where
-  pub text : List ℕ
-  pub at : one_of id rows ≡ Some text
-  pub numeral : IsNumeral 10 (without_leading_plus text)
-  pub value : digits_value 10 (without_leading_plus text) ≡ n
-  pub fits : n < 2 ^ 16
-
-abbrev pub GivesNumberIf : List Row → List ℕ → Option ℕ → Type 0
-GivesNumberIf rows id None = (n : ℕ) → GivesNumber rows id n → ⊥
-GivesNumberIf rows id (Some n) = GivesNumber rows id n
-
 -- the four that have to stand there
 pub record GivesNumbers (rows : List Row) (n : ℕ × ℕ × ℕ × ℕ) : Type 0 where
-  pub replica : GivesNumber rows (codes "replica") n.0
-  pub rows_of : GivesNumber rows (codes "rows") n.1
-  pub columns : GivesNumber rows (codes "cols") n.2
-  pub fill : GivesNumber rows (codes "fill") n.3
-
--- whether a flag stands there
-pub record GivesFlag (rows : List Row) (id : List ℕ) (is : Bool) : Type 0 where
-  pub up : one_of id rows ≡ Some (codes "true") → is ≡ true
-  pub down : one_of id rows ≡ Some (codes "false") → is ≡ false
-  pub none : one_of id rows ≡ None → is ≡ false
+  pub replica : GivesNumber 16 rows (codes "replica") n.0
+  pub rows_of : GivesNumber 16 rows (codes "rows") n.1
+  pub columns : GivesNumber 16 rows (codes "cols") n.2
+  pub fill : GivesNumber 16 rows (codes "fill") n.3
 
 -- what stands there beside the name
 pub record GivesOptions (rows : List Row) (v : Values) : Type 0 where
-  pub replica : GivesNumber rows (codes "replica") v.replica
-  pub rows_of : GivesNumber rows (codes "rows") v.rows
-  pub columns : GivesNumber rows (codes "cols") v.columns
-  pub fill : GivesNumber rows (codes "fill") v.fill
-  pub port : GivesNumberIf rows (codes "port") v.port
+  pub replica : GivesNumber 16 rows (codes "replica") v.replica
+  pub rows_of : GivesNumber 16 rows (codes "rows") v.rows
+  pub columns : GivesNumber 16 rows (codes "cols") v.columns
+  pub fill : GivesNumber 16 rows (codes "fill") v.fill
+  pub port : GivesNumberIf 16 rows (codes "port") v.port
   pub trace : GivesFlag rows (codes "trace") v.trace
   pub newest : GivesFlag rows (codes "newest") v.newest
   pub cursor : GivesFlag rows (codes "cursor") v.cursor

@@ -8,17 +8,33 @@ use Rattle.clap.specs.declared.error.kind.ErrorKind.{ErrorKind}
 use Rattle.clap.specs.declared.parser.matches.ArgMatches.{ArgMatches}
 use Rattle.clap.specs.declared.error.kind.ErrorKind.TheVariants.{DisplayHelp, DisplayVersion}
 use Rattle.clap.specs.declared.error.kind.ErrorKind.TheVariants.{OutOfMemory}
-use Rattle.mgr_args.specs.CommandLine.{Text, Wish, command_line, compacting, editing, help, mistake, showing, version}
-use Rattle.mg_settings.specs.Settings.{Values}
-use Rattle.mgr_args.specs.Compact.{GivesCompaction}
+use Rattle.mgr_args.specs.CommandLine.{Text, Wish, asking, command_line, help, mistake, version, word_of}
 use Rattle.mgr_args.specs.Edit.{GivesSettings}
-use Rattle.mgr_args.specs.declared.given.Compaction.{Compaction}
+use Rattle.mgr_args.specs.Given.{GivesLogs, GivesNote, GivesShown}
 use Rattle.mgr_args.specs.declared.job.Job.{Job}
-use Rattle.mgr_args.specs.declared.job.Job.TheVariants.{Show, Edit, Compact}
+use Rattle.mgr_args.specs.declared.job.Job.TheVariants.{Show, Edit, Compact, Join, Log, Who}
 use Rattle.mgr_args.specs.declared.job.JobFault.{JobFault}
 use Rattle.mgr_args.specs.declared.job.JobFault.TheVariants.{Help, Version, Usage, Memory}
 use Rattle.mgr_args.specs.declared.job.Topic.{Topic}
 use Rattle.mgr_args.specs.declared.job.Topic.TheVariants as topic
+
+-- ---- what rows give
+
+-- the job of this topic that they give; none if they give nothing that is allowed
+abbrev pub GivesJob : Topic → List Row → Option Job → Type 0
+GivesJob topic.Show rows None = GivesShown rows None
+GivesJob topic.Show rows (Some (Show shown)) = GivesShown rows (Some shown)
+GivesJob topic.Edit rows None = GivesSettings rows None
+GivesJob topic.Edit rows (Some (Edit settings)) = GivesSettings rows (Some settings)
+GivesJob topic.Compact rows None = GivesNote (codes "dels") rows None
+GivesJob topic.Compact rows (Some (Compact note)) = GivesNote (codes "dels") rows (Some note)
+GivesJob topic.Join rows (Some (Join logs)) = GivesLogs rows logs.items
+GivesJob topic.Log rows None = GivesNote (codes "json") rows None
+GivesJob topic.Log rows (Some (Log note)) = GivesNote (codes "json") rows (Some note)
+GivesJob topic.Who rows None = GivesNote (codes "lines") rows None
+GivesJob topic.Who rows (Some (Who note)) = GivesNote (codes "lines") rows (Some note)
+GivesJob topic.Program rows None = Unit {0}
+GivesJob on rows _ = ⊥
 
 -- ---- behind the word of a job, in clap's words
 
@@ -30,22 +46,15 @@ kinds_behind job words = fault_of command_line (codes "mgr" ∷ job ∷ words)
 abbrev pub rows_behind_job : Text → List Text → Option (List Row)
 rows_behind_job job words = option_map (λ p. p.1) (subcommand_of command_line (codes "mgr" ∷ job ∷ words))
 
--- what was found gives this, or nothing that is allowed
-abbrev pub GivesAll : {A : Type 0} → (List Row → Option A → Type 0) → Option (List Row) → Option A → Type 0
-GivesAll gives None None = Unit {0}
-GivesAll gives None (Some a) = ⊥
-GivesAll gives (Some rows) answer = gives rows answer
+-- what was found gives this job of that topic, or nothing that is allowed
+abbrev pub FoundGives : Topic → Option (List Row) → Option Job → Type 0
+FoundGives on None None = Unit {0}
+FoundGives on None (Some job) = ⊥
+FoundGives on (Some rows) answer = GivesJob on rows answer
 
--- clap finds nothing wrong, and what it finds gives this, or nothing that is allowed
-abbrev pub Finds : {A : Type 0} → (List Row → Option A → Type 0) → Text → List Text → Option A → Type 0
-Finds gives job words answer = (kinds_behind job words ≡ []) × GivesAll gives (rows_behind_job job words) answer
-
--- these settings behind `edit`, and this compaction behind `compact`
-abbrev pub FindsSettings : List Text → Option Values → Type 0
-FindsSettings words settings = Finds GivesSettings (codes "edit") words settings
-
-abbrev pub FindsCompaction : List Text → Option Compaction → Type 0
-FindsCompaction words compaction = Finds GivesCompaction (codes "compact") words compaction
+-- clap finds nothing wrong with these words, and what it finds gives this job, or nothing that is allowed
+abbrev pub Finds : Topic → List Text → Option Job → Type 0
+Finds on words answer = (kinds_behind (word_of on) words ≡ []) × FoundGives on (rows_behind_job (word_of on) words) answer
 
 -- a kind of error that is no answer to a question for help or the version
 abbrev pub HasMistake : Kinds → Type 0
@@ -55,22 +64,20 @@ HasMistake kinds = (k : ErrorKind) × (k ≢ DisplayHelp) × (k ≢ DisplayVersi
 
 -- the job that is wished for
 abbrev pub IsJobOf : Wish → Job → Type 0
-IsJobOf wish Show = wish ≡ showing
-IsJobOf wish (Edit settings) = (words : List Text) × (wish ≡ editing words) × FindsSettings words (Some settings)
-IsJobOf wish (Compact compaction) = (words : List Text) × (wish ≡ compacting words) × FindsCompaction words (Some compaction)
+IsJobOf (asking on words) job = Finds on words (Some job)
+IsJobOf wish job = ⊥
 
--- why clap gives none behind the word of a job: one of these kinds, or it finds nothing that is allowed
+-- why clap gives none: one of these kinds, or it finds nothing that is allowed
 abbrev pub IsFaultBehind : Topic → Kinds → Type 0 → JobFault → Type 0
 IsFaultBehind topic kinds Nothing (Help on text) = (on ≡ topic) × IsAmong DisplayHelp kinds
 IsFaultBehind topic kinds Nothing (Version text) = IsAmong DisplayVersion kinds
 IsFaultBehind topic kinds Nothing (Usage text) = HasMistake kinds ⊎ Nothing
 IsFaultBehind topic kinds Nothing Memory = Unit {0}
 
--- why such a wish gives no job; memory may be wanting at any
+-- why such a wish gives no job; any may fail for memory
 abbrev pub IsFaultOf : Wish → JobFault → Type 0
-IsFaultOf (editing words) fault = IsFaultBehind topic.Edit (kinds_behind (codes "edit") words) (FindsSettings words None) fault
-IsFaultOf (compacting words) fault = IsFaultBehind topic.Compact (kinds_behind (codes "compact") words) (FindsCompaction words None) fault
-IsFaultOf wish (Help on text) = wish ≡ help on
+IsFaultOf (asking on words) fault = IsFaultBehind on (kinds_behind (word_of on) words) (Finds on words None) fault
+IsFaultOf wish (Help on text) = (wish ≡ help) × (on ≡ topic.Program)
 IsFaultOf wish (Version text) = wish ≡ version
 IsFaultOf wish (Usage text) = wish ≡ mistake
 IsFaultOf wish Memory = Unit {0}
@@ -88,17 +95,8 @@ IsUsage Memory = Unit {0}
 abbrev pub rows_behind : ArgMatches → Option (List Row)
 rows_behind matches = option_map (λ p. p.1) (subcommand_rows_of matches)
 
-abbrev pub IsChosen : Topic → Option (List Row) → Job → Type 0
-IsChosen topic.Edit found (Edit settings) = GivesAll GivesSettings found (Some settings)
-IsChosen topic.Edit found _ = ⊥
-IsChosen topic.Compact found (Compact compaction) = GivesAll GivesCompaction found (Some compaction)
-IsChosen topic.Compact found _ = ⊥
-IsChosen _ found Show = Unit {0}
-IsChosen _ found _ = ⊥
-
 abbrev pub IsNotChosen : Topic → Option (List Row) → JobFault → Type 0
-IsNotChosen topic.Edit found (Usage text) = GivesAll GivesSettings found None
-IsNotChosen topic.Compact found (Usage text) = GivesAll GivesCompaction found None
+IsNotChosen on found (Usage text) = FoundGives on found None
 IsNotChosen on found Memory = Unit {0}
 IsNotChosen on found fault = ⊥
 

@@ -1,5 +1,5 @@
 pub mod Rules
+pub mod Given
 pub mod Edit
-pub mod Compact
 pub mod CommandLine
 pub mod Job

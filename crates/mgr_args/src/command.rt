@@ -4,8 +4,9 @@ ghost use Rattle.clap.specs.Simple.{app_of};
 ghost use Rattle.mgr_args.specs.CommandLine.{command_line, job_apps, program_alone};
 ghost use Rattle.mgr_args.specs.Rules.{AddsJobs};
 
-use crate::compact::compact;
 use crate::edit::edit;
+use crate::logs::{join, show};
+use crate::note::{compact, log, who};
 use crate::part::{described, push};
 use clap::Command;
 use std::alloc::{AllocError, Global};
@@ -14,12 +15,7 @@ use std::alloc::{AllocError, Global};
 pub const VERSION: &str = "0.1.0";
 
 const MGR_HELP: &str =
-    "`mgr help show`, `mgr help edit` and `mgr help compact` are the help of its jobs.";
-
-const SHOW_HELP: &str = "Operation lines come on standard input, from one log or from several:
-
-    mgr show < FILE
-    cat FILE FILE | mgr show";
+    "`mgr help show` is the help of `show`, and so on. `mgr-live NAME` edits on a terminal.";
 
 /// The program without its jobs.
 fn program<'a>(alloc: Global) -> Command<'a>
@@ -36,13 +32,15 @@ fn program<'a>(alloc: Global) -> Command<'a>
 fn add_jobs<'a>(alloc: Global, jobs: &mut Vec<Command<'a>>) -> Result<(), AllocError>
     ensures { OnOk result (AddsJobs jobs.old.items jobs.new.items job_apps) }
 {
-    let about = "Read operation lines and write the text that they make";
-    push(jobs, described(alloc, "show", about, SHOW_HELP))?;
+    push(jobs, show(alloc)?)?;
     push(jobs, edit(alloc)?)?;
-    push(jobs, compact(alloc)?)
+    push(jobs, compact(alloc)?)?;
+    push(jobs, join(alloc)?)?;
+    push(jobs, log(alloc)?)?;
+    push(jobs, who(alloc)?)
 }
 
-/// The program, whose jobs are `show`, `edit` and `compact`.
+/// The program with its jobs.
 pub(crate) fn command<'a>(alloc: Global) -> Result<Command<'a>, AllocError>
     ensures { IfOk result (λ c. app_of c ≡ command_line) }
 {

@@ -1,11 +1,10 @@
 //! The subcommand `edit`: what it takes, as clap is told of it.
 ghost use Rattle.std.specs.Prelude.{◌∷◌, [], ◌++◌, IfOk, OnOk};
 ghost use Rattle.mgr_args.specs.Edit as spec;
-ghost use Rattle.mgr_args.specs.Rules.{AddsArguments, IsLocal, IsPlain};
+ghost use Rattle.mgr_args.specs.Rules.{AddsArguments, IsPlain, number_rule};
 
-use crate::part::{add_flag, add_name, described, push};
-use clap::builder::ValueParser;
-use clap::{Arg, ArgAction, Command};
+use crate::part::{add_flag, add_name, described, number, push};
+use clap::{Arg, Command};
 use std::alloc::{AllocError, Global};
 
 const EDIT_HELP: &str =
@@ -15,17 +14,6 @@ The log is NAME.ops, and the text NAME. C-x C-s saves, C-x C-c ends:
     printf 'hello\\030\\023' | mgr edit notes --replica 1
 
 `mgr-live` shows it on a terminal.";
-
-/// A number behind `--id`, within limits.
-fn number<'a>(alloc: Global, id: &'a str, least: u64, most: u64) -> Arg<'a>
-    ensures { IsLocal (spec.number_rule id.entry.now least most) result }
-{
-    Arg::new(alloc, id)
-        .long(id)
-        .action(ArgAction::Set)
-        .value_name("N")
-        .value_parser(ValueParser::unsigned(least, most))
-}
 
 /// A number that is `value` where none is given, with the words of its help.
 fn add_number<'a>(
@@ -38,7 +26,7 @@ fn add_number<'a>(
     help: &'a str,
 ) -> Result<(), AllocError>
     ensures { OnOk result (AddsArguments args.old.items args.new.items
-        (spec.with_default value.entry.now (spec.number_rule id.entry.now least most) ∷ [])) }
+        (spec.with_default value.entry.now (number_rule id.entry.now least most) ∷ [])) }
 {
     let number = number(alloc, id, least, most);
     push(args, number.default_value(value).help(help))

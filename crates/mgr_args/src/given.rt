@@ -1,10 +1,10 @@
-//! What `edit` and `compact` were given.
-ghost use Rattle.std.specs.Prelude.{◌≡◌, None, IfOk, IfSome, string_bytes};
+//! What jobs were given.
+ghost use Rattle.std.specs.Prelude.{◌≡◌, None, IfOk, IfSome, codes, map, string_bytes};
 ghost use Rattle.clap.specs.Matches.{found_of};
-ghost use Rattle.clap.specs.Walk.{rows_of};
+ghost use Rattle.clap.specs.Walk.{rows_of, texts};
 ghost use Rattle.mg_settings.specs.Settings.{Values};
-ghost use Rattle.mgr_args.specs.Compact.{GivesCompaction};
-ghost use Rattle.mgr_args.specs.Edit.{GivesNumberIf, GivesNumbers, GivesOptions, GivesSettings};
+ghost use Rattle.mgr_args.specs.Edit.{GivesNumbers, GivesOptions, GivesSettings};
+ghost use Rattle.mgr_args.specs.Given.{GivesLogs, GivesNote, GivesNumberIf, GivesShown};
 
 use clap::ArgMatches;
 use mg_settings::{Settings, Values};
@@ -27,21 +27,21 @@ pub(crate) fn settings_of(
     Ok(Settings::new(values))
 }
 
-/// A log that is to be compacted.
+/// A note, and whether the flag of its job was given: `--dels` of `compact`, `--json` of `log`,
+/// `--lines` of `who`.
 #[derive(Drop)]
-pub struct Compaction {
-    /// The note whose log it is.
+pub struct Note {
     pub name: String,
-    /// Whether deletions too are written in runs.
-    pub dels: bool,
+    pub flag: bool,
 }
 
-/// What clap's matches give to compact; none where the name is empty.
-pub(crate) fn compaction_of(
+/// What clap's matches give to a job of one note and this flag; none if the name is empty.
+pub(crate) fn note_of(
     alloc: Global,
     found: &ArgMatches<'_>,
-) -> Result<Option<Compaction>, AllocError>
-    ensures { IfOk result (GivesCompaction (rows_of (found_of found.now))) }
+    flag: &str,
+) -> Result<Option<Note>, AllocError>
+    ensures { IfOk result (GivesNote flag.now (rows_of (found_of found.now))) }
 {
     let Some(name) = found.get_str("name") else {
         return Ok(None);
@@ -49,10 +49,65 @@ pub(crate) fn compaction_of(
     if name.is_empty() {
         return Ok(None);
     }
-    Ok(Some(Compaction {
+    Ok(Some(Note {
         name: String::from_str(alloc, name)?,
-        dels: found.get_flag("dels"),
+        flag: found.get_flag(flag),
     }))
+}
+
+/// What is to be shown.
+#[derive(Drop)]
+pub enum Shown {
+    /// Standard input.
+    Input,
+    /// The log of a note; with a number, so many lines of it.
+    Front(String, Option<u64>),
+}
+
+/// What clap's matches give to show; none if the name is empty, and if there is a number without a
+/// name.
+pub(crate) fn shown_of(alloc: Global, found: &ArgMatches<'_>) -> Result<Option<Shown>, AllocError>
+    ensures { IfOk result (GivesShown (rows_of (found_of found.now))) }
+{
+    let lines = lines(found);
+    let Some(name) = found.get_str("name") else {
+        return match lines {
+            Some(_) => Ok(None),
+            None => Ok(Some(Shown::Input)),
+        };
+    };
+    if name.is_empty() {
+        return Ok(None);
+    }
+    let name = String::from_str(alloc, name)?;
+    Ok(Some(Shown::Front(name, lines)))
+}
+
+/// How many lines are to be shown.
+fn lines(found: &ArgMatches<'_>) -> Option<u64>
+    ensures { GivesNumberIf 64 (rows_of (found_of found.now)) (codes "lines") result }
+{
+    found.get_one::<u64>("lines")
+}
+
+/// The paths that clap's matches give to join.
+pub(crate) fn logs_of(alloc: Global, found: &ArgMatches<'_>) -> Result<Vec<String>, AllocError>
+    ensures { IfOk result (λ logs. GivesLogs (rows_of (found_of found.now)) logs.items) }
+{
+    match found.get_raw("logs") {
+        Some(logs) => strings_of(alloc, logs),
+        None => Ok(Vec::new(alloc)),
+    }
+}
+
+fn strings_of(alloc: Global, words: &[&str]) -> Result<Vec<String>, AllocError>
+    ensures { IfOk result (λ strings. map string_bytes strings.items ≡ texts words.now) }
+{
+    let mut strings = Vec::new(alloc);
+    for word in words {
+        strings.push(String::from_str(alloc, word)?)?;
+    }
+    Ok(strings)
 }
 
 /// What stands there, under a name; none where a number is no number.
@@ -97,7 +152,7 @@ fn numbers_of(found: &ArgMatches<'_>) -> Option<(u16, u16, u16, u16)>
 
 /// The number under an id.
 fn number(found: &ArgMatches<'_>, id: &str) -> Option<u16>
-    ensures { GivesNumberIf (rows_of (found_of found.now)) id.now result }
+    ensures { GivesNumberIf 16 (rows_of (found_of found.now)) id.now result }
 {
     found.get_one::<u16>(id)
 }

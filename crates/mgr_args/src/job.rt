@@ -1,13 +1,15 @@
 //! The words after the program's name.
-ghost use Rattle.std.specs.Prelude.{◌≡◌, IfErr, IfOk, drop, map, string_bytes};
+ghost use Rattle.std.specs.Prelude.{◌≡◌, IfErr, IfOk, Some, drop, map, string_bytes};
+ghost use Rattle.clap.specs.Matches.{found_of};
 ghost use Rattle.clap.specs.Values.{kind_of};
-ghost use Rattle.clap.specs.Walk.{texts};
+ghost use Rattle.clap.specs.Walk.{rows_of, texts};
 ghost use Rattle.mgr_args.specs.CommandLine.{mistake, topic_of, wish_of, with_help_flag};
-ghost use Rattle.mgr_args.specs.Job.{IsChosen, IsNotChosen, IsFaultOf, IsFaultOfKind, IsJobOf, IsUsage, job_status_of, rows_behind};
+ghost use Rattle.mgr_args.specs.Job.{FoundGives, GivesJob, IsFaultOf, IsFaultOfKind, IsJobOf};
+ghost use Rattle.mgr_args.specs.Job.{IsNotChosen, IsUsage, job_status_of, rows_behind};
 ghost use Rattle.mgr_args.specs.declared.job.JobFault.TheVariants.{Memory};
 
 use crate::command::command;
-use crate::given::{Compaction, compaction_of, settings_of};
+use crate::given::{Note, Shown, logs_of, note_of, settings_of, shown_of};
 use clap::error::ErrorKind;
 use clap::{ArgMatches, Error};
 use mg_settings::Settings;
@@ -16,12 +18,18 @@ use std::alloc::{AllocError, Global};
 /// What the program is to do.
 #[derive(Drop)]
 pub enum Job {
-    /// Operation lines in, the text out.
-    Show,
+    /// A log in, the text that it makes out.
+    Show(Shown),
     /// Keys in, frames out.
     Edit(Settings),
-    /// A log, written anew.
-    Compact(Compaction),
+    /// A log, written anew; with `--dels`, deletions in runs too.
+    Compact(Note),
+    /// Logs in, their join out.
+    Join(Vec<String>),
+    /// What stands in a log; with `--json` as one object.
+    Log(Note),
+    /// Who wrote a text; with `--lines` by its lines.
+    Who(Note),
 }
 
 /// What help is on.
@@ -32,6 +40,9 @@ pub enum Topic {
     Show,
     Edit,
     Compact,
+    Join,
+    Log,
+    Who,
 }
 
 /// Why there is no job.
@@ -73,13 +84,13 @@ pub fn job_status(fault: &JobFault) -> u8
 
 /// The job that the words ask for, of which the first is the program's name.
 ///
-/// `show` alone is `Job::Show`; a `--` may end its flags. `edit` is followed by what clap reads: a
-/// name, `--replica N`, and the other options, each at most once and within its limits, `compact` by
-/// a name, and `--dels` or not. `Help` is on the program where the first word behind its name is
-/// `--help`, or `-h` with anything behind it, on `show` where the first word behind `show` is, and
-/// on `edit` and `compact` where clap finds it there. `Version` where the first word is `--version`,
-/// or `-V` with anything behind it. `help` in front is `--help` behind: `mgr help show` asks for
-/// what `mgr show --help` does. `Usage` at any other command line, and `Memory`.
+/// The first word names the job, and clap reads those after it. `show` takes a name or none and
+/// `--lines N` or not, `edit` a name, `--replica N` and the other options, `compact`, `log` and
+/// `who` a name and a flag or not, and `join` paths. `Help` is on the program if the first word is
+/// `--help`, or `-h` with anything after it, and on a job if clap finds it after its word.
+/// `Version` if the first word is `--version`, or `-V` with anything after it. `help` in front is
+/// `--help` at the end: `mgr help show` asks for what `mgr show --help` does. `Usage` at any other
+/// command line, and `Memory`.
 pub fn job_of(alloc: Global, words: &[String]) -> Result<Job, JobFault>
     ensures job { IfOk result (IsJobOf (wish_of (map string_bytes words.now))) }
     ensures fault { IfErr result (IsFaultOf (wish_of (map string_bytes words.now))) }
@@ -95,44 +106,34 @@ pub fn job_of(alloc: Global, words: &[String]) -> Result<Job, JobFault>
     }
 }
 
-/// The job that matches ask for, where the words are such that help would be on this topic.
+/// The job that matches ask for, if the words are such that help would be on this topic.
 fn chosen(alloc: Global, topic: Topic, matches: &ArgMatches<'_>) -> Result<Job, JobFault>
-    ensures job { IfOk result (IsChosen topic (rows_behind matches.now)) }
+    ensures job { IfOk result (λ job. FoundGives topic (rows_behind matches.now) (Some job)) }
     ensures fault { IfErr result (IsNotChosen topic (rows_behind matches.now)) }
 {
-    match topic {
-        Topic::Edit => edit_of(alloc, matches),
-        Topic::Compact => compact_of(alloc, matches),
-        Topic::Program | Topic::Show => Ok(Job::Show),
+    let Some((_, found)) = matches.subcommand() else {
+        return Err(mistake(alloc, "nothing is to be done"));
+    };
+    match job_given(alloc, topic, found)? {
+        Some(job) => Ok(job),
+        None => Err(mistake(alloc, "the name is missing or empty")),
     }
 }
 
-/// The session that `edit` was asked for.
-fn edit_of(alloc: Global, matches: &ArgMatches<'_>) -> Result<Job, JobFault>
-    ensures job { IfOk result (IsChosen Topic.Edit (rows_behind matches.now)) }
-    ensures fault { IfErr result (IsNotChosen Topic.Edit (rows_behind matches.now)) }
+/// The job of a topic that clap's matches give; none if the name is missing or empty, and on the
+/// program.
+fn job_given(alloc: Global, topic: Topic, found: &ArgMatches<'_>) -> Result<Option<Job>, AllocError>
+    ensures { IfOk result (GivesJob topic (rows_of (found_of found.now))) }
 {
-    let Some((_, found)) = matches.subcommand() else {
-        return Err(mistake(alloc, "nothing is to be edited"));
-    };
-    match settings_of(alloc, found)? {
-        Some(settings) => Ok(Job::Edit(settings)),
-        None => Err(mistake(alloc, "the name is empty")),
-    }
-}
-
-/// The note that `compact` was asked for.
-fn compact_of(alloc: Global, matches: &ArgMatches<'_>) -> Result<Job, JobFault>
-    ensures job { IfOk result (IsChosen Topic.Compact (rows_behind matches.now)) }
-    ensures fault { IfErr result (IsNotChosen Topic.Compact (rows_behind matches.now)) }
-{
-    let Some((_, found)) = matches.subcommand() else {
-        return Err(mistake(alloc, "nothing is to be compacted"));
-    };
-    match compaction_of(alloc, found)? {
-        Some(compaction) => Ok(Job::Compact(compaction)),
-        None => Err(mistake(alloc, "the name is empty")),
-    }
+    Ok(match topic {
+        Topic::Program => None,
+        Topic::Show => shown_of(alloc, found)?.map(Job::Show),
+        Topic::Edit => settings_of(alloc, found)?.map(Job::Edit),
+        Topic::Compact => note_of(alloc, found, "dels")?.map(Job::Compact),
+        Topic::Join => Some(Job::Join(logs_of(alloc, found)?)),
+        Topic::Log => note_of(alloc, found, "json")?.map(Job::Log),
+        Topic::Who => note_of(alloc, found, "lines")?.map(Job::Who),
+    })
 }
 
 /// The words as clap is given them: for `help` in front, `--help` stands behind.
@@ -172,6 +173,15 @@ fn topic_of(words: &[&str]) -> Topic
     }
     if first == Some(&"compact") {
         return Topic::Compact;
+    }
+    if first == Some(&"join") {
+        return Topic::Join;
+    }
+    if first == Some(&"log") {
+        return Topic::Log;
+    }
+    if first == Some(&"who") {
+        return Topic::Who;
     }
     Topic::Program
 }

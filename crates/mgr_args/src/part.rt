@@ -3,6 +3,7 @@ ghost use Rattle.std.specs.Prelude.{◌≡◌, ◌∷◌, [], ◌++◌, OnOk};
 ghost use Rattle.clap.specs.Simple.{new_app};
 ghost use Rattle.mgr_args.specs.Rules as spec;
 
+use clap::builder::ValueParser;
 use clap::{Arg, ArgAction, Command};
 use std::alloc::{AllocError, Global};
 
@@ -36,6 +37,17 @@ pub(crate) fn add_name<'a>(alloc: Global, args: &mut Vec<Arg<'a>>) -> Result<(),
         .required(true)
         .help("The buffer, and the file of its text");
     push(args, name)
+}
+
+/// A number after `--id`, within limits.
+pub(crate) fn number<'a>(alloc: Global, id: &'a str, least: u64, most: u64) -> Arg<'a>
+    ensures { spec.IsLocal (spec.number_rule id.entry.now least most) result }
+{
+    Arg::new(alloc, id)
+        .long(id)
+        .action(ArgAction::Set)
+        .value_name("N")
+        .value_parser(ValueParser::unsigned(least, most))
 }
 
 /// A flag `--id`, with the words of its help.

@@ -1,12 +1,11 @@
 -- An accepted log has no fewer lines than it is compacted to.
-use Rattle.std.proofs.Common.{◌≡◌, ℕ, ◌≤◌, Bool, false, ◌||◌, List, [], ◌∷◌, ◌++◌, length, Result, Ok, refl, sym, ap, subst, ◌∙◌, append-nil, inl, inr, ◌⊎◌, arith}
+use Rattle.std.proofs.Common.{◌≡◌, ℕ, ◌≤◌, Bool, false, ◌||◌, List, [], ◌∷◌, ◌++◌, length, sym, ap, subst, ◌∙◌, append-nil, inl, inr, ◌⊎◌}
 use Rattle.std.specs.List.{AllByRecursion}
 use Rattle.std.proofs.Math.Bool.{or-false}
 use Rattle.std.proofs.lemmas.List.Folds.{list_any-append}
 use Rattle.rga_ops.specs.Content.{content_of, nothing, IsAgreed}
-use Rattle.rga_ops.specs.declared.op.Op.{Op}
 use Rattle.rga_store.specs.declared.text_store.TheConstants.{MAX_LIMIT}
-use Rattle.rga_lines.specs.Log.{operations_of, then_operations, log_operations, IsOperation, HasOnlyOperations}
+use Rattle.rga_lines.specs.Log.{operations_of, then_operations, IsOperation, HasOnlyOperations}
 use Rattle.rga_lines.specs.Stream.{lines_of, rest_of}
 use Rattle.rga_lines.specs.Table.{AnyReading, any_line_at}
 use Rattle.rga_lines.proofs.StandLemmas.{nothing_says, nothing_stands}
@@ -21,7 +20,7 @@ use Rattle.mgr_show.proofs.ShownLaws.{read_to_end}
 
 only_operations : (bytes : List ℕ) → IsAccepted bytes → HasOnlyOperations bytes
 only_operations bytes h =
-    let w = read_to_end MAX_LIMIT (log_content bytes) bytes h.content in
+    let w = read_to_end MAX_LIMIT nothing (log_content bytes) bytes h.content in
     log_only_operations MAX_LIMIT nothing (log_content bytes) w.0 bytes w.1 w.2
 
 all_append : (lines : List (List ℕ)) (line : List ℕ) → AllByRecursion IsOperation lines → IsOperation line → AllByRecursion IsOperation (lines ++ line ∷ [])

@@ -1,9 +1,9 @@
 -- What is written of an accepted log.
 use Rattle.std.proofs.Common.{◌≡◌, ℕ, ◌+◌, List, Option, Some, None, Result, Ok, Err, refl, sym, ap, subst, ◌∙◌, inr}
 use Rattle.std.specs.Prelude.{IfErr, IfSome, ◌⊎◌}
-use Rattle.rga_ops.specs.Content.{Content, nothing, content_of}
+use Rattle.rga_ops.specs.Content.{Content, nothing}
+use Rattle.rga_ops.specs.Answer.{taken_one_by_one}
 use Rattle.rga_ops.proofs.TakenLaws.{taken_from_nothing, taken_list_agrees}
-use Rattle.rga_ops.specs.Content.{IsAgreed}
 use Rattle.rga_ops.specs.declared.refusal.Refusal.{Refusal}
 use Rattle.rga_store.specs.Kept.{Kept}
 use Rattle.rga_store.specs.declared.text_store.TheConstants.{MAX_LIMIT}
@@ -24,18 +24,18 @@ use Rattle.mgr_show.specs.declared.fault.ShowFault.TheVariants as fault
 use Rattle.mgr_show.specs.Log.{ShowOutcome, show_fault, at_end, outcome_of, shown_from, log_of}
 use Rattle.mgr_show.specs.Shown.{shown_bytes, log_content, IsAccepted, IsTextOf, ShowsLog, BeginsToShow}
 
-abbrev shows_it : Content → ShowOutcome
+abbrev pub shows_it : Content → ShowOutcome
 shows_it c = Ok c
 
-abbrev outcome : Content → Result LogRead LogFault → LogOutcome
+abbrev pub outcome : Content → Result LogRead LogFault → LogOutcome
 outcome c r = (c, r)
 
-abbrev fails : ShowFault → ShowOutcome
+abbrev pub fails : ShowFault → ShowOutcome
 fails e = Err e
 
--- a log whose text is shown was read to its end, and nothing was torn off
-pub read_to_end : (limit : ℕ) (c : Content) (bytes : List ℕ) → log_of limit bytes ≡ Ok c → (read : LogRead) × (log_outcome limit nothing bytes ≡ (c, Ok read)) × HasNothingTorn read.end
-read_to_end limit c bytes h = by_outcome (log_outcome limit nothing bytes) refl h
+-- a log that is accepted was read to its end, and nothing was torn off
+pub read_to_end : (limit : ℕ) (start c : Content) (bytes : List ℕ) → shown_from limit start bytes ≡ Ok c → (read : LogRead) × (log_outcome limit start bytes ≡ (c, Ok read)) × HasNothingTorn read.end
+read_to_end limit start c bytes h = by_outcome (log_outcome limit start bytes) refl h
   where
     by_end : (d : Content) (n : ℕ) (end : LogEnd) → at_end d n end ≡ Ok c → (d ≡ c) × HasNothingTorn end
     by_end d n Whole h = let same : shows_it d ≡ shows_it c = h in let is : d ≡ c = cc in (is, tt)
@@ -46,18 +46,23 @@ read_to_end limit c bytes h = by_outcome (log_outcome limit nothing bytes) refl 
     by_result d (Ok read) h = let ended = by_end d read.lines read.end h in (read, ap (λ e. outcome e (Ok read)) ended.0, ended.1)
     by_result d (Err e) h = let clash : fails (show_fault e) ≡ shows_it c = h in absurd cc
 
-    by_outcome : (p : LogOutcome) → log_outcome limit nothing bytes ≡ p → outcome_of p.0 p.1 ≡ Ok c → (read : LogRead) × (log_outcome limit nothing bytes ≡ (c, Ok read)) × HasNothingTorn read.end
+    by_outcome : (p : LogOutcome) → log_outcome limit start bytes ≡ p → outcome_of p.0 p.1 ≡ Ok c → (read : LogRead) × (log_outcome limit start bytes ≡ (c, Ok read)) × HasNothingTorn read.end
     by_outcome (d, r) is h = let w = by_result d r h in (w.0, is ∙ w.1, w.2)
 
-log_content_is : (limit : ℕ) (bytes : List ℕ) (c : Content) → log_of limit bytes ≡ Ok c → c ≡ content_of (log_operations bytes)
-log_content_is limit bytes c h =
-    let w = read_to_end limit c bytes h in
-    taken_from_nothing limit (log_operations bytes) c (log_taken limit nothing c w.0 bytes w.1)
+-- and one that is read so is accepted
+pub read_is_accepted : (limit : ℕ) (start c : Content) (bytes : List ℕ) (read : LogRead) → log_outcome limit start bytes ≡ (c, Ok read) → HasNothingTorn read.end → shown_from limit start bytes ≡ Ok c
+read_is_accepted limit start c bytes read is whole = ap (λ (p : LogOutcome). outcome_of p.0 p.1) is ∙ by_end read.end whole
+  where
+    by_end : (end : LogEnd) → HasNothingTorn end → at_end c read.lines end ≡ Ok c
+    by_end Whole whole = refl
+    by_end Bare whole = refl
+    by_end (Torn k) whole = absurd whole
 
-log_agrees : (limit : ℕ) (bytes : List ℕ) (c : Content) → log_of limit bytes ≡ Ok c → IsAgreed (log_operations bytes)
-log_agrees limit bytes c h =
-    let w = read_to_end limit c bytes h in
-    taken_list_agrees limit nothing (log_operations bytes) c (log_taken limit nothing c w.0 bytes w.1)
+-- its operations were taken one by one
+pub accepted_taken : (limit : ℕ) (start c : Content) (bytes : List ℕ) → shown_from limit start bytes ≡ Ok c → taken_one_by_one limit start (log_operations bytes) ≡ Ok c
+accepted_taken limit start c bytes h =
+    let w = read_to_end limit start c bytes h in
+    log_taken limit start c w.0 bytes w.1
 
 -- the content that a log stands for, of a store that took it from the start
 pub record IsContentOf (bytes : List ℕ) (c : Content) : Type 0 where
@@ -66,8 +71,9 @@ pub record IsContentOf (bytes : List ℕ) (c : Content) : Type 0 where
 
 content_of_log : (bytes : List ℕ) (c : Content) → log_of MAX_LIMIT bytes ≡ Ok c → IsContentOf bytes c
 content_of_log bytes c h =
-    let content : c ≡ log_content bytes = log_content_is MAX_LIMIT bytes c h in
-    record { accepted = record { agreed = log_agrees MAX_LIMIT bytes c h; content = h ∙ ap Ok content }; is = content }
+    let taken = accepted_taken MAX_LIMIT nothing c bytes h in
+    let content : c ≡ log_content bytes = taken_from_nothing MAX_LIMIT (log_operations bytes) c taken in
+    record { accepted = record { agreed = taken_list_agrees MAX_LIMIT nothing (log_operations bytes) c taken; content = h ∙ ap Ok content }; is = content }
 
 pub content_of_input : (known : Option (List ℕ)) (limit : ℕ) (start c : Content) → limit ≡ MAX_LIMIT → start ≡ nothing
     → IfSome known (λ bytes. shown_from limit start bytes ≡ Ok c) → IfSome known (λ bytes. IsContentOf bytes c)

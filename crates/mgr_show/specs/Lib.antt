@@ -2,3 +2,5 @@ pub mod Log
 pub mod Shown
 pub mod Compacted
 pub mod Sources
+pub mod Joined
+pub mod Note

@@ -24,8 +24,8 @@ use std::io::{Read, Write};
 
 /// Reads operation lines to the end of the input, and writes what they make in as few lines as runs
 /// allow: a log that stands for the same content, and nothing else. Deletions are in runs too with
-/// `dels`, and where the input has a run of deletions. A last line without newline counts where it is
-/// an operation.
+/// `dels`, and where the input has a run of deletions. A last line without newline counts where it
+/// is an operation.
 ///
 /// Faults of the input as of `show_ops`. Nothing is written before the whole input was taken. Where
 /// `Write` or `Memory` is answered then, a beginning of the lines was written.
@@ -64,7 +64,7 @@ pub fn compact_log<R: Read, W: Write>(
 }
 
 /// Writes the lines of what records hold.
-fn compact_records<W: Write>(
+pub(crate) fn compact_records<W: Write>(
     alloc: Global,
     records: &Records,
     dels: bool,

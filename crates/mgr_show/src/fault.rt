@@ -1,7 +1,8 @@
-//! Why `mgr show` ends without the text, or `mgr compact` without the log.
+//! Why `mgr show` ends without the text, or `mgr compact` and `mgr join` without the log.
 ghost use Rattle.std.specs.Prelude.{◌≡◌};
 ghost use Rattle.mgr_show.specs.Log.{show_fault};
 ghost use Rattle.mgr_show.specs.Compacted.{send_fault};
+ghost use Rattle.mgr_show.specs.Joined.{at_log, join_fault};
 
 use rga_exchange::{LogFault, SendFault};
 use rga_lines::LineFault;
@@ -45,6 +46,40 @@ impl From<SendFault> for ShowFault {
         match fault {
             SendFault::Write => ShowFault::Write,
             SendFault::Memory => ShowFault::Memory,
+        }
+    }
+}
+
+/// Why `mgr join` ends without the whole join.
+#[derive(Clone, Copy, PartialEq, Eq)]
+pub enum JoinFault {
+    /// The log with this index, from 0, is refused or can't be read: never `Write` or `Memory`.
+    Log(usize, ShowFault),
+    /// The device of the output failed.
+    Write,
+    /// A growth of memory was refused.
+    Memory,
+}
+
+impl JoinFault {
+    /// The fault of the log with this index: memory is no log's.
+    pub(crate) fn at_log(index: usize, fault: ShowFault) -> JoinFault
+        ensures { result ≡ at_log index fault }
+    {
+        match fault {
+            ShowFault::Memory => JoinFault::Memory,
+            other => JoinFault::Log(index, other),
+        }
+    }
+}
+
+impl From<SendFault> for JoinFault {
+    ghost from_gives = { λ fault e. e ≡ join_fault fault };
+
+    fn from(fault: SendFault) -> JoinFault {
+        match fault {
+            SendFault::Write => JoinFault::Write,
+            SendFault::Memory => JoinFault::Memory,
         }
     }
 }

@@ -93,6 +93,7 @@ pub(crate) fn take_whole_log<T: Taker, R: Read>(
         reader.old reader.new (intake T.limit T.content T.follows taker.old taker.new)) }
     ensures device { CountsAs ShowFault.Read result reader.old reader.new }
     ensures no_write { result ≢ Err ShowFault.Write }
+    ensures limit { T.limit taker.new ≡ T.limit taker.old }
 {
     let log = take_log(alloc, taker, reader, deletion_runs)?;
     match log.end {

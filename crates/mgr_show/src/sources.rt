@@ -11,7 +11,7 @@ pub trait Sources {
     /// What stands under a name, where it is told.
     ghost contents: { Self → List ℕ → Option (List ℕ) };
 
-    /// How many calls failed.
+    /// How many reads failed.
     ghost failures: { Self → ℕ };
 
     /// All bytes of the file of a name. `Read` where there is none and where it can't be read, and

@@ -1,7 +1,8 @@
 //! Calls of libraries that no program shows: devices that are counted, exchanges that are cut off,
 //! lines that are lent, runs at stores that are nearly full, writes in blocks, plans that no key
 //! leads to, cursors that no window shows, frames and texts that are not flushed, saves over a port
-//! that refuses, files over a disk that fails, and stores and logs that are compacted.
+//! that refuses, files over a disk that fails, stores and logs that are compacted, and logs that
+//! are read by their names.
 #![tactic(auto)]
 
 #[cfg(test)]
@@ -12,6 +13,8 @@ mod cuts;
 mod devices;
 #[cfg(test)]
 mod disks;
+#[cfg(test)]
+mod joins;
 #[cfg(test)]
 mod lines;
 #[cfg(test)]

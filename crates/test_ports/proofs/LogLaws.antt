@@ -1,5 +1,5 @@
 -- A log in memory, under the empty name.
-use Rattle.std.proofs.Common.{◌≡◌, ◌≢◌, ◌∙◌, arith, sym, subst, ℕ, suc, Bool, true, false, List, [], ◌∷◌, ◌++◌, length, ◌==◌, Option, Some, None, Result, Ok, Err, refl, ap, inl, inr}
+use Rattle.std.proofs.Common.{◌≡◌, arith, subst, ℕ, suc, Bool, true, false, List, [], ◌∷◌, ◌++◌, length, ◌==◌, Option, Some, Result, Ok, Err, refl, ap, inl}
 use Rattle.std.specs.Prelude.{IfSome}
 use Rattle.std.specs.Option.{option_map}
 use Rattle.std.proofs.lemmas.Option.{same_Some}

@@ -1,9 +1,9 @@
 //! A port in memory for tests: files by name, the calls that were made, and calls that fail; a disk
-//! whose steps fail, and a log over one.
+//! whose steps fail, and a log over one; files that are read.
 //!
-//! Only tests use this crate. It stands on mg_files and mgr_port; the layer above may rest on the
-//! contracts of `Port`, `Disk` and `Logs`, by which they tell their calls and steps, and for the
-//! rest on the comments.
+//! Only tests use this crate. It stands on mg_files, mgr_show and mgr_port; the layer above may
+//! rest on the contracts of `Port`, `Disk`, `Logs` and `Sources`, by which they tell their calls,
+//! steps and bytes, and for the rest on the comments.
 #![tactic(auto)]
 
 mod call;
@@ -12,9 +12,11 @@ mod folder;
 mod link;
 mod logs;
 mod port;
+mod sources;
 
 pub use call::MadeCall;
 pub use disk::{MadeStep, MemoryDisk};
 pub use link::NoLink;
 pub use logs::MemoryLogs;
 pub use port::MemoryPort;
+pub use sources::MemorySources;

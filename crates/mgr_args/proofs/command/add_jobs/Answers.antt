@@ -1,13 +1,15 @@
 use Rattle.std.proofs.Common.{codes}
 use Rattle.std.proofs.lemmas.Result.{on_ok_weaker}
-use Rattle.clap.specs.Simple.{new_app}
-use Rattle.mgr_args.specs.Compact.{compact_app}
 use Rattle.mgr_args.specs.Edit.{edit_app}
-use Rattle.mgr_args.proofs.Adding.{three_jobs}
+use Rattle.mgr_args.specs.Rules.{join_app, note_app, show_app}
+use Rattle.mgr_args.proofs.Adding.{more_jobs, one_job}
 use Rattle.mgr_args.proofs.command.add_jobs.Goals as goal
 
 pub returns : goal.returns
 returns c =
-    on_ok_weaker c.push-3.result
-    (λ is. three_jobs _ _ _ _ _ _ _ (new_app (codes "show")) edit_app compact_app c.in_ok-push.ensures c.described.ensures c.in_ok-push-2.ensures c.in_ok-edit.ensures is c.in_ok-compact.ensures)
-    c.push-3.ensures
+    let shows = one_job _ _ _ show_app c.in_ok-push.ensures c.in_ok-show.ensures in
+    let edits = more_jobs _ _ _ _ _ shows (one_job _ _ _ edit_app c.in_ok-push-2.ensures c.in_ok-edit.ensures) in
+    let compacts = more_jobs _ _ _ _ _ edits (one_job _ _ _ (note_app (codes "compact") (codes "dels")) c.in_ok-push-3.ensures c.in_ok-compact.ensures) in
+    let joins = more_jobs _ _ _ _ _ compacts (one_job _ _ _ join_app c.in_ok-push-4.ensures c.in_ok-join.ensures) in
+    let logs = more_jobs _ _ _ _ _ joins (one_job _ _ _ (note_app (codes "log") (codes "json")) c.in_ok-push-5.ensures c.in_ok-log.ensures) in
+    on_ok_weaker c.push-6.result (λ is. more_jobs _ _ _ _ _ logs (one_job _ _ _ (note_app (codes "who") (codes "lines")) is c.in_ok-who.ensures)) c.push-6.ensures

@@ -1,6 +1,7 @@
 use Rattle.std.proofs.lemmas.Result.{on_ok_weaker}
 use Rattle.clap.specs.Walk.{Rule}
-use Rattle.mgr_args.specs.Edit.{number_rule, with_default}
+use Rattle.mgr_args.specs.Edit.{with_default}
+use Rattle.mgr_args.specs.Rules.{number_rule}
 use Rattle.mgr_args.proofs.Adding.{added, rule_defaulted, rule_helped}
 use Rattle.mgr_args.proofs.edit.add_number.Goals as goal
 

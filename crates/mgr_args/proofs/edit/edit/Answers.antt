@@ -1,4 +1,3 @@
-use Rattle.std.proofs.Common.{ap}
 use Rattle.std.proofs.lemmas.Result.{IfOk-weaker}
 use Rattle.mgr_args.specs.Edit.{edit_rules}
 use Rattle.mgr_args.proofs.Adding.{of_none, takes_all}

@@ -5,5 +5,5 @@ use Rattle.mgr_args.proofs.given.number.Goals as goal
 
 pub returns : goal.returns
 returns c =
-    number_read from_str_gives-value.it (found_of c.args.found.now) c.args.id.now c.get_one.result (λ text read is. is.0)
+    number_read 16 from_str_gives-value.it (found_of c.args.found.now) c.args.id.now c.get_one.result (λ text read is. is.0)
     c.get_one.ensures.none c.get_one.ensures.value

@@ -1,7 +1,7 @@
 use Rattle.std.proofs.Common.{rules, ◌≡◌, List, None, refl, subst, sym, codes}
 use Rattle.clap.specs.Matches.{found_of}
 use Rattle.clap.specs.Walk.{Row, rows_of}
-use Rattle.mgr_args.specs.Edit.{GivesNumber}
+use Rattle.mgr_args.specs.Given.{GivesNumber}
 use Rattle.mgr_args.proofs.GivenLemmas.{flag_read}
 use Rattle.mgr_args.proofs.given.values_of.Goals as goal
 
@@ -16,8 +16,8 @@ returns-clause-options c =
     let numbers = c.in_ok-replica.ensures.some in
     record {
       replica = numbers.replica;
-      rows_of = subst (GivesNumber found (codes "rows")) (sym c.from.ensures) numbers.rows_of;
-      columns = subst (GivesNumber found (codes "cols")) (sym c.from-2.ensures) numbers.columns;
+      rows_of = subst (GivesNumber 16 found (codes "rows")) (sym c.from.ensures) numbers.rows_of;
+      columns = subst (GivesNumber 16 found (codes "cols")) (sym c.from-2.ensures) numbers.columns;
       fill = numbers.fill;
       port = c.number.ensures;
       trace = flag_read (found_of c.args.found.now) (codes "trace") _ c.get_flag.ensures.none c.get_flag.ensures.value c.get_flag.ensures.other;

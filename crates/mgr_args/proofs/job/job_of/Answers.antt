@@ -5,17 +5,14 @@ use Rattle.clap.specs.Simple.{app_of, is_simple}
 use Rattle.clap.specs.Values.{kind_of}
 use Rattle.clap.specs.Walk.{texts}
 use Rattle.mgr_args.specs.CommandLine.{command_line, topic_of, wish_of, with_help_flag}
-use Rattle.mgr_args.specs.Job.{IsChosen, IsFaultOf, IsFaultOfKind, IsJobOf, IsNotChosen, rows_behind}
-use Rattle.mgr_args.specs.declared.job.Job.{Job}
-use Rattle.mgr_args.specs.declared.job.JobFault.{JobFault}
+use Rattle.mgr_args.specs.Job.{IsFaultOf, IsFaultOfKind, rows_behind}
 use Rattle.mgr_args.specs.declared.job.JobFault.TheVariants.{Memory}
-use Rattle.mgr_args.proofs.CommandLineLemmas.{chooses, command_line_is_plain, command_line_is_simple, memory_of, wish_fault, word_kinds}
+use Rattle.mgr_args.proofs.CommandLineLemmas.{Chooses, chooses, command_line_is_plain, command_line_is_simple, memory_of, wish_fault, word_kinds}
 use Rattle.mgr_args.proofs.job.job_of.Goals.{After-drop-words-in-Ok-try_get_matches_from}
 use Rattle.mgr_args.proofs.job.job_of.Goals as goal
 
 -- what is chosen of clap's matches is what is wished for
-wished : (c : After-drop-words-in-Ok-try_get_matches_from) → ((j : Job) → IsChosen c.topic_of-topic.result (rows_behind c.in-Ok-try_get_matches_from.matches) j → IsJobOf (wish_of (map string_bytes c.args.words.now)) j)
-    × ((f : JobFault) → IsNotChosen c.topic_of-topic.result (rows_behind c.in-Ok-try_get_matches_from.matches) f → IsFaultOf (wish_of (map string_bytes c.args.words.now)) f)
+wished : (c : After-drop-words-in-Ok-try_get_matches_from) → Chooses (wish_of (map string_bytes c.args.words.now)) c.topic_of-topic.result (rows_behind c.in-Ok-try_get_matches_from.matches)
 wished c =
     let app_is : app_of c.in-Ok.command ≡ command_line = search rules in
     let given_is : drop 1 (texts c.as_slice.result.now) ≡ with_help_flag (drop 1 (map string_bytes c.args.words.now)) = search rules in
@@ -25,10 +22,10 @@ wished c =
     chooses _ c.args.words.now _ _ _ app_is given_is topic_is kinds (ap (option_map (λ p. p.1)) matches.1)
 
 pub returns-in-Ok-try_get_matches_from-clause-job : goal.returns-in-Ok-try_get_matches_from-clause-job
-returns-in-Ok-try_get_matches_from-clause-job c = IfOk-weaker c.chosen.result _ _ (λ j is. (wished c).0 j is) c.chosen.ensures.job
+returns-in-Ok-try_get_matches_from-clause-job c = IfOk-weaker c.chosen.result _ _ (λ j is. (wished c).job j is) c.chosen.ensures.job
 
 pub returns-in-Ok-try_get_matches_from-clause-fault : goal.returns-in-Ok-try_get_matches_from-clause-fault
-returns-in-Ok-try_get_matches_from-clause-fault c = IfErr-weaker c.chosen.result _ _ (λ f is. (wished c).1 f is) c.chosen.ensures.fault
+returns-in-Ok-try_get_matches_from-clause-fault c = IfErr-weaker c.chosen.result _ _ (λ f is. (wished c).fault f is) c.chosen.ensures.fault
 
 pub returns-clause-fault : goal.returns-clause-fault
 returns-clause-fault c =

@@ -1,0 +1,66 @@
+//! The subcommands that take a note and a flag: `compact`, `log` and `who`.
+ghost use Rattle.std.specs.Prelude.{codes, IfOk};
+ghost use Rattle.mgr_args.specs.Rules.{IsPlain, IsToldOf, note_app, note_rules};
+
+use crate::part::{add_flag, add_name, described};
+use clap::{Arg, Command};
+use std::alloc::{AllocError, Global};
+
+const COMPACT_HELP: &str =
+    "NAME.ops then stands for the same operations in fewer lines; what it was is NAME.ops~:
+
+    mgr compact notes
+
+An mgr without `compact` does not read it, nor one without `--dels` what that wrote.";
+
+const LOG_HELP: &str = "NAME.ops is read, and the text NAME. A note that is open may be read, too:
+
+    mgr log notes
+    mgr log --json notes | jq .visible";
+
+const WHO_HELP: &str = "Each piece of the text is a line of JSON, with the replica that wrote it:
+
+    mgr who notes
+    mgr who --lines notes | less";
+
+/// `compact`, with the words of its help.
+pub(crate) fn compact<'a>(alloc: Global) -> Result<Command<'a>, AllocError>
+    ensures { IfOk result (IsPlain (note_app (codes "compact") (codes "dels"))) }
+{
+    let args = name_and_flag(alloc, "dels", "Write deletions in runs, too")?;
+    let about = "Write the log of a text anew, in fewer lines";
+    described(alloc, "compact", about, COMPACT_HELP).args(args)
+}
+
+/// `log`, with the words of its help.
+pub(crate) fn log<'a>(alloc: Global) -> Result<Command<'a>, AllocError>
+    ensures { IfOk result (IsPlain (note_app (codes "log") (codes "json"))) }
+{
+    let args = name_and_flag(alloc, "json", "Write one JSON object")?;
+    let about = "Count what stands in the log of a text";
+    described(alloc, "log", about, LOG_HELP).args(args)
+}
+
+/// `who`, with the words of its help.
+pub(crate) fn who<'a>(alloc: Global) -> Result<Command<'a>, AllocError>
+    ensures { IfOk result (IsPlain (note_app (codes "who") (codes "lines"))) }
+{
+    let help = "Write the lines of the text, with the replicas that wrote in each";
+    let args = name_and_flag(alloc, "lines", help)?;
+    let about = "Write a text with the replicas that wrote it";
+    described(alloc, "who", about, WHO_HELP).args(args)
+}
+
+/// A name, and a flag with the words of its help.
+fn name_and_flag<'a>(
+    alloc: Global,
+    flag: &'a str,
+    help: &'a str,
+) -> Result<Vec<Arg<'a>>, AllocError>
+    ensures { IfOk result (λ args. IsToldOf args.items (note_rules flag.entry.now)) }
+{
+    let mut args = Vec::new(alloc);
+    add_name(alloc, &mut args)?;
+    add_flag(alloc, &mut args, flag, help)?;
+    Ok(args)
+}

@@ -1,0 +1,47 @@
+//! What stands in the log of a note.
+ghost use Rattle.std.specs.Prelude.{◌≡◌, ◌≢◌, ◌⊎◌, true, Err, IfErr, IfSome, OnOk, OnErr};
+ghost use Rattle.rga_devices.specs.Counting.{CountsAs, WritesNothing};
+ghost use Rattle.mgr_show.specs.Shown.{IsOfInput};
+ghost use Rattle.mgr_look.specs.Notes.{log_name, read_of};
+ghost use Rattle.mgr_look.specs.Told.{WritesNumbers, BeginsToWriteNumbers};
+
+use crate::numbers::numbers_of;
+use crate::told::numbers_text;
+use mgr_show::{ShowFault, Sources, write_text};
+use rga_devices::Counted;
+use std::alloc::Global;
+use std::io::Write;
+
+/// Writes what stands in the log of a note: how many operations, insertions and deletions, how many
+/// elements are visible and how many wait, how many bytes, how it ends, whether the text that
+/// stands beside it is the log's, and how many characters each replica wrote, with the greatest
+/// counter of these. It writes lines for people, or with `json` one object in one line.
+///
+/// Faults as of `write_authors`. A text that can't be read is no fault: it is told as unread.
+pub fn write_numbers<S: Sources, W: Write>(
+    alloc: Global,
+    sources: &mut S,
+    name: &str,
+    json: bool,
+    writer: &mut Counted<W>,
+) -> Result<(), ShowFault>
+    ensures written { OnOk result (WritesNumbers W.contents writer.old writer.new json name.now
+        (S.contents sources.old (log_name name.now)) (S.contents sources.old name.now)) }
+
+    // A fault of the log is the first one of its bytes.
+    ensures refused { IfErr result (λ e. IsOfInput e →
+        IfSome (S.contents sources.old (log_name name.now)) (λ bytes. read_of bytes ≡ Err e)) }
+    ensures unwritten { IfErr result (λ e. e ≢ ShowFault.Write → writer.new ≡ writer.old) }
+    // Whatever fails, nothing was written or a beginning of what was to be.
+    ensures begun { OnErr result (WritesNothing W.contents writer.old writer.new
+        ⊎ BeginsToWriteNumbers W.contents writer.old writer.new json name.now
+        (S.contents sources.old (log_name name.now)) (S.contents sources.old name.now)) }
+    ensures flushed { OnOk result (writer.new.flushed ≡ true) }
+    ensures writes { CountsAs ShowFault.Write result writer.old writer.new }
+{
+    let numbers = numbers_of(alloc, sources, name)?;
+    let Ok(text) = numbers_text(alloc, name, json, numbers) else {
+        return Err(ShowFault::Memory);
+    };
+    write_text(&text, writer)
+}
