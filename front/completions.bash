@@ -51,7 +51,7 @@ _mgr() {
             ;;
         *)
             if ((COMP_CWORD == 1)); then
-                mapfile -t COMPREPLY < <(compgen -W "compact edit join log show who help --version --help" -- "$word")
+                mapfile -t COMPREPLY < <(compgen -W "claims compact edit join log merge missing show who help --version --help" -- "$word")
             elif [[ ${COMP_WORDS[1]} == edit ]]; then
                 _mgr_word "$word" --replica --rows --cols --fill --port --trace --newest --cursor --resizable --runs --brief --strict --help
             elif [[ ${COMP_WORDS[1]} == compact ]]; then
@@ -62,8 +62,17 @@ _mgr() {
                 _mgr_word "$word" --json --help
             elif [[ ${COMP_WORDS[1]} == who ]]; then
                 _mgr_word "$word" --lines --help
+            elif [[ ${COMP_WORDS[1]} == @(claims|missing) ]]; then
+                _mgr_word "$word" --help
             elif [[ ${COMP_WORDS[1]} == join ]]; then
                 _mgr_files "$word"
+            elif [[ ${COMP_WORDS[1]} == merge ]]; then
+                # A note comes first, and logs follow.
+                if [[ $COMP_CWORD -eq 2 || $word == -* || ($COMP_CWORD -eq 3 && $before == --adopt) ]]; then
+                    _mgr_word "$word" --adopt --help
+                else
+                    _mgr_files "$word"
+                fi
             fi
             ;;
     esac

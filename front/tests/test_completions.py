@@ -37,17 +37,22 @@ class TestCompletions(unittest.TestCase):
         self.assertEqual(completed("mgr-live", "--"), options_of(parser()))
         self.assertEqual(completed("mgr-hub", "note", "--"), options_of(hub_parser()))
         told = {f"--{name}" for name in re.findall(r"Fl -(\w+)", MANUAL.read_text())}
-        self.assertEqual(completed("/usr/bin/mgr", "edit", "note", "--"), sorted(told - {"--dels", "--json", "--lines"} | {"--help"}))
+        self.assertEqual(completed("/usr/bin/mgr", "edit", "note", "--"), sorted(told - {"--adopt", "--dels", "--json", "--lines"} | {"--help"}))
         self.assertEqual(completed("mgr-live", "--t"), ["--take-file"])
 
     def test_jobs(self) -> None:
         self.assertEqual(completed("mgr", "e"), ["edit"])
-        self.assertEqual(completed("mgr", "c"), ["compact"])
+        self.assertEqual(completed("mgr", "c"), ["claims", "compact"])
+        self.assertEqual(completed("mgr", "m"), ["merge", "missing"])
         self.assertEqual(completed("mgr", "compact", "--"), ["--dels", "--help"])
         self.assertEqual(completed("mgr", "show", "--"), ["--help", "--lines"])
         self.assertEqual(completed("mgr", "show", "note", "--lines", ""), [])
         self.assertEqual(completed("mgr", "log", "--"), ["--help", "--json"])
         self.assertEqual(completed("mgr", "who", "--"), ["--help", "--lines"])
+        self.assertEqual(completed("mgr", "claims", "--"), ["--help"])
+        self.assertEqual(completed("mgr", "missing", "--"), ["--help"])
+        self.assertEqual(completed("mgr", "merge", "--"), ["--adopt", "--help"])
+        self.assertEqual(completed("mgr", "merge", "note", "note.ops", "--"), ["--adopt", "--help"])
 
     def test_values(self) -> None:
         for words in (["--replica", ""], ["--replica=", "="], ["--with", "host", ":", "7"], ["--with", ""]):
@@ -61,7 +66,10 @@ class TestCompletions(unittest.TestCase):
             self.assertEqual(completed("mgr-live", "no", folder=folder), ["no text", "note", "notes"])
             self.assertEqual(completed("mgr", "join", "note", "note.", folder=folder), ["note.ops"])
             self.assertEqual(completed("mgr", "who", "--lines", "no", folder=folder), ["no text", "note", "notes"])
-            for job in ("edit", "compact", "show", "log", "who"):
+            self.assertEqual(completed("mgr", "merge", "--adopt", "no", folder=folder), ["no text", "note", "notes"])
+            for words in (["note"], ["--adopt", "note"], ["note", "note.ops"]):
+                self.assertEqual(completed("mgr", "merge", *words, "note.", folder=folder), ["note.ops"])
+            for job in ("edit", "compact", "show", "log", "who", "claims", "missing", "merge"):
                 self.assertEqual(completed("mgr", job, r"no\ t", folder=folder), ["no text"])
             self.assertEqual(completed("mgr-hub", '"no t', folder=folder), ["no text"])
             self.assertEqual(completed("mgr-live", "--", "--", folder=folder), ["--odd"])

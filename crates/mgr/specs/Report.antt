@@ -1,5 +1,5 @@
 -- What the shell is told of a fault.
-use Rattle.std.specs.Prelude.{ℕ, List, ◌++◌, Option, None, Some, Result, Ok, Err, codes, slice_get}
+use Rattle.std.specs.Prelude.{◌==◌, ℕ, List, ◌++◌, if◌then◌else◌, Option, None, Some, Result, Ok, Err, codes, slice_get}
 use Rattle.std.specs.Fmt.{decimal}
 use Rattle.rga_lines.specs.FaultName.{fault_name}
 use Rattle.rga_lines.specs.LineFault.{LineFault}
@@ -19,6 +19,10 @@ use Rattle.mgr_show.specs.declared.fault.JoinFault.{JoinFault}
 use Rattle.mgr_show.specs.declared.fault.JoinFault.TheVariants as join
 use Rattle.mgr_show.specs.declared.fault.ShowFault.{ShowFault}
 use Rattle.mgr_show.specs.declared.fault.ShowFault.TheVariants as show
+use Rattle.mgr_claims.specs.declared.fault.MissingFault.{MissingFault}
+use Rattle.mgr_claims.specs.declared.fault.MissingFault.TheVariants as missing
+use Rattle.mgr_merge.specs.declared.fault.MergeFault.{MergeFault}
+use Rattle.mgr_merge.specs.declared.fault.MergeFault.TheVariants as merge
 use Rattle.mgr.specs.declared.report.Message.{Message}
 use Rattle.mgr.specs.declared.report.Message.TheVariants as message
 
@@ -73,6 +77,22 @@ join_status (join.Log index fault) = show_status fault
 join_status join.Write = 3
 join_status join.Memory = 4
 
+abbrev pub missing_status : MissingFault → ℕ
+missing_status missing.Head = 1
+missing_status (missing.Claims fault) = log_status fault
+missing_status (missing.Log fault) = show_status fault
+missing_status missing.Write = 3
+missing_status missing.Memory = 4
+
+abbrev pub merge_status : MergeFault → ℕ
+merge_status merge.NoLog = 1
+merge_status (merge.Load fault) = load_status fault
+merge_status (merge.Log index fault) = show_status fault
+merge_status merge.Apart = 1
+merge_status merge.Far = 1
+merge_status merge.File = 3
+merge_status merge.Memory = 4
+
 -- those of answers: 0 where there is no fault
 abbrev pub shown_status : Result (Unit {0}) ShowFault → ℕ
 shown_status (Ok done) = 0
@@ -81,6 +101,10 @@ shown_status (Err fault) = show_status fault
 abbrev pub joined_status : Result (Unit {0}) JoinFault → ℕ
 joined_status (Ok done) = 0
 joined_status (Err fault) = join_status fault
+
+abbrev pub sent_status : Result ℕ MissingFault → ℕ
+sent_status (Ok number) = 0
+sent_status (Err fault) = missing_status fault
 
 abbrev pub edited_status : Result (Unit {0}) SessionFault → ℕ
 edited_status (Ok done) = 0
@@ -136,6 +160,40 @@ join_message names (join.Log index fault) = named_text (slice_get names index) (
 join_message names join.Write = codes "device fault"
 join_message names join.Memory = codes "out of memory"
 
+-- of claims, whose name stands in front
+abbrev pub claim_message : ℕ → LineFault → List ℕ
+claim_message number line.Memory = codes "out of memory"
+claim_message number fault = codes "claims: line " ++ (decimal number ++ (codes ": " ++ fault_name fault))
+
+abbrev pub refused_claim_message : ℕ → Refusal → List ℕ
+refused_claim_message number refusal.Memory = codes "out of memory"
+refused_claim_message number refusal = codes "claims: line " ++ (decimal number ++ (codes ": " ++ refusal_name refusal))
+
+abbrev pub claims_message : ReceiveFault → List ℕ
+claims_message (receive.Line number fault) = claim_message number fault
+claims_message (receive.Refused number refusal) = refused_claim_message number refusal
+claims_message receive.Cut = codes "claims: Cut"
+claims_message receive.Count = codes "claims: Count"
+claims_message receive.Read = codes "device fault"
+claims_message receive.Memory = codes "out of memory"
+
+abbrev pub missing_message : MissingFault → List ℕ
+missing_message missing.Head = codes "claims: no head"
+missing_message (missing.Claims fault) = claims_message fault
+missing_message (missing.Log fault) = show_message fault
+missing_message missing.Write = codes "device fault"
+missing_message missing.Memory = codes "out of memory"
+
+-- of the merge of logs with these names
+abbrev pub merge_message : List (List ℕ) → MergeFault → List ℕ
+merge_message names merge.NoLog = codes "text without a log"
+merge_message names (merge.Load fault) = load_message fault
+merge_message names (merge.Log index fault) = named_text (slice_get names index) (show_message fault)
+merge_message names merge.Apart = codes "logs of another note, which --adopt takes"
+merge_message names merge.Far = codes "counter far above the note's"
+merge_message names merge.File = codes "device fault"
+merge_message names merge.Memory = codes "out of memory"
+
 abbrev pub failure_message : Failure → List ℕ
 failure_message failure.Device = codes "device fault"
 failure_message (failure.Line number fault) = line_message number fault
@@ -154,5 +212,13 @@ session_message (session.Failed why) = failure_message why
 abbrev pub report_text : Message → List ℕ
 report_text (message.Line number name) = line_report number name.now
 report_text (message.File file name) = file.now ++ (codes ": " ++ name.now)
+report_text (message.Claim number name) = codes "claims: line " ++ (decimal number ++ (codes ": " ++ name.now))
+report_text (message.Note name) = name.now
 report_text message.Device = codes "device fault"
 report_text message.Memory = codes "out of memory"
+
+-- ---- the line on standard output
+
+-- how many operations of a merge were new
+abbrev pub count_line : ℕ → List ℕ
+count_line n = if n == 1 then codes "1 new operation\n" else (decimal n ++ codes " new operations\n")

@@ -1,5 +1,5 @@
 -- The exit status of the program.
-use Rattle.std.specs.Prelude.{◌≡◌, ◌≢◌, ◌⊎◌, ℕ, true, List, [], ◌∷◌, Option, Some, Result, Err, IfSome, codes, length, map, OnOk, OnErr, IfErr, string_bytes}
+use Rattle.std.specs.Prelude.{◌≡◌, ◌≢◌, ◌⊎◌, ℕ, Bool, true, List, [], ◌∷◌, Option, None, Some, Result, Err, IfSome, codes, length, map, OnOk, OnErr, IfOk, IfErr, string_bytes}
 use Rattle.rga_ops.specs.Content.{Content, nothing as no_content}
 use Rattle.rga_store.specs.declared.text_store.TheConstants.{MAX_LIMIT}
 use Rattle.rga_devices.specs.Counting.{Calls, CountsAs, StaysFlushed, OnBytes, Writes, WritesFront, WritesNothing, one_more}
@@ -8,8 +8,8 @@ use Rattle.rga_exchange.specs.declared.taking.Form.TheVariants.{Log}
 use Rattle.mgr_args.specs.declared.job.JobFault.{JobFault}
 use Rattle.mgr_args.specs.declared.job.JobFault.TheVariants.{Help, Version, Usage, Memory}
 use Rattle.mgr_show.specs.Log.{log_of}
-use Rattle.mgr.specs.Report.{edited_status, joined_status, shown_status}
-use Rattle.mgr.specs.Telling.{KnownTelling, TellsMore, line, text, edited_telling, joined_telling, shown_telling}
+use Rattle.mgr.specs.Report.{count_line, edited_status, joined_status, merge_message, merge_status, sent_status, shown_status}
+use Rattle.mgr.specs.Telling.{KnownTelling, TellsMore, line, text, edited_telling, joined_telling, sent_telling, shown_telling}
 use Rattle.mg_session.specs.declared.fault.SessionFault.{SessionFault}
 use Rattle.mg_session.specs.declared.fault.SessionFault.TheVariants as session
 use Rattle.mg_files.specs.Calls.{Call}
@@ -18,10 +18,19 @@ use Rattle.mg_settings.specs.Settings.{Values}
 use Rattle.mgr_args.specs.declared.given.Note.{Note}
 use Rattle.mgr_args.specs.declared.given.Shown.TheVariants.{Input, Front}
 use Rattle.mgr_args.specs.declared.job.Job.{Job}
-use Rattle.mgr_args.specs.declared.job.Job.TheVariants.{Show, Edit, Compact, Join, Log, Who}
+use Rattle.mgr_args.specs.declared.job.Job.TheVariants.{Show, Edit, Compact, Join, Log, Who, Claims, Missing, Merge}
 use Rattle.mgr_port.specs.Logs.{Standing, SameElsewhere, left}
 use Rattle.mgr_compact.specs.Ends.{EndsWell, EndsEarly, StaysSame, failures_after_compaction}
 use Rattle.mgr_show.specs.Shown.{IsOfInput, ShowsLog, BeginsToShow, log_content, shown_bytes}
+use Rattle.mgr_claims.specs.Claims.{BeginsToTell, TellsClaims}
+use Rattle.mgr_claims.specs.Missing.{BeginsMissing, IsOfClaims, IsOfLog as IsOfNote, OnBoth, WritesMissing, claims_heard, log_held, reads_failed as missing_reads_failed}
+use Rattle.mgr_claims.specs.Notes.{log_name as claimed_name, note_of as claimed_note}
+use Rattle.mgr_claims.specs.declared.fault.MissingFault.{MissingFault}
+use Rattle.mgr_claims.specs.declared.fault.MissingFault.TheVariants as missing
+use Rattle.mgr_merge.specs.Merging.{BeginsToMerge, FindsNoNote, IsRefusedBy, LoadsNote, Merges}
+use Rattle.mgr_merge.specs.declared.fault.MergeFault.{MergeFault}
+use Rattle.mgr_merge.specs.declared.fault.MergeFault.TheVariants as merge
+use Rattle.mg_buffer.specs.OpenState.{OpenState}
 use Rattle.mgr_look.specs.Authors.{authors_bytes}
 use Rattle.mgr_look.specs.Notes.{BeginsToWriteAbout, WritesAbout, read_of}
 use Rattle.mgr_look.specs.Told.{BeginsToWriteNumbers, WritesNumbers}
@@ -51,6 +60,13 @@ pub record Sourcing (S W : Type 0) : Type 0 where
   pub output : Calls W
   pub told : KnownTelling
 
+-- the port, the files that are read by their names, standard output, and what was told on standard error
+pub record MergeSide (P S W : Type 0) : Type 0 where
+  pub port : P
+  pub sources : S
+  pub output : Calls W
+  pub told : KnownTelling
+
 -- standard input and output and the port
 pub record Surroundings (R W P : Type 0) : Type 0 where
   pub input : Calls R
@@ -75,6 +91,9 @@ port_side port told = record { port = port; told = told }
 abbrev pub sourcing : {S W : Type 0} → S → Calls W → KnownTelling → Sourcing S W
 sourcing sources output told = record { sources = sources; output = output; told = told }
 
+abbrev pub merge_side : {P S W : Type 0} → P → S → Calls W → KnownTelling → MergeSide P S W
+merge_side port sources output told = record { port = port; sources = sources; output = output; told = told }
+
 abbrev pub surroundings : {R W P : Type 0} → Calls R → Calls W → P → KnownTelling → Surroundings R W P
 surroundings input output port told = record { input = input; output = output; port = port; told = told }
 
@@ -93,6 +112,22 @@ pub record Knowledge (R W P : Type 0) : Type 0 where
 abbrev pub known : {R W P : Type 0} → (R → Option (List ℕ)) → (W → Option (List ℕ)) → (P → Option (List Call)) → (P → ℕ) → (P → List ℕ → Option Standing) → (P → ℕ) → Knowledge R W P
 known remaining contents calls failures standing log_failures =
     record { remaining = remaining; contents = contents; calls = calls; failures = failures; standing = standing; log_failures = log_failures }
+
+-- ---- what is printed
+
+module _ {W : Type 0} (contents : W → Option (List ℕ)) where
+  -- A text was printed, all of it where it is known, or not: 3 exactly where standard output failed, and else 0, or 4
+  -- where memory is wanting, and then nothing was written.
+  pub record IsStatusOfPrint (printed : Option (List ℕ)) (status : ℕ) (old new : Calls W) (told telling : KnownTelling) : Type 0 where
+    pub written : status ≡ 0 → IfSome printed (λ text. Writes contents old new text)
+    pub failed : status ≡ 3 → new.failures ≡ one_more old.failures
+    pub unfailed : status ≢ 3 → new.failures ≡ old.failures
+    pub others : (status ≡ 0) ⊎ (status ≡ 3) ⊎ (status ≡ 4)
+    pub unwritten : status ≡ 4 → new ≡ old
+    pub flushed : status ≡ 0 → new.flushed ≡ true
+    pub untold : status ≡ 0 → TellsMore told telling []
+    pub device : status ≡ 3 → TellsMore told telling (line (codes "device fault") ∷ [])
+    pub memory : status ≡ 4 → TellsMore told telling (line (codes "out of memory") ∷ [])
 
 -- ---- the status of a job
 
@@ -155,6 +190,32 @@ module _ {S W : Type 0} (files : S → List ℕ → Option (List ℕ)) (contents
       (λ bytes. BeginsToWriteAbout contents before.output after.output bytes (authors_bytes n.flag (log_content bytes)))
       (λ bytes e. read_of bytes ≡ Err e) status before after
 
+  -- of `claims`: the claims of what the log holds
+  abbrev pub IsStatusOfClaims : List ℕ → ℕ → Sourcing S W → Sourcing S W → Type 0
+  IsStatusOfClaims name status before after =
+      IsStatusOfLog contents failures (files before.sources (claimed_name name))
+      (λ bytes. TellsClaims contents before.output after.output bytes)
+      (λ bytes. BeginsToTell contents before.output after.output bytes)
+      (λ bytes e. claimed_note MAX_LIMIT bytes ≡ Err e) status before after
+
+  -- That of an answer to `missing`, which says what was written of what the claims on standard input lack, whether they or
+  -- the log are refused, and what is told.
+  pub record IsStatusOfMissing (name : List ℕ) (status : ℕ) (before after : Sourcing S W) : Type 0 where
+    pub answer : Result ℕ MissingFault
+    pub exact : status ≡ sent_status answer
+    pub told_line : TellsMore before.told after.told (sent_telling answer)
+    pub written : IfOk answer (λ number. OnBoth (files before.sources (codes "-")) (files before.sources (claimed_name name))
+        (λ claims log. WritesMissing contents before.output after.output claims log number))
+    pub claims : IfErr answer (λ e. IsOfClaims e → IfSome (files before.sources (codes "-")) (λ bytes. claims_heard bytes ≡ Err e))
+    pub log : IfErr answer (λ e. IsOfNote e → IfSome (files before.sources (claimed_name name)) (λ bytes. log_held bytes ≡ Err e))
+    pub unwritten : IfErr answer (λ e. e ≢ missing.Write → e ≢ missing.Memory → after.output ≡ before.output)
+    pub nothing : IfErr answer (λ e. e ≢ missing.Write → WritesNothing contents before.output after.output)
+    pub begun : OnErr answer (OnBoth (files before.sources (codes "-")) (files before.sources (claimed_name name))
+        (λ claims log. WritesNothing contents before.output after.output ⊎ BeginsMissing contents before.output after.output claims log))
+    pub flushed : OnOk answer (after.output.flushed ≡ true)
+    pub reads : failures after.sources ≡ missing_reads_failed answer (failures before.sources)
+    pub writes : CountsAs missing.Write answer before.output after.output
+
   -- That of an answer to `log`, which says what was written of what stands in the log and in the text.
   pub record IsStatusOfNumbers (n : Note) (status : ℕ) (before after : Sourcing S W) : Type 0 where
     pub answer : Result (Unit {0}) ShowFault
@@ -182,6 +243,21 @@ module _ {S W : Type 0} (files : S → List ℕ → Option (List ℕ)) (contents
     pub reads : failures after.sources ≡ reads_failed answer (failures before.sources)
     pub writes : CountsAs join.Write answer before.output after.output
 
+module _ {P S W : Type 0} (calls : P → Option (List Call)) (files : S → List ℕ → Option (List ℕ)) (contents : W → Option (List ℕ)) where
+  -- That of an answer to `merge`, which says what became of the note, why the logs are refused, and what is told. The count of
+  -- new operations is printed once the merge is done, and its status is that of the print.
+  pub record IsStatusOfMerge (name : List ℕ) (logs : List (List ℕ)) (adopt : Bool) (status : ℕ) (before after : MergeSide P S W) : Type 0 where
+    pub answer : Result ℕ MergeFault
+    pub merged : IfOk answer (λ new. OnLogs (files before.sources) logs (λ logs. Merges (calls before.port) (calls after.port) name adopt logs new))
+    pub counted : IfOk answer (λ new. IsStatusOfPrint contents (Some (count_line new)) status before.output after.output before.told after.told)
+    pub exact : IfErr answer (λ e. status ≡ merge_status e)
+    pub told_line : IfErr answer (λ e. TellsMore before.told after.told (line (merge_message logs e) ∷ []))
+    pub unwritten : OnErr answer (after.output ≡ before.output)
+    pub refused : IfErr answer (λ e. e ≢ merge.File → e ≢ merge.Memory
+        → FindsNoNote (calls before.port) (calls after.port) name e
+        ⊎ ((b : OpenState) × LoadsNote (calls before.port) (calls after.port) name b × OnLogs (files before.sources) logs (λ logs. IsRefusedBy b adopt logs e)))
+    pub begun : OnErr answer (OnLogs (files before.sources) logs (λ logs. BeginsToMerge (calls before.port) (calls after.port) name logs))
+
 module _ {R W P : Type 0} (k : Knowledge R W P) where
   -- That of an answer of a session, which says what became of the keys, which device failed and what is told.
   pub record IsStatusOfEdit (settings : Values) (status : ℕ) (before after : Surroundings R W P) : Type 0 where
@@ -203,6 +279,10 @@ module _ {R W P S : Type 0} (k : Knowledge R W P) (files : S → List ℕ → Op
   abbrev pub read_side : Outside R W P S → Sourcing S W
   read_side o = sourcing o.sources o.output o.told
 
+  -- the port beside them
+  abbrev pub port_sides : Outside R W P S → MergeSide P S W
+  port_sides o = merge_side o.port o.sources o.output o.told
+
   -- of a job: each has to do with some of them alone
   abbrev pub IsStatusOfJob : Job → ℕ → Outside R W P S → Outside R W P S → Type 0
   IsStatusOfJob (Show Input) status before after =
@@ -219,24 +299,19 @@ module _ {R W P S : Type 0} (k : Knowledge R W P) (files : S → List ℕ → Op
   IsStatusOfJob (Join names) status before after =
       IsStatusOfJoin files k.contents failures (map string_bytes names.items) status (read_side before) (read_side after) × OnlyReads before after
   IsStatusOfJob (Log n) status before after = IsStatusOfNumbers files k.contents failures n status (read_side before) (read_side after) × OnlyReads before after
+  IsStatusOfJob (Claims name) status before after =
+      IsStatusOfClaims files k.contents failures (string_bytes name) status (read_side before) (read_side after) × OnlyReads before after
+  IsStatusOfJob (Missing name) status before after =
+      IsStatusOfMissing files k.contents failures (string_bytes name) status (read_side before) (read_side after) × OnlyReads before after
+  IsStatusOfJob (Merge m) status before after =
+      IsStatusOfMerge k.calls files k.contents (string_bytes m.name) (map string_bytes m.logs.items) m.adopt status (port_sides before) (port_sides after)
+      × (after.input ≡ before.input)
   IsStatusOfJob (Who n) status before after = IsStatusOfWho files k.contents failures n status (read_side before) (read_side after) × OnlyReads before after
 
-module _ {W : Type 0} where
-  -- A text that was asked for was printed, or not: 3 exactly where standard output failed, and else 0, or 4 where
-  -- memory is wanting, and then nothing was written.
-  pub record IsStatusOfPrint (status : ℕ) (old new : Calls W) (told telling : KnownTelling) : Type 0 where
-    pub failed : status ≡ 3 → new.failures ≡ one_more old.failures
-    pub unfailed : status ≢ 3 → new.failures ≡ old.failures
-    pub others : (status ≡ 0) ⊎ (status ≡ 3) ⊎ (status ≡ 4)
-    pub unwritten : status ≡ 4 → new ≡ old
-    pub flushed : status ≡ 0 → new.flushed ≡ true
-    pub untold : status ≡ 0 → TellsMore told telling []
-    pub device : status ≡ 3 → TellsMore told telling (line (codes "device fault") ∷ [])
-    pub memory : status ≡ 4 → TellsMore told telling (line (codes "out of memory") ∷ [])
-
+module _ {W : Type 0} (contents : W → Option (List ℕ)) where
   -- the exit status once the fault was told
   abbrev pub IsStatusOf : JobFault → ℕ → Calls W → Calls W → KnownTelling → KnownTelling → Type 0
-  IsStatusOf (Help topic help) status old new told telling = IsStatusOfPrint status old new told telling
-  IsStatusOf (Version version) status old new told telling = IsStatusOfPrint status old new told telling
+  IsStatusOf (Help topic help) status old new told telling = IsStatusOfPrint contents None status old new told telling
+  IsStatusOf (Version version) status old new told telling = IsStatusOfPrint contents None status old new told telling
   IsStatusOf (Usage mistake) status old new told telling = (status ≡ 2) × (new ≡ old) × TellsMore told telling (text (Usage mistake) ∷ [])
   IsStatusOf Memory status old new told telling = (status ≡ 4) × (new ≡ old) × TellsMore told telling (line (codes "out of memory") ∷ [])

@@ -1,10 +1,11 @@
 -- What is told on standard error.
 use Rattle.std.specs.Prelude.{◌≡◌, List, [], ◌∷◌, ◌++◌, ℕ, Option, Some, Result, Ok, Err, IfSome}
 use Rattle.mgr_args.specs.declared.job.JobFault.{JobFault}
+use Rattle.mgr_claims.specs.declared.fault.MissingFault.{MissingFault}
 use Rattle.mgr_show.specs.declared.fault.JoinFault.{JoinFault}
 use Rattle.mgr_show.specs.declared.fault.ShowFault.{ShowFault}
 use Rattle.mg_session.specs.declared.fault.SessionFault.{SessionFault}
-use Rattle.mgr.specs.Report.{join_message, show_message, session_message}
+use Rattle.mgr.specs.Report.{join_message, missing_message, show_message, session_message}
 
 -- a line, without its newline, or the text of a fault of the command line
 pub data Telling : Type 0 where
@@ -27,6 +28,10 @@ shown_telling (Err fault) = line (show_message fault) ∷ []
 abbrev pub joined_telling : List (List ℕ) → Result (Unit {0}) JoinFault → List Telling
 joined_telling names (Ok done) = []
 joined_telling names (Err fault) = line (join_message names fault) ∷ []
+
+abbrev pub sent_telling : Result ℕ MissingFault → List Telling
+sent_telling (Ok number) = []
+sent_telling (Err fault) = line (missing_message fault) ∷ []
 
 abbrev pub edited_telling : Result (Unit {0}) SessionFault → List Telling
 edited_telling (Ok done) = []

@@ -1,10 +1,11 @@
-//! What a fault means to the shell.
+//! What the shell is told of a fault, and of a merge that is done.
 ghost use Rattle.std.specs.Prelude.{◌≡◌, Some};
 ghost use Rattle.mgr.specs.Report as spec;
 
 use mg_files::LoadFault;
 use mg_session::SessionFault;
 use mg_workspace::Failure;
+use mgr_claims::MissingFault;
 use mgr_show::ShowFault;
 use rga_exchange::ReceiveFault;
 use rga_lines::LineFault;
@@ -19,13 +20,34 @@ pub struct Report {
     pub message: Message,
 }
 
+/// How many operations of a merge were new: a line, with its newline.
+#[derive(Clone, Copy)]
+pub(crate) struct Count(pub usize);
+
+impl fmt::Display for Count {
+    ghost output = { λ count. Some (spec.count_line count.0) };
+
+    fn fmt<W: fmt::Write>(&self, f: &mut fmt::Formatter<W>) -> fmt::Result {
+        let number = self.0;
+        if number == 1 {
+            write!(f, "1 new operation\n")
+        } else {
+            write!(f, "{number} new operations\n")
+        }
+    }
+}
+
 /// What is said of a fault.
 #[derive(Clone, Copy)]
 pub enum Message {
     /// A line of the input, counted from 1, and the name of what is wrong with it.
     Line(u64, &'static str),
-    /// The log or the text of a buffer, and the name of what is wrong with it.
+    /// The log or the text of a buffer, or claims, and the name of what is wrong with it.
     File(&'static str, &'static str),
+    /// A line of claims, counted from 1, and the name of what is wrong with it.
+    Claim(u64, &'static str),
+    /// What is wrong with a note.
+    Note(&'static str),
     /// A device failed.
     Device,
     /// A growth of memory was refused.
@@ -39,6 +61,8 @@ impl fmt::Display for Report {
         match self.message {
             Message::Line(number, name) => write!(f, "line {number}: {name}"),
             Message::File(file, name) => write!(f, "{file}: {name}"),
+            Message::Claim(number, name) => write!(f, "claims: line {number}: {name}"),
+            Message::Note(name) => write!(f, "{name}"),
             Message::Device => write!(f, "device fault"),
             Message::Memory => write!(f, "out of memory"),
         }
@@ -86,6 +110,44 @@ impl Report {
         }
     }
 
+    /// What the shell is told of a fault of `mgr missing`. It takes no memory.
+    ///
+    /// Where claims are refused the status is 1, and the line is `claims: no head`, `claims: Cut`,
+    /// `claims: Count` or `claims: line 2: Json`. A refused log, devices and memory as for `mgr show`.
+    pub fn of_missing(fault: &MissingFault) -> Report
+        ensures status { result.status ≡ spec.missing_status fault.now }
+        ensures text { spec.report_text result.message ≡ spec.missing_message fault.now }
+    {
+        match *fault {
+            MissingFault::Head => refused(Message::File("claims", "no head")),
+            MissingFault::Claims(fault) => of_claims(fault),
+            MissingFault::Log(fault) => Report::of_show(&fault),
+            MissingFault::Write => Report::device(),
+            MissingFault::Memory => Report::memory(),
+        }
+    }
+
+    /// Logs are not merged into a note, for this reason.
+    pub(crate) fn of_note(why: &'static str) -> Report
+        ensures status { result.status ≡ 1 }
+        ensures message { result.message ≡ Message.Note why.entry }
+    {
+        refused(Message::Note(why))
+    }
+
+    /// What stands under a name is not loaded. It takes no memory.
+    pub(crate) fn of_load(fault: LoadFault) -> Report
+        ensures status { result.status ≡ spec.load_status fault }
+        ensures text { spec.report_text result.message ≡ spec.load_message fault }
+    {
+        match fault {
+            LoadFault::Log(fault) => of_log(fault),
+            LoadFault::NotText => refused(Message::File("text", "not UTF-8")),
+            LoadFault::Store(Refusal::Memory) | LoadFault::Memory => Report::memory(),
+            LoadFault::Store(refusal) => refused(Message::File("text", refusal.name())),
+        }
+    }
+
     /// What the shell is told of a fault of `mgr edit`. It takes no memory.
     ///
     /// Where nothing was loaded the status is 1: the line is that of a refused line of the log, as
@@ -97,7 +159,7 @@ impl Report {
         ensures text { spec.report_text result.message ≡ spec.session_message fault.now }
     {
         match *fault {
-            SessionFault::Load(fault) => of_load(fault),
+            SessionFault::Load(fault) => Report::of_load(fault),
             SessionFault::File | SessionFault::Keys | SessionFault::Screen => Report::device(),
             SessionFault::Memory => Report::memory(),
             SessionFault::Failed(why) => of_failure(why),
@@ -133,18 +195,6 @@ fn of_refused(line: u64, refusal: Refusal) -> Report
     }
 }
 
-fn of_load(fault: LoadFault) -> Report
-    ensures status { result.status ≡ spec.load_status fault }
-    ensures text { spec.report_text result.message ≡ spec.load_message fault }
-{
-    match fault {
-        LoadFault::Log(fault) => of_log(fault),
-        LoadFault::NotText => refused(Message::File("text", "not UTF-8")),
-        LoadFault::Store(Refusal::Memory) | LoadFault::Memory => Report::memory(),
-        LoadFault::Store(refusal) => refused(Message::File("text", refusal.name())),
-    }
-}
-
 fn of_failure(why: Failure) -> Report
     ensures status { result.status ≡ spec.failure_status why }
     ensures text { spec.report_text result.message ≡ spec.failure_message why }
@@ -166,6 +216,22 @@ fn of_log(fault: ReceiveFault) -> Report
         ReceiveFault::Refused(line, refusal) => of_refused(line, refusal),
         ReceiveFault::Cut => refused(Message::File("log", "Cut")),
         ReceiveFault::Count => refused(Message::File("log", "Count")),
+        ReceiveFault::Read => Report::device(),
+        ReceiveFault::Memory => Report::memory(),
+    }
+}
+
+fn of_claims(fault: ReceiveFault) -> Report
+    ensures status { result.status ≡ spec.log_status fault }
+    ensures text { spec.report_text result.message ≡ spec.claims_message fault }
+{
+    match fault {
+        ReceiveFault::Line(_, LineFault::Memory) => Report::memory(),
+        ReceiveFault::Line(line, fault) => refused(Message::Claim(line, fault.name())),
+        ReceiveFault::Refused(_, Refusal::Memory) => Report::memory(),
+        ReceiveFault::Refused(line, refusal) => refused(Message::Claim(line, refusal.name())),
+        ReceiveFault::Cut => refused(Message::File("claims", "Cut")),
+        ReceiveFault::Count => refused(Message::File("claims", "Count")),
         ReceiveFault::Read => Report::device(),
         ReceiveFault::Memory => Report::memory(),
     }

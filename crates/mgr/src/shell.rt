@@ -1,20 +1,22 @@
 //! The job of the command line, done, and what the shell is told of it.
 ghost use Rattle.std.specs.Prelude.{◌≡◌, ◌≤◌, [], ◌∷◌, IfErr, MatchResult, map, option_map, string_bytes};
-ghost use Rattle.mgr.specs.Report.{join_message, join_status, named_text, report_text};
+ghost use Rattle.mgr.specs.Report.{join_message, join_status, merge_message, merge_status, named_text, report_text};
 ghost use Rattle.mgr.specs.Telling.{TellsMore, line};
 ghost use Rattle.mgr.specs.Status as status;
 ghost use Rattle.mgr.specs.Peers as spec;
 
-use crate::report::Report;
+use crate::report::{Count, Report};
 use crate::sources::PathFiles;
 use crate::streams::hold_closed;
 use crate::tell::{StandardError, Tell};
 use mg_files::Port;
 use mg_session::run_keys;
 use mg_settings::Settings;
-use mgr_args::{Job, JobFault, Note, Shown, job_of, job_status, words};
+use mgr_args::{Job, JobFault, Merging, Note, Shown, job_of, job_status, words};
+use mgr_claims::{write_claims, write_missing};
 use mgr_compact::compact_note;
 use mgr_look::{write_authors, write_numbers};
+use mgr_merge::{MergeFault, merge_logs};
 use mgr_port::{FilePort, Logs};
 use mgr_show::{JoinFault, Sources, join_logs, show_note, show_ops, write_text};
 use rga_devices::Counted;
@@ -64,7 +66,7 @@ fn port_number(job: &Result<Job, JobFault>) -> Option<u16>
 /// Whether the files that a job reads by their names may be pipes and devices.
 fn reads_streams(job: &Result<Job, JobFault>) -> bool {
     match job {
-        Ok(Job::Join(_)) => true,
+        Ok(Job::Join(_) | Job::Claims(_) | Job::Missing(_) | Job::Merge(_)) => true,
         _ => false,
     }
 }
@@ -73,7 +75,8 @@ fn reads_streams(job: &Result<Job, JobFault>) -> bool {
 /// refused, 2 a wrong command line, 3 a device failed, 4 memory was refused. What is told is the one
 /// line of the fault, or the text of a wrong command line, and nothing where the status is 0.
 /// `compact` leaves the log as it was where the status is not 0, but at a device that fails once the
-/// new one has its name.
+/// new one has its name. `merge` may have been done where the status is 3 or 4: the count of new
+/// operations could not be printed.
 pub fn do_job<R: Read, W: Write, P: Port + Logs, S: Sources, T: Tell>(
     alloc: Global,
     job: &Result<Job, JobFault>,
@@ -89,7 +92,7 @@ pub fn do_job<R: Read, W: Write, P: Port + Logs, S: Sources, T: Tell>(
         S.contents S.failures job result
         (status.outside reader.old writer.old port.old sources.old (T.told errors.old))
         (status.outside reader.new writer.new port.new sources.new (T.told errors.new)))
-        (λ fault. status.IsStatusOf fault result writer.old writer.new
+        (λ fault. status.IsStatusOf W.contents fault result writer.old writer.new
         (T.told errors.old) (T.told errors.new)) }
     ensures idle { IfErr job.now (λ _. (reader.new ≡ reader.old) × (port.new ≡ port.old)
         × (sources.new ≡ sources.old)) }
@@ -105,6 +108,9 @@ pub fn do_job<R: Read, W: Write, P: Port + Logs, S: Sources, T: Tell>(
         Ok(Job::Join(names)) => join(alloc, names, sources, writer, errors),
         Ok(Job::Log(note)) => numbers(alloc, note, sources, writer, errors),
         Ok(Job::Who(note)) => who(alloc, note, sources, writer, errors),
+        Ok(Job::Claims(name)) => claims(alloc, name, sources, writer, errors),
+        Ok(Job::Missing(name)) => missing(alloc, name.as_str(), sources, writer, errors),
+        Ok(Job::Merge(merging)) => merge(alloc, merging, port, sources, writer, errors),
         Err(fault) => refuse(alloc, fault, writer, errors),
     }
 }
@@ -262,13 +268,103 @@ fn who<S: Sources, W: Write, T: Tell>(
     }
 }
 
+fn claims<S: Sources, W: Write, T: Tell>(
+    alloc: Global,
+    name: &String,
+    sources: &mut S,
+    writer: &mut Counted<W>,
+    errors: &mut T,
+) -> u8
+    ensures status { status.IsStatusOfClaims S.contents W.contents S.failures
+        (string_bytes name.now) result
+        (status.sourcing sources.old writer.old (T.told errors.old))
+        (status.sourcing sources.new writer.new (T.told errors.new)) }
+    ensures bound { result ≤ 4 }
+{
+    match write_claims(alloc, sources, name.as_str(), writer) {
+        Ok(()) => 0,
+        Err(fault) => told(errors, Report::of_show(&fault)),
+    }
+}
+
+/// What the claims on standard input lack.
+fn missing<S: Sources, W: Write, T: Tell>(
+    alloc: Global,
+    name: &str,
+    sources: &mut S,
+    writer: &mut Counted<W>,
+    errors: &mut T,
+) -> u8
+    ensures status { status.IsStatusOfMissing S.contents W.contents S.failures name.now result
+        (status.sourcing sources.old writer.old (T.told errors.old))
+        (status.sourcing sources.new writer.new (T.told errors.new)) }
+    ensures bound { result ≤ 4 }
+{
+    match write_missing(alloc, sources, name, "-", writer) {
+        Ok(_) => 0,
+        Err(fault) => told(errors, Report::of_missing(&fault)),
+    }
+}
+
+/// Merges logs into a note, and then prints how many of their operations were new.
+fn merge<P: Port, S: Sources, W: Write, T: Tell>(
+    alloc: Global,
+    merging: &Merging,
+    port: &mut P,
+    sources: &mut S,
+    writer: &mut Counted<W>,
+    errors: &mut T,
+) -> u8
+    ensures status { status.IsStatusOfMerge P.calls S.contents W.contents
+        (string_bytes merging.now.name) (map string_bytes merging.now.logs.items)
+        merging.now.adopt result
+        (status.merge_side port.old sources.old writer.old (T.told errors.old))
+        (status.merge_side port.new sources.new writer.new (T.told errors.new)) }
+    ensures bound { result ≤ 4 }
+{
+    let logs = &merging.logs;
+    match merge_logs::<FlatStore, _, _>(
+        alloc,
+        port,
+        sources,
+        merging.name.as_str(),
+        logs,
+        merging.adopt,
+    ) {
+        Ok(new) => print(alloc, &Count(new), writer, errors),
+        Err(fault) => told_of_merge(errors, logs, fault),
+    }
+}
+
+/// Tells of the fault of a merge, and answers its exit status.
+fn told_of_merge<T: Tell>(errors: &mut T, names: &[String], fault: MergeFault) -> u8
+    ensures status { result ≡ merge_status fault }
+    ensures told { TellsMore (T.told errors.old) (T.told errors.new)
+        (line (merge_message (map string_bytes names.now) fault) ∷ []) }
+{
+    match fault {
+        MergeFault::NoLog => told(errors, Report::of_note("text without a log")),
+        MergeFault::Load(fault) => told(errors, Report::of_load(fault)),
+        MergeFault::Log(at, fault) => {
+            told_of_log(errors, names.get(at), Report::of_show(&fault))
+        }
+        MergeFault::Apart => told(
+            errors,
+            Report::of_note("logs of another note, which --adopt takes"),
+        ),
+        MergeFault::Far => told(errors, Report::of_note("counter far above the note's")),
+        MergeFault::File => told(errors, Report::device()),
+        MergeFault::Memory => told(errors, Report::memory()),
+    }
+}
+
 fn refuse<W: Write, T: Tell>(
     alloc: Global,
     fault: &JobFault,
     writer: &mut Counted<W>,
     errors: &mut T,
 ) -> u8
-    ensures { status.IsStatusOf fault.now result writer.old writer.new
+    ensures { status.IsStatusOf W.contents fault.now result writer.old writer.new
         (T.told errors.old) (T.told errors.new) }
 {
     match fault {
@@ -281,15 +377,16 @@ fn refuse<W: Write, T: Tell>(
     }
 }
 
-/// Prints a text that was asked for.
+/// Prints a text.
 fn print<D: Display, W: Write, T: Tell>(
     alloc: Global,
     text: &D,
     writer: &mut Counted<W>,
     errors: &mut T,
 ) -> u8
-    ensures { status.IsStatusOfPrint result writer.old writer.new
-        (T.told errors.old) (T.told errors.new) }
+    ensures status { status.IsStatusOfPrint W.contents (D.output text.now) result
+        writer.old writer.new (T.told errors.old) (T.told errors.new) }
+    ensures bound { result ≤ 4 }
 {
     let Ok(text) = text.to_string(alloc) else {
         return told(errors, Report::memory());

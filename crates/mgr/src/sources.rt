@@ -14,6 +14,8 @@ use std::{fs, io};
 pub(crate) struct PathFiles<R> {
     rt: R,
     streams: bool,
+    /// All bytes of standard input, once they were read.
+    input: Option<Vec<u8>>,
     failures: u64,
 }
 
@@ -26,6 +28,7 @@ impl<R> PathFiles<R> {
         PathFiles {
             rt,
             streams,
+            input: None,
             failures: 0,
         }
     }
@@ -39,7 +42,12 @@ impl<R: Files<File = File> + Input> Sources for PathFiles<R> {
     ghost failures = { λ sources. sources.failures };
 
     fn read(&mut self, alloc: Global, name: &str) -> Result<Vec<u8>, ShowFault> {
-        match bytes_of(&self.rt, alloc, name, self.streams) {
+        let read = if self.streams && name == "-" {
+            input_of(&self.rt, alloc, &mut self.input)
+        } else {
+            bytes_of(&self.rt, alloc, name, self.streams)
+        };
+        match read {
             Ok(bytes) => Ok(bytes),
             Err(error) if error.kind() == ErrorKind::OutOfMemory => Err(ShowFault::Memory),
             Err(_) => {
@@ -50,18 +58,34 @@ impl<R: Files<File = File> + Input> Sources for PathFiles<R> {
     }
 }
 
+/// All bytes of standard input, which are kept: what is read of a name again is the same.
+fn input_of<R: Input>(rt: &R, alloc: Global, kept: &mut Option<Vec<u8>>) -> io::Result<Vec<u8>> {
+    if let Some(bytes) = kept {
+        return copy_of(alloc, bytes.as_slice());
+    }
+    let mut bytes = Vec::new(alloc);
+    rt.reader().read_to_end(&mut bytes)?;
+    let copy = copy_of(alloc, bytes.as_slice())?;
+    *kept = Some(bytes);
+    Ok(copy)
+}
+
+fn copy_of(alloc: Global, bytes: &[u8]) -> io::Result<Vec<u8>> {
+    let mut copy = Vec::new(alloc);
+    match copy.extend_from_slice(bytes) {
+        Ok(()) => Ok(copy),
+        Err(_) => Err(io::Error::from(ErrorKind::OutOfMemory)),
+    }
+}
+
 /// All bytes of a file. `InvalidInput` if it is no plain file, and only those are read.
-fn bytes_of<R: Files<File = File> + Input>(
+fn bytes_of<R: Files<File = File>>(
     rt: &R,
     alloc: Global,
     name: &str,
     streams: bool,
 ) -> io::Result<Vec<u8>> {
     let mut bytes = Vec::new(alloc);
-    if streams && name == "-" {
-        rt.reader().read_to_end(&mut bytes)?;
-        return Ok(bytes);
-    }
     if !streams && !fs::metadata(rt, name)?.is_file() {
         return Err(io::Error::from(ErrorKind::InvalidInput));
     }

@@ -255,6 +255,9 @@ record NamesNone (word : Text) : Type 0 where
   join : bytes_eq word (codes "join") ≡ false
   log : bytes_eq word (codes "log") ≡ false
   who : bytes_eq word (codes "who") ≡ false
+  claims : bytes_eq word (codes "claims") ≡ false
+  missing : bytes_eq word (codes "missing") ≡ false
+  merge : bytes_eq word (codes "merge") ≡ false
 
 -- it is the word of that topic
 abbrev NamesTopic : Text → Topic → Type 0
@@ -275,7 +278,16 @@ names_topic word = elim (cases_Bool (bytes_eq word (codes "show"))) [
           | inl same ↦ rw (show, edit, compact, join, same) ((bytes_eq-Decides word _).0 same)
           | inr log ↦ elim (cases_Bool (bytes_eq word (codes "who"))) [
             | inl same ↦ rw (show, edit, compact, join, log, same) ((bytes_eq-Decides word _).0 same)
-            | inr who ↦ rw (show, edit, compact, join, log, who) (record { show = show; edit = edit; compact = compact; join = join; log = log; who = who })
+            | inr who ↦ elim (cases_Bool (bytes_eq word (codes "claims"))) [
+              | inl same ↦ rw (show, edit, compact, join, log, who, same) ((bytes_eq-Decides word _).0 same)
+              | inr claims ↦ elim (cases_Bool (bytes_eq word (codes "missing"))) [
+                | inl same ↦ rw (show, edit, compact, join, log, who, claims, same) ((bytes_eq-Decides word _).0 same)
+                | inr missing ↦ elim (cases_Bool (bytes_eq word (codes "merge"))) [
+                  | inl same ↦ rw (show, edit, compact, join, log, who, claims, missing, same) ((bytes_eq-Decides word _).0 same)
+                  | inr merge ↦ rw (show, edit, compact, join, log, who, claims, missing, merge) (record { show = show; edit = edit; compact = compact; join = join; log = log; who = who; claims = claims; missing = missing; merge = merge })
+                ]
+              ]
+            ]
           ]
         ]
       ]
@@ -287,7 +299,7 @@ turn_top : (word : Text) → NamesNone word → bytes_eq word (codes "--") ≡ f
     → turn_fault top top_names (walk_from nothing_held) word ≡ or_else (flag_kinds word) (step_fault top 1 (flag_held word) (flag_step word))
 unfolding clap_on_literals
 turn_top word none unlike =
-    rw (bytes_eq-swap word _ none.show, bytes_eq-swap word _ none.edit, bytes_eq-swap word _ none.compact, bytes_eq-swap word _ none.join, bytes_eq-swap word _ none.log, bytes_eq-swap word _ none.who, unlike) refl
+    rw (bytes_eq-swap word _ none.show, bytes_eq-swap word _ none.edit, bytes_eq-swap word _ none.compact, bytes_eq-swap word _ none.join, bytes_eq-swap word _ none.log, bytes_eq-swap word _ none.who, bytes_eq-swap word _ none.claims, bytes_eq-swap word _ none.missing, bytes_eq-swap word _ none.merge, unlike) refl
 
 first_mistake : (ks next : Kinds) → IsMistaken ks → IsMistaken (or_else ks next)
 first_mistake [] next none = absurd (let clash : false ≡ true = none.test in cc)
@@ -356,6 +368,9 @@ top_kinds (word ∷ rest) utf8 = by_topic (topic_of_word word) refl
     by_topic topic.Join is = of_job topic.Join is (subst (NamesTopic word) is (names_topic word)) refl
     by_topic topic.Log is = of_job topic.Log is (subst (NamesTopic word) is (names_topic word)) refl
     by_topic topic.Who is = of_job topic.Who is (subst (NamesTopic word) is (names_topic word)) refl
+    by_topic topic.Claims is = of_job topic.Claims is (subst (NamesTopic word) is (names_topic word)) refl
+    by_topic topic.Missing is = of_job topic.Missing is (subst (NamesTopic word) is (names_topic word)) refl
+    by_topic topic.Merge is = of_job topic.Merge is (subst (NamesTopic word) is (names_topic word)) refl
 
 -- ---- what the functions of the crate need
 
@@ -517,6 +532,9 @@ entered_by (word ∷ rest) on words is = by_topic (topic_of_word word) refl
     by_topic topic.Join is_t = of_job topic.Join (subst (NamesTopic word) is_t (names_topic word)) (wished topic.Join is_t)
     by_topic topic.Log is_t = of_job topic.Log (subst (NamesTopic word) is_t (names_topic word)) (wished topic.Log is_t)
     by_topic topic.Who is_t = of_job topic.Who (subst (NamesTopic word) is_t (names_topic word)) (wished topic.Who is_t)
+    by_topic topic.Claims is_t = of_job topic.Claims (subst (NamesTopic word) is_t (names_topic word)) (wished topic.Claims is_t)
+    by_topic topic.Missing is_t = of_job topic.Missing (subst (NamesTopic word) is_t (names_topic word)) (wished topic.Missing is_t)
+    by_topic topic.Merge is_t = of_job topic.Merge (subst (NamesTopic word) is_t (names_topic word)) (wished topic.Merge is_t)
 
 -- of all words, as they were given to clap
 pub chooses : (app : App) (words : List (String Global)) (given : List Text) (on : Topic) (found : Option (List Row)) → app ≡ command_line

@@ -5,7 +5,7 @@ use Rattle.std.specs.List.{starts_with}
 use Rattle.std.specs.Str.{bytes_eq}
 use Rattle.clap.specs.Simple.{App, Shape, new_app, on_top}
 use Rattle.mgr_args.specs.Edit.{edit_app}
-use Rattle.mgr_args.specs.Rules.{join_app, note_app, show_app, with_jobs}
+use Rattle.mgr_args.specs.Rules.{join_app, merge_app, name_app, note_app, show_app, with_jobs}
 use Rattle.mgr_args.specs.declared.job.Topic.{Topic}
 use Rattle.mgr_args.specs.declared.job.Topic.TheVariants as topic
 
@@ -37,6 +37,9 @@ word_of topic.Compact = codes "compact"
 word_of topic.Join = codes "join"
 word_of topic.Log = codes "log"
 word_of topic.Who = codes "who"
+word_of topic.Claims = codes "claims"
+word_of topic.Missing = codes "missing"
+word_of topic.Merge = codes "merge"
 
 -- the job of a word, or the program
 abbrev pub topic_of_word : Text → Topic
@@ -46,7 +49,10 @@ topic_of_word word =
     else if bytes_eq word (codes "compact") then topic.Compact
     else if bytes_eq word (codes "join") then topic.Join
     else if bytes_eq word (codes "log") then topic.Log
-    else if bytes_eq word (codes "who") then topic.Who else topic.Program
+    else if bytes_eq word (codes "who") then topic.Who
+    else if bytes_eq word (codes "claims") then topic.Claims
+    else if bytes_eq word (codes "missing") then topic.Missing
+    else if bytes_eq word (codes "merge") then topic.Merge else topic.Program
 
 -- what a word and those behind it ask for, if the first is of that topic
 abbrev pub wish_on : Topic → Text → List Text → Wish
@@ -88,7 +94,8 @@ program_alone = on_top required (new_app (codes "mgr"))
 abbrev pub job_apps : List App
 job_apps =
     show_app ∷ edit_app ∷ note_app (codes "compact") (codes "dels") ∷ join_app
-    ∷ note_app (codes "log") (codes "json") ∷ note_app (codes "who") (codes "lines") ∷ []
+    ∷ note_app (codes "log") (codes "json") ∷ note_app (codes "who") (codes "lines")
+    ∷ name_app (codes "claims") ∷ name_app (codes "missing") ∷ merge_app ∷ []
 
 abbrev pub command_line : App
 command_line = with_jobs program_alone job_apps

@@ -4,6 +4,7 @@ use Rattle.std.specs.Str.Parse.{IsNumeral, digits_value, without_leading_plus}
 use Rattle.std.specs.declared.alloc.Global.{Global}
 use Rattle.std.specs.declared.string.String.{String}
 use Rattle.clap.specs.Walk.{Row, all_of, first_of, one_of}
+use Rattle.mgr_args.specs.declared.given.Merging.{Merging}
 use Rattle.mgr_args.specs.declared.given.Note.{Note}
 use Rattle.mgr_args.specs.declared.given.Shown.{Shown}
 use Rattle.mgr_args.specs.declared.given.Shown.TheVariants.{Input, Front}
@@ -56,3 +57,13 @@ GivesShown rows (Some (Front name lines)) = GivesName rows name × GivesNumberIf
 -- these paths, in this order
 abbrev pub GivesLogs : List Row → List (String Global) → Type 0
 GivesLogs rows logs = map string_bytes logs ≡ unwrap_or (all_of (codes "logs") rows) []
+
+-- this name, these paths and this flag, or no name that has a character
+pub record GivesAll (rows : List Row) (merging : Merging) : Type 0 where
+  pub name : GivesName rows merging.name
+  pub logs : GivesLogs rows merging.logs.items
+  pub adopt : GivesFlag rows (codes "adopt") merging.adopt
+
+abbrev pub GivesMerging : List Row → Option Merging → Type 0
+GivesMerging rows None = GivesNameIf rows None
+GivesMerging rows (Some merging) = GivesAll rows merging

@@ -40,6 +40,17 @@ note_rules id = name_rule ∷ flag id ∷ []
 abbrev pub note_app : List ℕ → List ℕ → App
 note_app job id = with_rules (new_app job) (note_rules id)
 
+-- one that takes one name alone
+abbrev pub name_app : List ℕ → App
+name_app job = with_rules (new_app job) (name_rule ∷ [])
+
+-- one that takes a name, paths and a flag
+abbrev pub merge_rules : List Rule
+merge_rules = name_rule ∷ logs_rule ∷ flag (codes "adopt") ∷ []
+
+abbrev pub merge_app : App
+merge_app = with_rules (new_app (codes "merge")) merge_rules
+
 -- one that takes paths
 abbrev pub join_app : App
 join_app = with_rules (new_app (codes "join")) (logs_rule ∷ [])

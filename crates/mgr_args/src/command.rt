@@ -5,8 +5,8 @@ ghost use Rattle.mgr_args.specs.CommandLine.{command_line, job_apps, program_alo
 ghost use Rattle.mgr_args.specs.Rules.{AddsJobs};
 
 use crate::edit::edit;
-use crate::logs::{join, show};
-use crate::note::{compact, log, who};
+use crate::logs::{join, merge, show};
+use crate::note::{claims, compact, log, missing, who};
 use crate::part::{described, push};
 use clap::Command;
 use std::alloc::{AllocError, Global};
@@ -37,7 +37,10 @@ fn add_jobs<'a>(alloc: Global, jobs: &mut Vec<Command<'a>>) -> Result<(), AllocE
     push(jobs, compact(alloc)?)?;
     push(jobs, join(alloc)?)?;
     push(jobs, log(alloc)?)?;
-    push(jobs, who(alloc)?)
+    push(jobs, who(alloc)?)?;
+    push(jobs, claims(alloc)?)?;
+    push(jobs, missing(alloc)?)?;
+    push(jobs, merge(alloc)?)
 }
 
 /// The program with its jobs.

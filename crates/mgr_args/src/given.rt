@@ -4,7 +4,8 @@ ghost use Rattle.clap.specs.Matches.{found_of};
 ghost use Rattle.clap.specs.Walk.{rows_of, texts};
 ghost use Rattle.mg_settings.specs.Settings.{Values};
 ghost use Rattle.mgr_args.specs.Edit.{GivesNumbers, GivesOptions, GivesSettings};
-ghost use Rattle.mgr_args.specs.Given.{GivesLogs, GivesNote, GivesNumberIf, GivesShown};
+ghost use Rattle.mgr_args.specs.Given.{GivesLogs, GivesMerging, GivesNameIf, GivesNote};
+ghost use Rattle.mgr_args.specs.Given.{GivesNumberIf, GivesShown};
 
 use clap::ArgMatches;
 use mg_settings::{Settings, Values};
@@ -35,6 +36,19 @@ pub struct Note {
     pub flag: bool,
 }
 
+/// The name that clap's matches give; none if it is empty.
+pub(crate) fn name_of(alloc: Global, found: &ArgMatches<'_>) -> Result<Option<String>, AllocError>
+    ensures { IfOk result (GivesNameIf (rows_of (found_of found.now))) }
+{
+    let Some(name) = found.get_str("name") else {
+        return Ok(None);
+    };
+    if name.is_empty() {
+        return Ok(None);
+    }
+    Ok(Some(String::from_str(alloc, name)?))
+}
+
 /// What clap's matches give to a job of one note and this flag; none if the name is empty.
 pub(crate) fn note_of(
     alloc: Global,
@@ -43,15 +57,37 @@ pub(crate) fn note_of(
 ) -> Result<Option<Note>, AllocError>
     ensures { IfOk result (GivesNote flag.now (rows_of (found_of found.now))) }
 {
-    let Some(name) = found.get_str("name") else {
+    let Some(name) = name_of(alloc, found)? else {
         return Ok(None);
     };
-    if name.is_empty() {
-        return Ok(None);
-    }
     Ok(Some(Note {
-        name: String::from_str(alloc, name)?,
+        name,
         flag: found.get_flag(flag),
+    }))
+}
+
+/// A note, the logs to be merged into it, and whether they may be those of another note.
+#[derive(Drop)]
+pub struct Merging {
+    pub name: String,
+    pub logs: Vec<String>,
+    pub adopt: bool,
+}
+
+/// What clap's matches give to merge; none if the name is empty.
+pub(crate) fn merging_of(
+    alloc: Global,
+    found: &ArgMatches<'_>,
+) -> Result<Option<Merging>, AllocError>
+    ensures { IfOk result (GivesMerging (rows_of (found_of found.now))) }
+{
+    let Some(name) = name_of(alloc, found)? else {
+        return Ok(None);
+    };
+    Ok(Some(Merging {
+        name,
+        logs: logs_of(alloc, found)?,
+        adopt: found.get_flag("adopt"),
     }))
 }
 
@@ -90,7 +126,7 @@ fn lines(found: &ArgMatches<'_>) -> Option<u64>
     found.get_one::<u64>("lines")
 }
 
-/// The paths that clap's matches give to join.
+/// The paths that clap's matches give.
 pub(crate) fn logs_of(alloc: Global, found: &ArgMatches<'_>) -> Result<Vec<String>, AllocError>
     ensures { IfOk result (λ logs. GivesLogs (rows_of (found_of found.now)) logs.items) }
 {

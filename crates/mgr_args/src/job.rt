@@ -9,7 +9,9 @@ ghost use Rattle.mgr_args.specs.Job.{IsNotChosen, IsUsage, job_status_of, rows_b
 ghost use Rattle.mgr_args.specs.declared.job.JobFault.TheVariants.{Memory};
 
 use crate::command::command;
-use crate::given::{Note, Shown, logs_of, note_of, settings_of, shown_of};
+use crate::given::{
+    Merging, Note, Shown, logs_of, merging_of, name_of, note_of, settings_of, shown_of,
+};
 use clap::error::ErrorKind;
 use clap::{ArgMatches, Error};
 use mg_settings::Settings;
@@ -30,6 +32,12 @@ pub enum Job {
     Log(Note),
     /// Who wrote a text; with `--lines` by its lines.
     Who(Note),
+    /// What a log has, in short, out.
+    Claims(String),
+    /// What another log has, in short, in, the operations that it lacks out.
+    Missing(String),
+    /// Logs, taken into a note; with `--adopt` those of another note too.
+    Merge(Merging),
 }
 
 /// What help is on.
@@ -43,6 +51,9 @@ pub enum Topic {
     Join,
     Log,
     Who,
+    Claims,
+    Missing,
+    Merge,
 }
 
 /// Why there is no job.
@@ -86,7 +97,8 @@ pub fn job_status(fault: &JobFault) -> u8
 ///
 /// The first word names the job, and clap reads those after it. `show` takes a name or none and
 /// `--lines N` or not, `edit` a name, `--replica N` and the other options, `compact`, `log` and
-/// `who` a name and a flag or not, and `join` paths. `Help` is on the program if the first word is
+/// `who` a name and a flag or not, `join` paths, `claims` and `missing` a name, and `merge` a name,
+/// paths and `--adopt` or not. `Help` is on the program if the first word is
 /// `--help`, or `-h` with anything after it, and on a job if clap finds it after its word.
 /// `Version` if the first word is `--version`, or `-V` with anything after it. `help` in front is
 /// `--help` at the end: `mgr help show` asks for what `mgr show --help` does. `Usage` at any other
@@ -133,6 +145,9 @@ fn job_given(alloc: Global, topic: Topic, found: &ArgMatches<'_>) -> Result<Opti
         Topic::Join => Some(Job::Join(logs_of(alloc, found)?)),
         Topic::Log => note_of(alloc, found, "json")?.map(Job::Log),
         Topic::Who => note_of(alloc, found, "lines")?.map(Job::Who),
+        Topic::Claims => name_of(alloc, found)?.map(Job::Claims),
+        Topic::Missing => name_of(alloc, found)?.map(Job::Missing),
+        Topic::Merge => merging_of(alloc, found)?.map(Job::Merge),
     })
 }
 
@@ -182,6 +197,15 @@ fn topic_of(words: &[&str]) -> Topic
     }
     if first == Some(&"who") {
         return Topic::Who;
+    }
+    if first == Some(&"claims") {
+        return Topic::Claims;
+    }
+    if first == Some(&"missing") {
+        return Topic::Missing;
+    }
+    if first == Some(&"merge") {
+        return Topic::Merge;
     }
     Topic::Program
 }

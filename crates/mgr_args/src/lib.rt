@@ -17,5 +17,5 @@ mod note;
 mod part;
 
 pub use arguments::words;
-pub use given::{Note, Shown};
+pub use given::{Merging, Note, Shown};
 pub use job::{Job, JobFault, Topic, job_of, job_status};

@@ -1,9 +1,9 @@
-//! The subcommands that read logs as they came: `show` and `join`.
+//! The subcommands that read logs as they came: `show`, `join` and `merge`.
 ghost use Rattle.std.specs.Prelude.{IfOk};
-ghost use Rattle.mgr_args.specs.Rules.{IsLocal, IsPlain};
-ghost use Rattle.mgr_args.specs.Rules.{join_app, logs_rule, optional_name_rule, show_app};
+ghost use Rattle.mgr_args.specs.Rules.{IsLocal, IsPlain, join_app, logs_rule, merge_app};
+ghost use Rattle.mgr_args.specs.Rules.{optional_name_rule, show_app};
 
-use crate::part::{described, number, push};
+use crate::part::{add_flag, add_name, described, number, push};
 use clap::{Arg, ArgAction, Command};
 use std::alloc::{AllocError, Global};
 
@@ -19,6 +19,13 @@ const JOIN_HELP: &str = "Each LOG is the path of a log, or - for standard input:
     mgr join notes.ops copy/notes.ops > both.ops
 
 A log that does not agree with those before it is refused, and nothing is written.";
+
+const MERGE_HELP: &str = "Each LOG is the path of a log, or - for standard input:
+
+    mgr merge notes /mnt/share/notes.ops
+    ssh host mgr claims notes | mgr missing notes | ssh host mgr merge notes -
+
+NAME.ops and the text NAME then have what the logs have. If one is refused, both stay.";
 
 /// `show`, with the words of its help.
 pub(crate) fn show<'a>(alloc: Global) -> Result<Command<'a>, AllocError>
@@ -37,9 +44,21 @@ pub(crate) fn join<'a>(alloc: Global) -> Result<Command<'a>, AllocError>
     ensures { IfOk result (IsPlain join_app) }
 {
     let mut args = Vec::new(alloc);
-    push(&mut args, logs(alloc))?;
+    push(&mut args, logs(alloc, "The logs to join"))?;
     let about = "Write the log that logs make together";
     described(alloc, "join", about, JOIN_HELP).args(args)
+}
+
+/// `merge`, with the words of its help.
+pub(crate) fn merge<'a>(alloc: Global) -> Result<Command<'a>, AllocError>
+    ensures { IfOk result (IsPlain merge_app) }
+{
+    let mut args = Vec::new(alloc);
+    add_name(alloc, &mut args)?;
+    push(&mut args, logs(alloc, "The logs to merge"))?;
+    add_flag(alloc, &mut args, "adopt", "Take logs of another note, too")?;
+    let about = "Merge logs into a text and its log";
+    described(alloc, "merge", about, MERGE_HELP).args(args)
 }
 
 /// The name of a note, which may be left out.
@@ -52,8 +71,8 @@ fn optional_name<'a>(alloc: Global) -> Arg<'a>
         .help("The note whose log NAME.ops is read")
 }
 
-/// One path or more.
-fn logs<'a>(alloc: Global) -> Arg<'a>
+/// One path or more, with the words of their help.
+fn logs<'a>(alloc: Global, help: &'a str) -> Arg<'a>
     ensures { IsLocal logs_rule result }
 {
     Arg::new(alloc, "logs")
@@ -61,5 +80,5 @@ fn logs<'a>(alloc: Global) -> Arg<'a>
         .num_args(1..)
         .value_name("LOG")
         .required(true)
-        .help("The logs to join")
+        .help(help)
 }

@@ -1,6 +1,7 @@
-//! The subcommands that take a note and a flag: `compact`, `log` and `who`.
+//! The subcommands that take a note and a flag, `compact`, `log` and `who`, or a note alone,
+//! `claims` and `missing`.
 ghost use Rattle.std.specs.Prelude.{codes, IfOk};
-ghost use Rattle.mgr_args.specs.Rules.{IsPlain, IsToldOf, note_app, note_rules};
+ghost use Rattle.mgr_args.specs.Rules.{IsPlain, IsToldOf, name_app, note_app, note_rules};
 
 use crate::part::{add_flag, add_name, described};
 use clap::{Arg, Command};
@@ -22,6 +23,20 @@ const WHO_HELP: &str = "Each piece of the text is a line of JSON, with the repli
 
     mgr who notes
     mgr who --lines notes | less";
+
+const CLAIMS_HELP: &str =
+    "Lines of JSON say what NAME.ops has, or a log on standard input if NAME is -:
+
+    ssh host mgr claims notes | mgr missing notes | ssh host mgr merge notes -
+
+`mgr missing` reads these lines.";
+
+const MISSING_HELP: &str =
+    "What the other log has comes on standard input, in the lines of `mgr claims`:
+
+    ssh host mgr claims notes | mgr missing notes | ssh host mgr merge notes -
+
+What is written is a log, which `mgr merge` takes.";
 
 /// `compact`, with the words of its help.
 pub(crate) fn compact<'a>(alloc: Global) -> Result<Command<'a>, AllocError>
@@ -49,6 +64,36 @@ pub(crate) fn who<'a>(alloc: Global) -> Result<Command<'a>, AllocError>
     let args = name_and_flag(alloc, "lines", help)?;
     let about = "Write a text with the replicas that wrote it";
     described(alloc, "who", about, WHO_HELP).args(args)
+}
+
+/// `claims`, with the words of its help.
+pub(crate) fn claims<'a>(alloc: Global) -> Result<Command<'a>, AllocError>
+    ensures { IfOk result (IsPlain (name_app (codes "claims"))) }
+{
+    let about = "Write what the log of a text has, in short";
+    name_alone(alloc, "claims", about, CLAIMS_HELP)
+}
+
+/// `missing`, with the words of its help.
+pub(crate) fn missing<'a>(alloc: Global) -> Result<Command<'a>, AllocError>
+    ensures { IfOk result (IsPlain (name_app (codes "missing"))) }
+{
+    let about = "Write the operations that another log of a text lacks";
+    name_alone(alloc, "missing", about, MISSING_HELP)
+}
+
+/// A command that takes a name, with the words of its help.
+fn name_alone<'a>(
+    alloc: Global,
+    job: &'a str,
+    about: &'a str,
+    more: &'a str,
+) -> Result<Command<'a>, AllocError>
+    ensures { IfOk result (IsPlain (name_app job.entry.now)) }
+{
+    let mut args = Vec::new(alloc);
+    add_name(alloc, &mut args)?;
+    described(alloc, job, about, more).args(args)
 }
 
 /// A name, and a flag with the words of its help.

@@ -1,19 +1,15 @@
 -- What stands in the log of a note.
-use Rattle.std.specs.Prelude.{◌≡◌, ℕ, List, ◌++◌, Option, Result, Ok, Err, codes}
+use Rattle.std.specs.Prelude.{◌≡◌, ℕ, List, Option, Result, Ok, Err}
 use Rattle.rga_devices.specs.Counting.{Calls, Writes, WritesFront}
-use Rattle.rga_ops.specs.Content.{Content, nothing, IsAgreed}
+use Rattle.rga_ops.specs.Content.{Content, nothing}
 use Rattle.rga_store.specs.declared.text_store.TheConstants.{MAX_LIMIT}
-use Rattle.rga_lines.specs.Log.{log_operations}
 use Rattle.rga_exchange.specs.declared.fault.LogFault.{LogFault}
 use Rattle.rga_exchange.specs.declared.log.LogRead.{LogRead}
 use Rattle.rga_exchange.specs.Log.{log_outcome}
 use Rattle.mgr_show.specs.declared.fault.ShowFault.{ShowFault}
 use Rattle.mgr_show.specs.Log.{show_fault}
 use Rattle.mgr_show.specs.Shown.{log_content}
-
--- the log of a note
-abbrev pub log_name : List ℕ → List ℕ
-log_name name = name ++ codes ".ops"
+use Rattle.mgr_show.specs.Note.{IsReadable}
 
 abbrev pub told : Result LogRead LogFault → Result LogRead ShowFault
 told (Ok read) = Ok read
@@ -26,14 +22,8 @@ read_of bytes = told (log_outcome MAX_LIMIT nothing bytes).1
 -- The operations of the log agree, and they alone were taken. What stands after the last newline was left out if it is
 -- no operation.
 pub record IsRead (bytes : List ℕ) (c : Content) (read : LogRead) : Type 0 where
-  pub agreed : IsAgreed (log_operations bytes)
+  pub readable : IsReadable bytes
   pub content : c ≡ log_content bytes
-  pub ended : read_of bytes ≡ Ok read
-
--- the operations of the log agree, and each of its lines was taken
-pub record IsReadable (bytes : List ℕ) : Type 0 where
-  pub agreed : IsAgreed (log_operations bytes)
-  pub read : LogRead
   pub ended : read_of bytes ≡ Ok read
 
 module _ {W : Type 0} (contents : W → Option (List ℕ)) (old new : Calls W) where

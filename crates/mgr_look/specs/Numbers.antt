@@ -3,8 +3,9 @@ use Rattle.std.specs.Prelude.{◌≡◌, ℕ, List, length, if◌then◌else◌,
 use Rattle.std.specs.Str.{bytes_eq}
 use Rattle.rga_exchange.specs.declared.log.LogRead.{LogRead}
 use Rattle.mgr_show.specs.Shown.{log_content}
+use Rattle.mgr_show.specs.Note.{IsReadable}
 use Rattle.mgr_look.specs.Counts.{AreCounts}
-use Rattle.mgr_look.specs.Notes.{read_of, IsReadable}
+use Rattle.mgr_look.specs.Notes.{read_of}
 use Rattle.mgr_look.specs.declared.numbers.TextIs.{TextIs}
 use Rattle.mgr_look.specs.declared.numbers.TextIs.TheVariants.{Same, Other}
 use Rattle.mgr_look.specs.declared.numbers.Numbers.{Numbers}

@@ -2,7 +2,8 @@
 ghost use Rattle.std.specs.Prelude.{◌≡◌, ◌≢◌, ◌⊎◌, true, Err, IfErr, IfSome, OnOk, OnErr};
 ghost use Rattle.rga_devices.specs.Counting.{CountsAs, WritesNothing};
 ghost use Rattle.mgr_show.specs.Shown.{IsOfInput};
-ghost use Rattle.mgr_look.specs.Notes.{log_name, read_of};
+ghost use Rattle.mgr_show.specs.Note.{log_name};
+ghost use Rattle.mgr_look.specs.Notes.{read_of};
 ghost use Rattle.mgr_look.specs.Told.{WritesNumbers, BeginsToWriteNumbers};
 
 use crate::numbers::numbers_of;

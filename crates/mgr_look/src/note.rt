@@ -1,15 +1,15 @@
 //! The log of a note, read for what stands in it.
-ghost use Rattle.std.specs.Prelude.{◌≡◌, ◌≢◌, ℕ, List, ◌++◌, Ok, Err, length, string_bytes};
+ghost use Rattle.std.specs.Prelude.{◌≡◌, ◌≢◌, ℕ, List, Ok, Err, length};
 ghost use Rattle.std.specs.Prelude.{IfOk, IfErr, IfSome, OnOk};
 ghost use Rattle.mgr_show.specs.Shown.{IsOfInput};
-ghost use Rattle.mgr_look.specs.Notes.{log_name, read_of, IsRead};
+ghost use Rattle.mgr_show.specs.Note.{log_name};
+ghost use Rattle.mgr_look.specs.Notes.{read_of, IsRead};
 
-use mgr_show::{ShowFault, Sources};
-use rga_devices::Counted;
-use rga_exchange::{LogRead, take_log};
+use mgr_show::{ShowFault, Sources, log_name, take_but_torn};
+use rga_exchange::LogRead;
 use rga_flat::FlatStore;
 use rga_store::{MAX_LIMIT, TextStore};
-use std::alloc::{AllocError, Global};
+use std::alloc::Global;
 
 /// What stands in a log.
 #[derive(Drop)]
@@ -40,32 +40,14 @@ pub(crate) fn read_note<S: Sources>(
         S.contents sources.new other ≡ S.contents sources.old other }
     ensures failures { OnOk result (S.failures sources.new ≡ S.failures sources.old) }
 {
-    let path = path_of_log(alloc, name)?;
-    let bytes = sources.read(alloc, &path)?;
+    let log = log_name(alloc, name)?;
+    let bytes = sources.read(alloc, &log)?;
     let (store, read) = take_bytes(alloc, &bytes)?;
     Ok(NoteLog {
         bytes: bytes.len(),
         store,
         read,
     })
-}
-
-/// The name of the log of a note.
-fn path_of_log(alloc: Global, name: &str) -> Result<String, ShowFault>
-    ensures name { IfOk result (λ path. string_bytes path ≡ log_name name.now) }
-    ensures memory { IfErr result (λ e. e ≡ ShowFault.Memory) }
-{
-    joined(alloc, name, ".ops").map_err(|_| ShowFault::Memory)
-}
-
-/// A text and another after it.
-fn joined(alloc: Global, front: &str, end: &str) -> Result<String, AllocError>
-    ensures { IfOk result (λ both. string_bytes both ≡ front.now ++ end.now) }
-{
-    let mut both = String::with_capacity(alloc, front.len())?;
-    both.push_str(front)?;
-    both.push_str(end)?;
-    Ok(both)
 }
 
 /// Takes the operations of a log from nothing.
@@ -77,7 +59,6 @@ fn take_bytes(alloc: Global, bytes: &[u8]) -> Result<(FlatStore, LogRead), ShowF
     let Ok(mut store) = FlatStore::new(alloc, MAX_LIMIT) else {
         return Err(ShowFault::Memory);
     };
-    let mut reader = Counted::new(bytes);
-    let read = take_log(alloc, &mut store, &mut reader, &mut false)?;
+    let read = take_but_torn(alloc, &mut store, bytes)?;
     Ok((store, read))
 }

@@ -1,7 +1,8 @@
 //! What is counted in the log of a note.
 ghost use Rattle.std.specs.Prelude.{◌≡◌, ◌≢◌, Err, IfOk, IfErr, IfSome};
 ghost use Rattle.mgr_show.specs.Shown.{IsOfInput, log_content, shown_bytes};
-ghost use Rattle.mgr_look.specs.Notes.{log_name, read_of};
+ghost use Rattle.mgr_show.specs.Note.{log_name};
+ghost use Rattle.mgr_look.specs.Notes.{read_of};
 ghost use Rattle.mgr_look.specs.Numbers.{text_is, AreNumbers};
 
 use crate::counts::{Counts, counts_of};

@@ -88,9 +88,11 @@ replica 3: 1 characters, greatest counter 9
         numbers(rt.alloc(), "ac\nd", false).as_slice() == told.as_bytes(),
         "same text"
     );
-    let json =
-        r#"{"operations":7,"insertions":6,"deletions":1,"visible":4,"waiting":1,"bytes":235,"end":"torn","text":"other","replicas":[{"replica":1,"characters":3,"counter":3},{"replica":2,"characters":2,"counter":5},{"replica":3,"characters":1,"counter":9}]}
-"#;
+    let json = "{\"operations\":7,\"insertions\":6,\"deletions\":1,\"visible\":4,\"waiting\":1,\
+        \"bytes\":235,\"end\":\"torn\",\"text\":\"other\",\"replicas\":[\
+        {\"replica\":1,\"characters\":3,\"counter\":3},\
+        {\"replica\":2,\"characters\":2,\"counter\":5},\
+        {\"replica\":3,\"characters\":1,\"counter\":9}]}\n";
     assert!(rt;
         numbers(rt.alloc(), "ac", true).as_slice() == json.as_bytes(),
         "other text"

@@ -3,9 +3,9 @@ ghost use Rattle.std.specs.Prelude.{◌≡◌, ◌≢◌, ◌⊎◌, true, Err, 
 ghost use Rattle.std.specs.Prelude.{IfOk, IfErr, IfSome, OnOk, OnErr};
 ghost use Rattle.rga_devices.specs.Counting.{CountsAs, WritesNothing};
 ghost use Rattle.mgr_show.specs.Shown.{IsOfInput, log_content};
+ghost use Rattle.mgr_show.specs.Note.{log_name, IsReadable};
 ghost use Rattle.mgr_look.specs.Authors.{authors_bytes};
-ghost use Rattle.mgr_look.specs.Notes.{log_name, read_of, IsReadable};
-ghost use Rattle.mgr_look.specs.Notes.{WritesAbout, BeginsToWriteAbout};
+ghost use Rattle.mgr_look.specs.Notes.{read_of, WritesAbout, BeginsToWriteAbout};
 
 use crate::authors::authored;
 use crate::lines::lines_text;

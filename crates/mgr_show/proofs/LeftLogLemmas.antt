@@ -1,11 +1,14 @@
 -- Logs that are taken in turn.
-use Rattle.std.proofs.Common.{◌≡◌, ℕ, suc, ◌+◌, ◌<◌, Bool, ◌||◌, List, ◌∷◌, map, drop, length, get_or, Option, Some, None, Ok, refl, sym, ap, subst, ◌∙◌, drop-cons, add-one}
+use Rattle.std.proofs.Common.{◌≡◌, ℕ, suc, ◌+◌, ◌<◌, Bool, ◌||◌, List, ◌∷◌, map, drop, length, get_or, ◌++◌, Option, Some, None, Ok, refl, sym, ap, subst, ◌∙◌, drop-cons, add-one}
 use Rattle.std.specs.Prelude.{IfSome}
 use Rattle.std.specs.List.{list_any}
 use Rattle.std.proofs.Math.Bool.{or_assoc}
+use Rattle.rga_ops.specs.Answer.{taken_one_by_one}
 use Rattle.rga_ops.specs.Content.{Content}
+use Rattle.rga_ops.specs.declared.op.Op.{Op}
+use Rattle.rga_ops.proofs.TakenLaws.{one_by_one-append}
 use Rattle.rga_exchange.specs.DeletionRuns.{has_deletion_runs}
-use Rattle.mgr_show.specs.Log.{shown_from}
+use Rattle.mgr_show.specs.Log.{HasFollowed, shown_from}
 use Rattle.mgr_show.specs.Joined.{in_front, all_told, then_joined, joined_from}
 
 -- ---- what is left behind the first n logs
@@ -69,3 +72,13 @@ module _ (limit own : ℕ) (start now : Content) (n : ℕ) (had has : Bool) (fir
             ∙ sym (or_assoc has (has_deletion_runs w.bytes) (list_any has_deletion_runs w.others))
             ∙ ap (λ b. b || list_any has_deletion_runs w.others) (sym (if_told (λ bytes. more ≡ (has || has_deletion_runs bytes)) known w.bytes (same ∙ w.first_told) runs));
       }
+
+-- ---- what was taken one after another
+
+pub follows_more : {limit own : ℕ} {c d e : Content} {P Q R : List Op → Type 0} → own ≡ limit → ((xs ys : List Op) → P xs → Q ys → R (xs ++ ys))
+    → HasFollowed (record { limit = limit; old = c; new = d; follows = P }) → HasFollowed (record { limit = own; old = d; new = e; follows = Q }) → HasFollowed (record { limit = limit; old = c; new = e; follows = R })
+follows_more {limit} {own} {c} {d} {e} same on f g = record {
+  ops = f.ops ++ g.ops;
+  taken = one_by_one-append limit c d f.ops g.ops f.taken ∙ subst (λ l. taken_one_by_one l d g.ops ≡ Ok e) same g.taken;
+  follows = on f.ops g.ops f.follows g.follows;
+}

@@ -29,8 +29,9 @@ note_read limit start c bytes h = by_outcome (log_outcome limit start bytes) ref
     by_outcome : (p : LogOutcome) → log_outcome limit start bytes ≡ p → but_torn p.0 p.1 ≡ Ok c → (read : LogRead) × (log_outcome limit start bytes ≡ (c, Ok read))
     by_outcome (d, r) is h = let w = by_result d r h in (w.0, is ∙ w.1)
 
-is_readable : (bytes : List ℕ) (c : Content) → note_of MAX_LIMIT bytes ≡ Ok c → IsReadable bytes × (c ≡ log_content bytes)
-is_readable bytes c h =
+-- what it leads to is the content of its operations
+pub content_of_note : (bytes : List ℕ) (c : Content) → note_of MAX_LIMIT bytes ≡ Ok c → IsReadable bytes × (c ≡ log_content bytes)
+content_of_note bytes c h =
     let w = note_read MAX_LIMIT nothing c bytes h in
     let taken = log_taken MAX_LIMIT nothing c w.0 bytes w.1 in
     let content : c ≡ log_content bytes = taken_from_nothing MAX_LIMIT (log_operations bytes) c taken in
@@ -42,5 +43,5 @@ pub text_of_front : (known : Option (List ℕ)) (lines : Option ℕ) (read front
 text_of_front None lines read front limit start c written same cut fits empty h is = tt
 text_of_front (Some bytes) lines read front limit start c written same cut fits empty h is =
     let all : front ≡ front_of lines bytes = cut ∙ ap (front_of lines) same in
-    let w = is_readable (front_of lines bytes) c (subst (λ l. note_from l nothing (front_of lines bytes) ≡ Ok c) fits (subst (λ e. note_from limit e (front_of lines bytes) ≡ Ok c) empty (subst (λ f. note_from limit start f ≡ Ok c) all h))) in
+    let w = content_of_note (front_of lines bytes) c (subst (λ l. note_from l nothing (front_of lines bytes) ≡ Ok c) fits (subst (λ e. note_from limit e (front_of lines bytes) ≡ Ok c) empty (subst (λ f. note_from limit start f ≡ Ok c) all h))) in
     (w.0, is ∙ ap shown_bytes w.1)

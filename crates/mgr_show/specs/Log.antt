@@ -1,12 +1,15 @@
 -- What `mgr show` makes of a log.
-use Rattle.std.specs.Prelude.{ℕ, ◌+◌, List, Result, Ok, Err}
+use Rattle.std.specs.Prelude.{◌≡◌, ℕ, ◌+◌, List, Result, Ok, Err}
+use Rattle.rga_ops.specs.Answer.{taken_one_by_one}
 use Rattle.rga_ops.specs.Content.{Content, nothing}
+use Rattle.rga_ops.specs.declared.op.Op.{Op}
 use Rattle.rga_exchange.specs.declared.fault.LogFault.{LogFault}
 use Rattle.rga_exchange.specs.declared.fault.LogFault.TheVariants as log
 use Rattle.rga_exchange.specs.declared.log.LogEnd.{LogEnd}
 use Rattle.rga_exchange.specs.declared.log.LogEnd.TheVariants.{Whole, Bare, Torn}
 use Rattle.rga_exchange.specs.declared.log.LogRead.{LogRead}
 use Rattle.rga_exchange.specs.Log.{log_outcome}
+use Rattle.rga_exchange.specs.Taking.{Intake}
 use Rattle.mgr_show.specs.declared.fault.ShowFault.{ShowFault}
 use Rattle.mgr_show.specs.declared.fault.ShowFault.TheVariants as fault
 
@@ -37,3 +40,9 @@ shown_from limit c bytes = let p = log_outcome limit c bytes in outcome_of p.0 p
 -- a whole log
 abbrev pub log_of : ℕ → List ℕ → ShowOutcome
 log_of limit bytes = shown_from limit nothing bytes
+
+-- operations were taken one after another, and nothing else was done
+pub record HasFollowed (took : Intake) : Type 0 where
+  pub ops : List Op
+  pub taken : taken_one_by_one took.limit took.old ops ≡ Ok took.new
+  pub follows : took.follows ops

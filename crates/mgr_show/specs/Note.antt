@@ -1,4 +1,4 @@
--- What `show_note` shows of the log of a note.
+-- The log of a note, and what `show_note` shows of it.
 use Rattle.std.specs.Prelude.{◌≡◌, ℕ, ◌-◌, ◌==◌, if◌then◌else◌, List, [], ◌∷◌, ◌++◌, Option, Some, None, Result, Ok, Err, codes}
 use Rattle.rga_ops.specs.Content.{Content, nothing, IsAgreed}
 use Rattle.rga_lines.specs.Log.{log_operations}
@@ -24,7 +24,7 @@ abbrev pub front_of : Option ℕ → List ℕ → List ℕ
 front_of None bytes = bytes
 front_of (Some n) bytes = first_lines n bytes
 
--- the content of a log, or why its text is not shown; a last line that was cut off is left out
+-- the content of a log, or its first fault; a last line that was cut off is left out
 abbrev pub but_torn : Content → Result LogRead LogFault → ShowOutcome
 but_torn c (Ok read) = Ok c
 but_torn c (Err e) = Err (show_fault e)

@@ -4,7 +4,8 @@ ghost use Rattle.std.specs.List.{list_any};
 ghost use Rattle.rga_store.specs.declared.text_store.TheConstants.{MAX_LIMIT};
 ghost use Rattle.rga_devices.specs.Counting.{CountsAs, WritesNothing};
 ghost use Rattle.rga_exchange.specs.DeletionRuns.{has_deletion_runs};
-ghost use Rattle.mgr_show.specs.Log.{shown_from};
+ghost use Rattle.rga_exchange.specs.Taking.{intake};
+ghost use Rattle.mgr_show.specs.Log.{HasFollowed, shown_from};
 ghost use Rattle.mgr_show.specs.Shown.{IsOfInput};
 ghost use Rattle.mgr_show.specs.Sources.{failures_after};
 ghost use Rattle.mgr_show.specs.Joined.{joined_from, join_of, reads_failed, OnLogs, IsOfLog, NamesOneOf, Joins, BeginsToJoin};
@@ -62,7 +63,7 @@ pub fn join_logs<S: Sources, W: Write>(
 
 /// Takes the operations of the logs of the names. `deletion_runs` becomes true if one of them has a
 /// run of deletions.
-fn take_logs<S: Sources, T: Taker>(
+pub fn take_logs<S: Sources, T: Taker>(
     alloc: Global,
     sources: &mut S,
     names: &[String],
@@ -82,6 +83,9 @@ fn take_logs<S: Sources, T: Taker>(
     ensures same { (other : List ℕ) → S.contents sources.new other ≡ S.contents sources.old other }
     ensures reads { S.failures sources.new ≡ reads_failed result (S.failures sources.old) }
     ensures no_write { result ≢ Err JoinFault.Write }
+    ensures limit { T.limit taker.new ≡ T.limit taker.old }
+    ensures follows { OnOk result
+        (HasFollowed (intake T.limit T.content T.follows taker.old taker.new)) }
 {
     for (index, name) in names.iter().enumerate() {
         if let Err(fault) = take_named(alloc, sources, name.as_str(), taker, deletion_runs) {
@@ -109,6 +113,8 @@ fn take_named<S: Sources, T: Taker>(
     ensures device { S.failures sources.new ≡ failures_after result (S.failures sources.old) }
     ensures no_write { result ≢ Err ShowFault.Write }
     ensures limit { T.limit taker.new ≡ T.limit taker.old }
+    ensures follows { OnOk result
+        (HasFollowed (intake T.limit T.content T.follows taker.old taker.new)) }
 {
     let bytes = sources.read(alloc, name)?;
     match take_whole_log(

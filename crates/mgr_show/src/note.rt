@@ -2,6 +2,7 @@
 ghost use Rattle.std.specs.Prelude.{◌≡◌, ◌≢◌, ◌⊎◌, ℕ, List, true, Ok, Err, OnOk, OnErr, IfOk, IfErr, IfSome, string_bytes};
 ghost use Rattle.rga_store.specs.declared.text_store.TheConstants.{MAX_LIMIT};
 ghost use Rattle.rga_devices.specs.Counting.{CountsAs, Writes, WritesFront, WritesNothing};
+ghost use Rattle.rga_exchange.specs.Log.{log_outcome};
 ghost use Rattle.mgr_show.specs.Shown.{log_content, shown_bytes, IsOfInput};
 ghost use Rattle.mgr_show.specs.Note.{log_name, first_lines, front_of, note_from, note_of, IsReadable};
 ghost use Rattle.mgr_show.specs.Sources.{failures_after};
@@ -11,7 +12,7 @@ use crate::show::write_text;
 use crate::sources::Sources;
 use crate::text::text_string;
 use rga_devices::Counted;
-use rga_exchange::{LogFault, take_log};
+use rga_exchange::{LogFault, LogRead, take_log};
 use rga_records::Records;
 use rga_store::{MAX_LIMIT, Taker};
 use std::alloc::{AllocError, Global};
@@ -81,8 +82,8 @@ fn text_of_note<S: Sources>(
     text_string(alloc, &records)
 }
 
-/// The name of the log of a note.
-fn log_name(alloc: Global, name: &str) -> Result<String, ShowFault>
+/// The name of the log of a note. `Memory` alone.
+pub fn log_name(alloc: Global, name: &str) -> Result<String, ShowFault>
     ensures name { IfOk result (λ log. string_bytes log ≡ log_name name.now) }
     ensures memory { IfErr result (λ e. e ≡ ShowFault.Memory) }
 {
@@ -118,17 +119,25 @@ fn first_lines(bytes: &[u8], count: u64) -> &[u8]
     bytes
 }
 
-/// Takes the operations of a log, but for a last line that was cut off.
-fn take_but_torn<T: Taker>(alloc: Global, taker: &mut T, bytes: &[u8]) -> Result<(), ShowFault>
+/// Takes the operations of a log, but for a last line that was cut off. Answers how many lines it
+/// has, and how it ends. Faults: `Line` and `Refused`, of which the first in the order of the lines
+/// is answered, and `Memory`.
+pub fn take_but_torn<T: Taker>(
+    alloc: Global,
+    taker: &mut T,
+    bytes: &[u8],
+) -> Result<LogRead, ShowFault>
     ensures ok { OnOk result (note_from (T.limit taker.old) (T.content taker.old) bytes.now
         ≡ Ok (T.content taker.new)) }
+    ensures read { IfOk result (λ read.
+        (log_outcome (T.limit taker.old) (T.content taker.old) bytes.now).1 ≡ Ok read) }
     ensures refused { IfErr result (λ e. IsOfInput e →
         note_from (T.limit taker.old) (T.content taker.old) bytes.now ≡ Err e) }
     ensures whole { (number : ℕ) → result ≢ Err (ShowFault.Torn number) }
     ensures device { (result ≢ Err ShowFault.Read) × (result ≢ Err ShowFault.Write) }
 {
     match take_log(alloc, taker, &mut Counted::new(bytes), &mut false) {
-        Ok(_) => Ok(()),
+        Ok(read) => Ok(read),
         // No machine has the bytes on which a reader of them would spend its calls.
         Err(LogFault::Read) => Err(ShowFault::Memory),
         Err(fault) => Err(ShowFault::from(fault)),

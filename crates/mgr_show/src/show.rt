@@ -6,7 +6,7 @@ ghost use Rattle.rga_devices.specs.Counting.{CountsAs, OnBytes, Writes, WritesFr
 ghost use Rattle.rga_exchange.specs.DeletionRuns.{has_deletion_runs};
 ghost use Rattle.rga_exchange.specs.Taking.{intake, content_intake, HasTakenWholeLines};
 ghost use Rattle.rga_exchange.specs.declared.taking.Form.TheVariants.{Log};
-ghost use Rattle.mgr_show.specs.Log.{log_of, shown_from};
+ghost use Rattle.mgr_show.specs.Log.{HasFollowed, log_of, shown_from};
 ghost use Rattle.mgr_show.specs.Shown.{IsOfInput, IsTextOf, ShowsLog, BeginsToShow};
 
 use crate::fault::ShowFault;
@@ -94,6 +94,8 @@ pub(crate) fn take_whole_log<T: Taker, R: Read>(
     ensures device { CountsAs ShowFault.Read result reader.old reader.new }
     ensures no_write { result ≢ Err ShowFault.Write }
     ensures limit { T.limit taker.new ≡ T.limit taker.old }
+    ensures follows { OnOk result
+        (HasFollowed (intake T.limit T.content T.follows taker.old taker.new)) }
 {
     let log = take_log(alloc, taker, reader, deletion_runs)?;
     match log.end {

@@ -49,6 +49,12 @@ def reads(stage, about):
 
 
 @word
+def passes(stage, about):
+    """The next job reads what the last one wrote."""
+    stage.person.input = inputs.Whole(job_of(stage).output)
+
+
+@word
 def room(stage, about):
     """The output of the next job has room for so many bytes."""
     stage.person.room = int(about)

@@ -1,0 +1,5 @@
+pub mod ClaimsLaws
+pub mod HeadLaws
+pub mod HeadLineLaws
+pub mod MissingLaws
+pub mod TakenLaws

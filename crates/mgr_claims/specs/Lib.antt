@@ -1,0 +1,3 @@
+pub mod Notes
+pub mod Claims
+pub mod Missing

@@ -1,0 +1,4 @@
+pub mod GuardLemmas
+pub mod SearchLemmas
+pub mod MergeLemmas
+pub mod HeldLaws
