@@ -23,7 +23,7 @@ A log that does not agree with those before it is refused, and nothing is writte
 const MERGE_HELP: &str = "Each LOG is the path of a log, or - for standard input:
 
     mgr merge notes /mnt/share/notes.ops
-    ssh host mgr claims notes | mgr missing notes | ssh host mgr merge notes -
+    ssh host mgr claims notes | mgr missing notes | ssh host mgr merge notes - --adopt
 
 NAME.ops and the text NAME then have what the logs have. If one is refused, both stay.";
 

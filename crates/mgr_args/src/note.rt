@@ -27,14 +27,14 @@ const WHO_HELP: &str = "Each piece of the text is a line of JSON, with the repli
 const CLAIMS_HELP: &str =
     "Lines of JSON say what NAME.ops has, or a log on standard input if NAME is -:
 
-    ssh host mgr claims notes | mgr missing notes | ssh host mgr merge notes -
+    ssh host mgr claims notes | mgr missing notes | ssh host mgr merge notes - --adopt
 
 `mgr missing` reads these lines.";
 
 const MISSING_HELP: &str =
     "What the other log has comes on standard input, in the lines of `mgr claims`:
 
-    ssh host mgr claims notes | mgr missing notes | ssh host mgr merge notes -
+    ssh host mgr claims notes | mgr missing notes | ssh host mgr merge notes - --adopt
 
 What is written is a log, which `mgr merge` takes.";
 
