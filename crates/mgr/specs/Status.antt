@@ -24,7 +24,7 @@ use Rattle.mgr_compact.specs.Ends.{EndsWell, EndsEarly, StaysSame, failures_afte
 use Rattle.mgr_show.specs.Shown.{IsOfInput, ShowsLog, BeginsToShow, log_content, shown_bytes}
 use Rattle.mgr_claims.specs.Claims.{BeginsToTell, TellsClaims}
 use Rattle.mgr_claims.specs.Missing.{BeginsMissing, IsOfClaims, IsOfLog as IsOfNote, OnBoth, WritesMissing, claims_heard, log_held, reads_failed as missing_reads_failed}
-use Rattle.mgr_claims.specs.Notes.{log_name as claimed_name, note_of as claimed_note}
+use Rattle.mgr_claims.specs.Notes.{log_source}
 use Rattle.mgr_claims.specs.declared.fault.MissingFault.{MissingFault}
 use Rattle.mgr_claims.specs.declared.fault.MissingFault.TheVariants as missing
 use Rattle.mgr_merge.specs.Merging.{BeginsToMerge, FindsNoNote, IsRefusedBy, LoadsNote, Merges}
@@ -193,10 +193,10 @@ module _ {S W : Type 0} (files : S → List ℕ → Option (List ℕ)) (contents
   -- of `claims`: the claims of what the log holds
   abbrev pub IsStatusOfClaims : List ℕ → ℕ → Sourcing S W → Sourcing S W → Type 0
   IsStatusOfClaims name status before after =
-      IsStatusOfLog contents failures (files before.sources (claimed_name name))
+      IsStatusOfLog contents failures (files before.sources (log_source name))
       (λ bytes. TellsClaims contents before.output after.output bytes)
       (λ bytes. BeginsToTell contents before.output after.output bytes)
-      (λ bytes e. claimed_note MAX_LIMIT bytes ≡ Err e) status before after
+      (λ bytes e. note_of MAX_LIMIT bytes ≡ Err e) status before after
 
   -- That of an answer to `missing`, which says what was written of what the claims on standard input lack, whether they or
   -- the log are refused, and what is told.
@@ -204,13 +204,13 @@ module _ {S W : Type 0} (files : S → List ℕ → Option (List ℕ)) (contents
     pub answer : Result ℕ MissingFault
     pub exact : status ≡ sent_status answer
     pub told_line : TellsMore before.told after.told (sent_telling answer)
-    pub written : IfOk answer (λ number. OnBoth (files before.sources (codes "-")) (files before.sources (claimed_name name))
+    pub written : IfOk answer (λ number. OnBoth (files before.sources (codes "-")) (files before.sources (log_source name))
         (λ claims log. WritesMissing contents before.output after.output claims log number))
     pub claims : IfErr answer (λ e. IsOfClaims e → IfSome (files before.sources (codes "-")) (λ bytes. claims_heard bytes ≡ Err e))
-    pub log : IfErr answer (λ e. IsOfNote e → IfSome (files before.sources (claimed_name name)) (λ bytes. log_held bytes ≡ Err e))
+    pub log : IfErr answer (λ e. IsOfNote e → IfSome (files before.sources (log_source name)) (λ bytes. log_held bytes ≡ Err e))
     pub unwritten : IfErr answer (λ e. e ≢ missing.Write → e ≢ missing.Memory → after.output ≡ before.output)
     pub nothing : IfErr answer (λ e. e ≢ missing.Write → WritesNothing contents before.output after.output)
-    pub begun : OnErr answer (OnBoth (files before.sources (codes "-")) (files before.sources (claimed_name name))
+    pub begun : OnErr answer (OnBoth (files before.sources (codes "-")) (files before.sources (log_source name))
         (λ claims log. WritesNothing contents before.output after.output ⊎ BeginsMissing contents before.output after.output claims log))
     pub flushed : OnOk answer (after.output.flushed ≡ true)
     pub reads : failures after.sources ≡ missing_reads_failed answer (failures before.sources)
