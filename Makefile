@@ -60,7 +60,7 @@ try-sharing: build/mgr
 crash: build/mgr
 	@scripts/crash.py build/mgr
 
-# Peers that break off or lie, memory that is refused, files that fail, logs that are made to be slow, random ones, and random pairs.
+# Peers that break off or lie, memory that is refused, files that fail, logs that are made to be slow, random ones, random pairs, and random sets that are merged.
 hostile: build/mgr
 	@scripts/hostile_peers.py build/mgr
 	@scripts/refused_growths.py build/mgr
@@ -68,6 +68,7 @@ hostile: build/mgr
 	@scripts/shapes.py build/mgr
 	@scripts/compactions.py build/mgr
 	@scripts/brief_pairs.py build/mgr
+	@scripts/merged_sets.py build/mgr
 
 # The files of notes that other programs change, and a second session, while they are edited.
 files: build/mgr
