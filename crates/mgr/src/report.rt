@@ -113,7 +113,8 @@ impl Report {
     /// What the shell is told of a fault of `mgr missing`. It takes no memory.
     ///
     /// Where claims are refused the status is 1, and the line is `claims: no head`, `claims: Cut`,
-    /// `claims: Count` or `claims: line 2: Json`. A refused log, devices and memory as for `mgr show`.
+    /// `claims: Count` or `claims: line 2: Json`. A refused log, devices and memory as for `mgr
+    /// show`.
     pub fn of_missing(fault: &MissingFault) -> Report
         ensures status { result.status ≡ spec.missing_status fault.now }
         ensures text { spec.report_text result.message ≡ spec.missing_message fault.now }
@@ -152,8 +153,9 @@ impl Report {
     ///
     /// Where nothing was loaded the status is 1: the line is that of a refused line of the log, as
     /// of `mgr show`, or `text: not UTF-8`, or `text: Full` where the text has more characters than
-    /// a buffer. Devices and memory as for `mgr show`. Of a save or an exchange that failed likewise:
-    /// a line that a peer said is refused, or a device failed, be that a peer that ended early.
+    /// a buffer. Devices and memory as for `mgr show`. Of a save or an exchange that failed
+    /// likewise: a line that a peer said is refused, or a device failed, be that a peer that ended
+    /// early.
     pub fn of_session(fault: &SessionFault) -> Report
         ensures status { result.status ≡ spec.session_status fault.now }
         ensures text { spec.report_text result.message ≡ spec.session_message fault.now }

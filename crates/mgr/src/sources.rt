@@ -20,8 +20,8 @@ pub(crate) struct PathFiles<R> {
 }
 
 impl<R> PathFiles<R> {
-    /// Plain files; with `streams` whatever can be read, and standard input as `-`. A pipe may never
-    /// have an end, and a device may have none.
+    /// Plain files; with `streams` whatever can be read, and standard input as `-`. A pipe may
+    /// never have an end, and a device may have none.
     pub(crate) fn new(rt: R, streams: bool) -> PathFiles<R>
         ensures { result.failures ≡ 0 }
     {

@@ -5,8 +5,8 @@ ghost use Rattle.mgr_merge.specs.Merging.{load_fault, log_fault, port_fault};
 use mg_files::{LoadFault, PortFault};
 use mgr_show::{JoinFault, ShowFault};
 
-/// Why `mgr merge` leaves a note as it was, or, with `File` and `Memory`, may have written a part of
-/// its log.
+/// Why `mgr merge` leaves a note as it was, or, with `File` and `Memory`, may have written a part
+/// of its log.
 #[derive(Clone, Copy, PartialEq, Eq)]
 pub enum MergeFault {
     /// There is a text under the name, and no log: its characters are in no operation.

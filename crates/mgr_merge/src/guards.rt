@@ -13,12 +13,12 @@ use rga_records::Records;
 use rga_store::{MAX_LIMIT, TextStore};
 use std::alloc::Global;
 
-/// By how much a counter may be above all that a note knows: who takes one that is far above can make
-/// few operations more.
+/// By how much a counter may be above all that a note knows: who takes one that is far above can
+/// make few operations more.
 const NEAR: u64 = 4294967296;
 
-/// `Apart` where the logs have operations, the note has some, and they share none, unless they are to
-/// be adopted; and `Log` with that of the first log that is refused then.
+/// `Apart` where the logs have operations, the note has some, and they share none, unless they are
+/// to be adopted; and `Log` with that of the first log that is refused then.
 pub(crate) fn check_apart<S: TextStore, F: Sources>(
     alloc: Global,
     sources: &mut F,
@@ -75,7 +75,8 @@ fn are_apart<S: TextStore, F: Sources>(
 
 /// Whether a store holds one of these operations.
 fn shares<S: TextStore>(store: &S, ops: &[Op]) -> bool
-    ensures some { result ≡ true → (op : Op) × Contains ops.now op × Holds (S.content store.now) op }
+    ensures some { result ≡ true
+        → (op : Op) × Contains ops.now op × Holds (S.content store.now) op }
     ensures none { result ≡ false
         → (op : Op) → Contains ops.now op → ¬ (Holds (S.content store.now) op) }
 {

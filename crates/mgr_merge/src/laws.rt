@@ -13,10 +13,12 @@ ghost use Rattle.mgr_merge.specs.MergedHeld.{HoldsJoin};
 /// the types keep, what is loaded and what is saved can be written.
 pub fn a_merge_holds_the_join()
     ensures log { (before made : List Call) (name : List ℕ) (adopt : Bool)
-        (logs : List (List ℕ)) (new : ℕ) (s t : Held) → (m : Merges (Some before) (Some (before ++ made)) name adopt logs new)
+        (logs : List (List ℕ)) (new : ℕ) (s t : Held)
+        → (m : Merges (Some before) (Some (before ++ made)) name adopt logs new)
         → IsBuffer m.b → IsBuffer m.merges.d → MayLead made s t → HoldsJoin name logs s t }
     ensures text { (before made : List Call) (name : List ℕ) (adopt : Bool)
-        (logs : List (List ℕ)) (new : ℕ) (s t : Held) → (m : Merges (Some before) (Some (before ++ made)) name adopt logs new)
+        (logs : List (List ℕ)) (new : ℕ) (s t : Held)
+        → (m : Merges (Some before) (Some (before ++ made)) name adopt logs new)
         → is_changed m.merges.d ≡ true → MayLead made s t
         → (t name).text ≡ Some (text_bytes m.merges.d.buffer.content) }
 {}

@@ -2,9 +2,10 @@
 //!
 //! `merge_logs` loads a note, takes the operations of logs, and saves it. The crate stands on
 //! mg_files for the note, on mgr_show for the logs, and is generic over any store, any port and any
-//! sources. The program above may rest on the contract: with `Ok` the calls of the port are those of
-//! a load, and of a save of what was loaded with all operations of the logs; a log that is refused
-//! leaves the note as it is; and on the law that the log of the note then stands for the join (`laws`).
+//! sources. The program above may rest on the contract: with `Ok` the calls of the port are those
+//! of a load, and of a save of what was loaded with all operations of the logs; a log that is
+//! refused leaves the note as it is; and on the law that the log of the note then stands for the
+//! join (`laws`).
 #![tactic(auto)]
 
 mod fault;

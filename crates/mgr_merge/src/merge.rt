@@ -21,9 +21,9 @@ const REPLICA: u16 = 1;
 /// Takes the operations of the logs of the names into a note, and saves it: what is new is appended
 /// to its log, and its text is put. Answers how many operations were new.
 ///
-/// Faults, after which nothing is written: `NoLog` where there is a text and no log; `Load` with that of
-/// the note; `Apart`, unless the logs are to be adopted; `Log` with that of the first log that is
-/// refused; `Far`. `File` and `Memory`.
+/// Faults, after which nothing is written: `NoLog` where there is a text and no log; `Load` with
+/// that of the note; `Apart`, unless the logs are to be adopted; `Log` with that of the first log
+/// that is refused; `Far`. `File` and `Memory`.
 pub fn merge_logs<S: TextStore, P: Port, F: Sources>(
     alloc: Global,
     port: &mut P,
@@ -47,8 +47,8 @@ pub fn merge_logs<S: TextStore, P: Port, F: Sources>(
     merge_into(alloc, port, sources, logs, adopt, &mut opened)
 }
 
-/// Takes the operations of the logs of the names into what was loaded, and saves it. Answers how many
-/// were new.
+/// Takes the operations of the logs of the names into what was loaded, and saves it. Answers how
+/// many were new.
 fn merge_into<S: TextStore, P: Port, F: Sources>(
     alloc: Global,
     port: &mut P,

@@ -98,13 +98,13 @@ impl Logs for MemoryLogs {
     ghost use Rattle.std.specs.Option.{option_map};
     ghost use Rattle.mg_files.specs.Calls.{failures_after};
     ghost use Rattle.mgr_port.specs.Logs.{SameElsewhere, Names, left, raised};
-    ghost use Rattle.test_ports.specs.Steps.{memory_standing};
+    ghost use Rattle.test_ports.specs.Standings.{stands_in};
 
     type Log = Cursor<Vec<u8>>;
 
     type Next = Vec<u8>;
 
-    ghost standing = { λ logs. memory_standing logs.log.items logs.disk.steps.items logs.left };
+    ghost standing = { λ logs. stands_in logs };
 
     ghost failures = { λ logs. logs.failures };
 
@@ -126,12 +126,9 @@ impl Logs for MemoryLogs {
         log: Counted<Cursor<Vec<u8>>>,
         next: Counted<Vec<u8>>,
     ) -> Result<(), PortFault>
-        ensures named { let old = memory_standing self.old.log.items self.old.disk.steps.items self.old.left in
-            let new = memory_standing self.new.log.items self.new.disk.steps.items self.new.left in
-            IfSome (old name.now) (λ s. Names result next.inner.items s (new name.now)) }
-        ensures others { let old = memory_standing self.old.log.items self.old.disk.steps.items self.old.left in
-            let new = memory_standing self.new.log.items self.new.disk.steps.items self.new.left in
-            SameElsewhere name.now old new }
+        ensures named { IfSome (stands_in self.old name.now)
+            (λ s. Names result next.inner.items s (stands_in self.new name.now)) }
+        ensures others { SameElsewhere name.now (stands_in self.old) (stands_in self.new) }
         ensures device { self.new.failures ≡ failures_after result
             (raised (raised self.old.failures log.failures) next.failures) }
     {
@@ -152,12 +149,9 @@ impl Logs for MemoryLogs {
     }
 
     fn leave_next(&mut self, name: &str, log: Counted<Cursor<Vec<u8>>>, next: Counted<Vec<u8>>)
-        ensures left { let old = memory_standing self.old.log.items self.old.disk.steps.items self.old.left in
-            let new = memory_standing self.new.log.items self.new.disk.steps.items self.new.left in
-            new name.now ≡ option_map left (old name.now) }
-        ensures others { let old = memory_standing self.old.log.items self.old.disk.steps.items self.old.left in
-            let new = memory_standing self.new.log.items self.new.disk.steps.items self.new.left in
-            SameElsewhere name.now old new }
+        ensures left { stands_in self.new name.now
+            ≡ option_map left (stands_in self.old name.now) }
+        ensures others { SameElsewhere name.now (stands_in self.old) (stands_in self.new) }
         ensures device { self.new.failures
             ≡ raised (raised self.old.failures log.failures) next.failures }
     {
