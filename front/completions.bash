@@ -8,7 +8,7 @@ _mgr_notes() {
     while IFS= read -r path; do
         if [[ -d $path ]]; then
             COMPREPLY+=("$path")
-        elif [[ $path != *@(~|.keys|.ops.new|.ops.text) ]]; then
+        elif [[ $path != *@(~|.keys|.ops.new|.ops.refused|.ops.text) ]]; then
             COMPREPLY+=("${path%.ops}")
         fi
     done < <(compgen -f -- "$begin")
@@ -51,7 +51,7 @@ _mgr() {
             ;;
         *)
             if ((COMP_CWORD == 1)); then
-                mapfile -t COMPREPLY < <(compgen -W "claims compact edit join log merge missing show who help --version --help" -- "$word")
+                mapfile -t COMPREPLY < <(compgen -W "claims compact edit join log mend merge missing show who help --version --help" -- "$word")
             elif [[ ${COMP_WORDS[1]} == edit ]]; then
                 _mgr_word "$word" --replica --rows --cols --fill --port --trace --newest --cursor --resizable --runs --brief --strict --help
             elif [[ ${COMP_WORDS[1]} == compact ]]; then
@@ -62,7 +62,7 @@ _mgr() {
                 _mgr_word "$word" --json --help
             elif [[ ${COMP_WORDS[1]} == who ]]; then
                 _mgr_word "$word" --lines --help
-            elif [[ ${COMP_WORDS[1]} == @(claims|missing) ]]; then
+            elif [[ ${COMP_WORDS[1]} == @(claims|mend|missing) ]]; then
                 _mgr_word "$word" --help
             elif [[ ${COMP_WORDS[1]} == join ]]; then
                 _mgr_files "$word"

@@ -43,7 +43,7 @@ class TestCompletions(unittest.TestCase):
     def test_jobs(self) -> None:
         self.assertEqual(completed("mgr", "e"), ["edit"])
         self.assertEqual(completed("mgr", "c"), ["claims", "compact"])
-        self.assertEqual(completed("mgr", "m"), ["merge", "missing"])
+        self.assertEqual(completed("mgr", "m"), ["mend", "merge", "missing"])
         self.assertEqual(completed("mgr", "compact", "--"), ["--dels", "--help"])
         self.assertEqual(completed("mgr", "show", "--"), ["--help", "--lines"])
         self.assertEqual(completed("mgr", "show", "note", "--lines", ""), [])
@@ -52,6 +52,7 @@ class TestCompletions(unittest.TestCase):
         self.assertEqual(completed("mgr", "claims", "--"), ["--help"])
         self.assertEqual(completed("mgr", "missing", "--"), ["--help"])
         self.assertEqual(completed("mgr", "merge", "--"), ["--adopt", "--help"])
+        self.assertEqual(completed("mgr", "mend", "--"), ["--help"])
         self.assertEqual(completed("mgr", "merge", "note", "note.ops", "--"), ["--adopt", "--help"])
 
     def test_values(self) -> None:
@@ -69,7 +70,7 @@ class TestCompletions(unittest.TestCase):
             self.assertEqual(completed("mgr", "merge", "--adopt", "no", folder=folder), ["no text", "note", "notes"])
             for words in (["note"], ["--adopt", "note"], ["note", "note.ops"]):
                 self.assertEqual(completed("mgr", "merge", *words, "note.", folder=folder), ["note.ops"])
-            for job in ("edit", "compact", "show", "log", "who", "claims", "missing", "merge"):
+            for job in ("edit", "compact", "show", "log", "who", "claims", "missing", "merge", "mend"):
                 self.assertEqual(completed("mgr", job, r"no\ t", folder=folder), ["no text"])
             self.assertEqual(completed("mgr-hub", '"no t', folder=folder), ["no text"])
             self.assertEqual(completed("mgr-live", "--", "--", folder=folder), ["--odd"])

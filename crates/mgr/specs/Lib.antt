@@ -1,4 +1,5 @@
 pub mod Peers
+pub mod Printed
 pub mod Report
 pub mod Status
 pub mod Telling

@@ -1,5 +1,5 @@
 -- What the shell is told of a fault.
-use Rattle.std.specs.Prelude.{◌==◌, ℕ, List, ◌++◌, if◌then◌else◌, Option, None, Some, Result, Ok, Err, codes, slice_get}
+use Rattle.std.specs.Prelude.{ℕ, List, ◌++◌, Option, None, Some, Result, Ok, Err, codes, slice_get}
 use Rattle.std.specs.Fmt.{decimal}
 use Rattle.rga_lines.specs.FaultName.{fault_name}
 use Rattle.rga_lines.specs.LineFault.{LineFault}
@@ -23,6 +23,7 @@ use Rattle.mgr_claims.specs.declared.fault.MissingFault.{MissingFault}
 use Rattle.mgr_claims.specs.declared.fault.MissingFault.TheVariants as missing
 use Rattle.mgr_merge.specs.declared.fault.MergeFault.{MergeFault}
 use Rattle.mgr_merge.specs.declared.fault.MergeFault.TheVariants as merge
+use Rattle.mgr_merge.specs.declared.merged.Torn.{Torn}
 use Rattle.mgr.specs.declared.report.Message.{Message}
 use Rattle.mgr.specs.declared.report.Message.TheVariants as message
 
@@ -88,8 +89,9 @@ abbrev pub merge_status : MergeFault → ℕ
 merge_status merge.NoLog = 1
 merge_status (merge.Load fault) = load_status fault
 merge_status (merge.Log index fault) = show_status fault
-merge_status merge.Apart = 1
-merge_status merge.Far = 1
+merge_status (merge.Apart index) = 1
+merge_status (merge.Far index) = 1
+merge_status merge.TextStays = 1
 merge_status merge.File = 3
 merge_status merge.Memory = 4
 
@@ -149,6 +151,13 @@ show_message show.Read = codes "device fault"
 show_message show.Write = codes "device fault"
 show_message show.Memory = codes "out of memory"
 
+-- of a job that reads one log, whose name stands in front of what is wrong with it: what can't be written, and memory, are
+-- of no log
+abbrev pub source_message : List ℕ → ShowFault → List ℕ
+source_message log show.Write = codes "device fault"
+source_message log show.Memory = codes "out of memory"
+source_message log fault = log ++ (codes ": " ++ show_message fault)
+
 -- with the name of a log in front, if there is one
 abbrev pub named_text : Option (List ℕ) → List ℕ → List ℕ
 named_text None text = text
@@ -177,22 +186,28 @@ claims_message receive.Count = codes "claims: Count"
 claims_message receive.Read = codes "device fault"
 claims_message receive.Memory = codes "out of memory"
 
-abbrev pub missing_message : MissingFault → List ℕ
-missing_message missing.Head = codes "claims: no head"
-missing_message (missing.Claims fault) = claims_message fault
-missing_message (missing.Log fault) = show_message fault
-missing_message missing.Write = codes "device fault"
-missing_message missing.Memory = codes "out of memory"
+-- of what the log with this name has and claims lack
+abbrev pub missing_message : List ℕ → MissingFault → List ℕ
+missing_message log missing.Head = codes "claims: no head"
+missing_message log (missing.Claims fault) = claims_message fault
+missing_message log (missing.Log fault) = source_message log fault
+missing_message log missing.Write = codes "device fault"
+missing_message log missing.Memory = codes "out of memory"
 
 -- of the merge of logs with these names
 abbrev pub merge_message : List (List ℕ) → MergeFault → List ℕ
 merge_message names merge.NoLog = codes "text without a log"
 merge_message names (merge.Load fault) = load_message fault
 merge_message names (merge.Log index fault) = named_text (slice_get names index) (show_message fault)
-merge_message names merge.Apart = codes "logs of another note, which --adopt takes"
-merge_message names merge.Far = codes "counter far above the note's"
+merge_message names (merge.Apart index) = named_text (slice_get names index) (codes "a log of another note, which --adopt takes")
+merge_message names (merge.Far index) = named_text (slice_get names index) (codes "counter far above the note's")
+merge_message names merge.TextStays = codes "the text stays: it is not the log's, but another program's or an older one (remove it, and mgr merge puts it anew)"
 merge_message names merge.File = codes "device fault"
 merge_message names merge.Memory = codes "out of memory"
+
+-- of a log with one of these names, whose last line was cut off
+abbrev pub torn_message : List (List ℕ) → Torn → List ℕ
+torn_message names torn = named_text (slice_get names torn.log) (line_report torn.line (codes "Torn: left out"))
 
 abbrev pub failure_message : Failure → List ℕ
 failure_message failure.Device = codes "device fault"
@@ -216,9 +231,3 @@ report_text (message.Claim number name) = codes "claims: line " ++ (decimal numb
 report_text (message.Note name) = name.now
 report_text message.Device = codes "device fault"
 report_text message.Memory = codes "out of memory"
-
--- ---- the line on standard output
-
--- how many operations of a merge were new
-abbrev pub count_line : ℕ → List ℕ
-count_line n = if n == 1 then codes "1 new operation\n" else (decimal n ++ codes " new operations\n")

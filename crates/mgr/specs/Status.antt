@@ -1,5 +1,6 @@
 -- The exit status of the program.
 use Rattle.std.specs.Prelude.{◌≡◌, ◌≢◌, ◌⊎◌, ℕ, Bool, true, List, [], ◌∷◌, Option, None, Some, Result, Err, IfSome, codes, length, map, OnOk, OnErr, IfOk, IfErr, string_bytes}
+use Rattle.std.specs.Io.KnownBytes.{Appends}
 use Rattle.rga_ops.specs.Content.{Content, nothing as no_content}
 use Rattle.rga_store.specs.declared.text_store.TheConstants.{MAX_LIMIT}
 use Rattle.rga_devices.specs.Counting.{Calls, CountsAs, StaysFlushed, OnBytes, Writes, WritesFront, WritesNothing, one_more}
@@ -8,8 +9,9 @@ use Rattle.rga_exchange.specs.declared.taking.Form.TheVariants.{Log}
 use Rattle.mgr_args.specs.declared.job.JobFault.{JobFault}
 use Rattle.mgr_args.specs.declared.job.JobFault.TheVariants.{Help, Version, Usage, Memory}
 use Rattle.mgr_show.specs.Log.{log_of}
-use Rattle.mgr.specs.Report.{count_line, edited_status, joined_status, merge_message, merge_status, sent_status, shown_status}
-use Rattle.mgr.specs.Telling.{KnownTelling, TellsMore, line, text, edited_telling, joined_telling, sent_telling, shown_telling}
+use Rattle.mgr.specs.Printed.{count_line, left_out_text}
+use Rattle.mgr.specs.Report.{edited_status, joined_status, merge_message, merge_status, sent_status, show_status, shown_status, source_message}
+use Rattle.mgr.specs.Telling.{KnownTelling, TellsMore, line, text, edited_telling, joined_telling, sent_telling, shown_telling, source_telling, torn_telling}
 use Rattle.mg_session.specs.declared.fault.SessionFault.{SessionFault}
 use Rattle.mg_session.specs.declared.fault.SessionFault.TheVariants as session
 use Rattle.mg_files.specs.Calls.{Call}
@@ -18,24 +20,29 @@ use Rattle.mg_settings.specs.Settings.{Values}
 use Rattle.mgr_args.specs.declared.given.Note.{Note}
 use Rattle.mgr_args.specs.declared.given.Shown.TheVariants.{Input, Front}
 use Rattle.mgr_args.specs.declared.job.Job.{Job}
-use Rattle.mgr_args.specs.declared.job.Job.TheVariants.{Show, Edit, Compact, Join, Log, Who, Claims, Missing, Merge}
-use Rattle.mgr_port.specs.Logs.{Standing, SameElsewhere, left}
-use Rattle.mgr_compact.specs.Ends.{EndsWell, EndsEarly, StaysSame, failures_after_compaction}
+use Rattle.mgr_args.specs.declared.job.Job.TheVariants.{Show, Edit, Compact, Join, Log, Who, Claims, Missing, Merge, Mend}
+use Rattle.mgr_port.specs.Logs.{Standing, SameElsewhere, StaysSame, left}
+use Rattle.mgr_compact.specs.Ends.{EndsWell, EndsEarly, failures_after_compaction}
 use Rattle.mgr_show.specs.Shown.{IsOfInput, ShowsLog, BeginsToShow, log_content, shown_bytes}
 use Rattle.mgr_claims.specs.Claims.{BeginsToTell, TellsClaims}
-use Rattle.mgr_claims.specs.Missing.{BeginsMissing, IsOfClaims, IsOfLog as IsOfNote, OnBoth, WritesMissing, claims_heard, log_held, reads_failed as missing_reads_failed}
+use Rattle.mgr_claims.specs.Missing.{BeginsMissing, IsOfClaims, IsOfLog as IsOfSource, OnBoth, WritesMissing, claims_heard, log_held, reads_failed as missing_reads_failed}
 use Rattle.mgr_claims.specs.Notes.{log_source}
 use Rattle.mgr_claims.specs.declared.fault.MissingFault.{MissingFault}
 use Rattle.mgr_claims.specs.declared.fault.MissingFault.TheVariants as missing
-use Rattle.mgr_merge.specs.Merging.{BeginsToMerge, FindsNoNote, IsRefusedBy, LoadsNote, Merges}
+use Rattle.mgr_mend.specs.Ends.{MendsInPart, mended_standing}
+use Rattle.mgr_mend.specs.Mending.{left_out_of, mended, refused_of}
+use Rattle.mgr_mend.specs.declared.mended.LeftOut.{LeftOut}
+use Rattle.mgr_merge.specs.Merging.{BeginsToPut, BeginsToWrite, FindsNoNote, IsOfLogs, IsOfNote, LeavesText, Merges, OnlyLoads, PutsNote, RefusesLogs, calls_failed, reads_failed as merge_reads_failed}
+use Rattle.mgr_merge.specs.declared.merged.Merged.{Merged}
 use Rattle.mgr_merge.specs.declared.fault.MergeFault.{MergeFault}
 use Rattle.mgr_merge.specs.declared.fault.MergeFault.TheVariants as merge
-use Rattle.mg_buffer.specs.OpenState.{OpenState}
 use Rattle.mgr_look.specs.Authors.{authors_bytes}
 use Rattle.mgr_look.specs.Notes.{BeginsToWriteAbout, WritesAbout, read_of}
-use Rattle.mgr_look.specs.Told.{BeginsToWriteNumbers, WritesNumbers}
+use Rattle.mgr_look.specs.Numbers.{FailedReads}
+use Rattle.mgr_look.specs.Told.{BeginsToWriteNumbers, LooksAtText, WritesNumbers}
 use Rattle.mgr_show.specs.Joined.{BeginsToJoin, IsOfLog, Joins, NamesOneOf, OnLogs, join_of, reads_failed}
 use Rattle.mgr_show.specs.Note.{IsReadable, front_of, log_name, note_of}
+use Rattle.mgr_show.specs.Sources.{failures_after}
 use Rattle.mgr_show.specs.declared.fault.JoinFault.{JoinFault}
 use Rattle.mgr_show.specs.declared.fault.JoinFault.TheVariants as join
 use Rattle.mgr_show.specs.declared.fault.ShowFault.{ShowFault}
@@ -67,6 +74,12 @@ pub record MergeSide (P S W : Type 0) : Type 0 where
   pub output : Calls W
   pub told : KnownTelling
 
+-- the port, standard output, and what was told on standard error
+pub record MendSide (P W : Type 0) : Type 0 where
+  pub port : P
+  pub output : Calls W
+  pub told : KnownTelling
+
 -- standard input and output and the port
 pub record Surroundings (R W P : Type 0) : Type 0 where
   pub input : Calls R
@@ -94,6 +107,9 @@ sourcing sources output told = record { sources = sources; output = output; told
 abbrev pub merge_side : {P S W : Type 0} → P → S → Calls W → KnownTelling → MergeSide P S W
 merge_side port sources output told = record { port = port; sources = sources; output = output; told = told }
 
+abbrev pub mend_side : {P W : Type 0} → P → Calls W → KnownTelling → MendSide P W
+mend_side port output told = record { port = port; output = output; told = told }
+
 abbrev pub surroundings : {R W P : Type 0} → Calls R → Calls W → P → KnownTelling → Surroundings R W P
 surroundings input output port told = record { input = input; output = output; port = port; told = told }
 
@@ -107,11 +123,12 @@ pub record Knowledge (R W P : Type 0) : Type 0 where
   pub calls : P → Option (List Call)
   pub failures : P → ℕ
   pub standing : P → List ℕ → Option Standing
+  pub refused : P → List ℕ → Option (List ℕ)
   pub log_failures : P → ℕ
 
-abbrev pub known : {R W P : Type 0} → (R → Option (List ℕ)) → (W → Option (List ℕ)) → (P → Option (List Call)) → (P → ℕ) → (P → List ℕ → Option Standing) → (P → ℕ) → Knowledge R W P
-known remaining contents calls failures standing log_failures =
-    record { remaining = remaining; contents = contents; calls = calls; failures = failures; standing = standing; log_failures = log_failures }
+abbrev pub known : {R W P : Type 0} → (R → Option (List ℕ)) → (W → Option (List ℕ)) → (P → Option (List Call)) → (P → ℕ) → (P → List ℕ → Option Standing) → (P → List ℕ → Option (List ℕ)) → (P → ℕ) → Knowledge R W P
+known remaining contents calls failures standing refused log_failures =
+    record { remaining = remaining; contents = contents; calls = calls; failures = failures; standing = standing; refused = refused; log_failures = log_failures }
 
 -- ---- what is printed
 
@@ -158,26 +175,25 @@ pub record IsStatusOfCompact {P : Type 0} (standing : P → List ℕ → Option 
   pub others : SameElsewhere (string_bytes c.name) (standing before.port) (standing after.port)
   pub device : failures after.port ≡ failures_after_compaction answer (failures before.port)
 
-module _ {S W : Type 0} (contents : W → Option (List ℕ)) (failures : S → ℕ) where
-  -- That of an answer to a job that reads one log and writes what it makes of it, which says what was written, where what
-  -- stands in the log is told, why nothing was, and what is told.
-  pub record IsStatusOfLog (log : Option (List ℕ)) (Written Begun : List ℕ → Type 0) (Refused : List ℕ → ShowFault → Type 0) (status : ℕ) (before after : Sourcing S W) : Type 0 where
+module _ {S W : Type 0} (files : S → List ℕ → Option (List ℕ)) (contents : W → Option (List ℕ)) (failures : S → ℕ) where
+  -- That of an answer to a job that reads the log with this name and writes what it makes of it, which says what was written,
+  -- where what stands in the log is told, why nothing was, and what is told.
+  pub record IsStatusOfLog (log : List ℕ) (Written Begun : List ℕ → Type 0) (Refused : List ℕ → ShowFault → Type 0) (status : ℕ) (before after : Sourcing S W) : Type 0 where
     pub answer : Result (Unit {0}) ShowFault
     pub exact : status ≡ shown_status answer
-    pub told_line : TellsMore before.told after.told (shown_telling answer)
-    pub written : OnOk answer (IfSome log Written)
-    pub refused : IfErr answer (λ e. IsOfInput e → IfSome log (λ bytes. Refused bytes e))
+    pub told_line : TellsMore before.told after.told (source_telling log answer)
+    pub written : OnOk answer (IfSome (files before.sources log) Written)
+    pub refused : IfErr answer (λ e. IsOfInput e → IfSome (files before.sources log) (λ bytes. Refused bytes e))
     pub unwritten : IfErr answer (λ e. e ≢ fault.Write → after.output ≡ before.output)
-    pub begun : OnErr answer (IfSome log (λ bytes. WritesNothing contents before.output after.output ⊎ Begun bytes))
+    pub begun : OnErr answer (IfSome (files before.sources log) (λ bytes. WritesNothing contents before.output after.output ⊎ Begun bytes))
     pub flushed : OnOk answer (after.output.flushed ≡ true)
-    pub reads : OnOk answer (failures after.sources ≡ failures before.sources)
+    pub reads : failures after.sources ≡ failures_after answer (failures before.sources)
     pub writes : CountsAs fault.Write answer before.output after.output
 
-module _ {S W : Type 0} (files : S → List ℕ → Option (List ℕ)) (contents : W → Option (List ℕ)) (failures : S → ℕ) where
   -- of `show` with a name: the text of the log, or of its first lines
   abbrev pub IsStatusOfFront : List ℕ → Option ℕ → ℕ → Sourcing S W → Sourcing S W → Type 0
   IsStatusOfFront name lines status before after =
-      IsStatusOfLog contents failures (files before.sources (log_name name))
+      IsStatusOfLog (log_name name)
       (λ bytes. IsReadable (front_of lines bytes) × Writes contents before.output after.output (shown_bytes (log_content (front_of lines bytes))))
       (λ bytes. IsReadable (front_of lines bytes) × WritesFront contents before.output after.output (shown_bytes (log_content (front_of lines bytes))))
       (λ bytes e. note_of MAX_LIMIT (front_of lines bytes) ≡ Err e) status before after
@@ -185,7 +201,7 @@ module _ {S W : Type 0} (files : S → List ℕ → Option (List ℕ)) (contents
   -- of `who`: the text of the log by those who wrote it
   abbrev pub IsStatusOfWho : Note → ℕ → Sourcing S W → Sourcing S W → Type 0
   IsStatusOfWho n status before after =
-      IsStatusOfLog contents failures (files before.sources (log_name (string_bytes n.name)))
+      IsStatusOfLog (log_name (string_bytes n.name))
       (λ bytes. WritesAbout contents before.output after.output bytes (authors_bytes n.flag (log_content bytes)))
       (λ bytes. BeginsToWriteAbout contents before.output after.output bytes (authors_bytes n.flag (log_content bytes)))
       (λ bytes e. read_of bytes ≡ Err e) status before after
@@ -193,7 +209,7 @@ module _ {S W : Type 0} (files : S → List ℕ → Option (List ℕ)) (contents
   -- of `claims`: the claims of what the log holds
   abbrev pub IsStatusOfClaims : List ℕ → ℕ → Sourcing S W → Sourcing S W → Type 0
   IsStatusOfClaims name status before after =
-      IsStatusOfLog contents failures (files before.sources (log_source name))
+      IsStatusOfLog (log_source name)
       (λ bytes. TellsClaims contents before.output after.output bytes)
       (λ bytes. BeginsToTell contents before.output after.output bytes)
       (λ bytes e. note_of MAX_LIMIT bytes ≡ Err e) status before after
@@ -203,11 +219,11 @@ module _ {S W : Type 0} (files : S → List ℕ → Option (List ℕ)) (contents
   pub record IsStatusOfMissing (name : List ℕ) (status : ℕ) (before after : Sourcing S W) : Type 0 where
     pub answer : Result ℕ MissingFault
     pub exact : status ≡ sent_status answer
-    pub told_line : TellsMore before.told after.told (sent_telling answer)
+    pub told_line : TellsMore before.told after.told (sent_telling (log_source name) answer)
     pub written : IfOk answer (λ number. OnBoth (files before.sources (codes "-")) (files before.sources (log_source name))
         (λ claims log. WritesMissing contents before.output after.output claims log number))
     pub claims : IfErr answer (λ e. IsOfClaims e → IfSome (files before.sources (codes "-")) (λ bytes. claims_heard bytes ≡ Err e))
-    pub log : IfErr answer (λ e. IsOfNote e → IfSome (files before.sources (log_source name)) (λ bytes. log_held bytes ≡ Err e))
+    pub log : IfErr answer (λ e. IsOfSource e → IfSome (files before.sources (log_source name)) (λ bytes. log_held bytes ≡ Err e))
     pub unwritten : IfErr answer (λ e. e ≢ missing.Write → e ≢ missing.Memory → after.output ≡ before.output)
     pub nothing : IfErr answer (λ e. e ≢ missing.Write → WritesNothing contents before.output after.output)
     pub begun : OnErr answer (OnBoth (files before.sources (codes "-")) (files before.sources (log_source name))
@@ -220,13 +236,15 @@ module _ {S W : Type 0} (files : S → List ℕ → Option (List ℕ)) (contents
   pub record IsStatusOfNumbers (n : Note) (status : ℕ) (before after : Sourcing S W) : Type 0 where
     pub answer : Result (Unit {0}) ShowFault
     pub exact : status ≡ shown_status answer
-    pub told_line : TellsMore before.told after.told (shown_telling answer)
+    pub told_line : TellsMore before.told after.told (source_telling (log_name (string_bytes n.name)) answer)
     pub written : OnOk answer (WritesNumbers contents before.output after.output n.flag (string_bytes n.name) (files before.sources (log_name (string_bytes n.name))) (files before.sources (string_bytes n.name)))
     pub refused : IfErr answer (λ e. IsOfInput e → IfSome (files before.sources (log_name (string_bytes n.name))) (λ bytes. read_of bytes ≡ Err e))
     pub unwritten : IfErr answer (λ e. e ≢ fault.Write → after.output ≡ before.output)
     pub begun : OnErr answer (WritesNothing contents before.output after.output
         ⊎ BeginsToWriteNumbers contents before.output after.output n.flag (string_bytes n.name) (files before.sources (log_name (string_bytes n.name))) (files before.sources (string_bytes n.name)))
     pub flushed : OnOk answer (after.output.flushed ≡ true)
+    pub looked : OnOk answer (LooksAtText contents before.output after.output n.flag (string_bytes n.name) (failures before.sources) (failures after.sources))
+    pub reads : IfErr answer (λ e. FailedReads e (failures before.sources) (failures after.sources))
     pub writes : CountsAs fault.Write answer before.output after.output
 
   -- That of an answer to `join`, which says what was written of the logs, which of them is refused, and what is told.
@@ -243,20 +261,61 @@ module _ {S W : Type 0} (files : S → List ℕ → Option (List ℕ)) (contents
     pub reads : failures after.sources ≡ reads_failed answer (failures before.sources)
     pub writes : CountsAs join.Write answer before.output after.output
 
-module _ {P S W : Type 0} (calls : P → Option (List Call)) (files : S → List ℕ → Option (List ℕ)) (contents : W → Option (List ℕ)) where
-  -- That of an answer to `merge`, which says what became of the note, why the logs are refused, and what is told. The count of
-  -- new operations is printed once the merge is done, and its status is that of the print.
+module _ {P S W : Type 0} (calls : P → Option (List Call)) (port_failures : P → ℕ) (files : S → List ℕ → Option (List ℕ)) (failures : S → ℕ) (contents : W → Option (List ℕ)) where
+  -- That of an answer to `merge`, which says what became of the note, why the logs are refused, and what is told. Once the merge
+  -- is done, each log is told of which a last line was left out; then the count of new operations is printed, whose status it is.
   pub record IsStatusOfMerge (name : List ℕ) (logs : List (List ℕ)) (adopt : Bool) (status : ℕ) (before after : MergeSide P S W) : Type 0 where
-    pub answer : Result ℕ MergeFault
-    pub merged : IfOk answer (λ new. OnLogs (files before.sources) logs (λ logs. Merges (calls before.port) (calls after.port) name adopt logs new))
-    pub counted : IfOk answer (λ new. IsStatusOfPrint contents (Some (count_line new)) status before.output after.output before.told after.told)
+    pub answer : Result Merged MergeFault
+    pub merged : IfOk answer (λ m. OnLogs (files before.sources) logs (λ logs. Merges (calls before.port) (calls after.port) name adopt logs m.new m.torn.items))
+    pub between : KnownTelling
+    pub torn : IfOk answer (λ m. TellsMore before.told between (torn_telling logs m.torn.items))
+    pub counted : IfOk answer (λ m. IsStatusOfPrint contents (Some (count_line m.new)) status before.output after.output between after.told)
     pub exact : IfErr answer (λ e. status ≡ merge_status e)
     pub told_line : IfErr answer (λ e. TellsMore before.told after.told (line (merge_message logs e) ∷ []))
     pub unwritten : OnErr answer (after.output ≡ before.output)
-    pub refused : IfErr answer (λ e. e ≢ merge.File → e ≢ merge.Memory
-        → FindsNoNote (calls before.port) (calls after.port) name e
-        ⊎ ((b : OpenState) × LoadsNote (calls before.port) (calls after.port) name b × OnLogs (files before.sources) logs (λ logs. IsRefusedBy b adopt logs e)))
-    pub begun : OnErr answer (OnLogs (files before.sources) logs (λ logs. BeginsToMerge (calls before.port) (calls after.port) name logs))
+    pub note : IfErr answer (λ e. IsOfNote e → FindsNoNote (calls before.port) (calls after.port) name e)
+    pub refused : IfErr answer (λ e. IsOfLogs e → OnLogs (files before.sources) logs (λ logs. RefusesLogs (calls before.port) (calls after.port) name adopt logs e))
+    pub stays : answer ≡ Err merge.TextStays → OnLogs (files before.sources) logs (λ logs. LeavesText (calls before.port) (calls after.port) name adopt logs)
+    pub unchanged : IfErr answer (λ e. e ≢ merge.File → e ≢ merge.Memory → OnlyLoads (calls before.port) (calls after.port) name)
+    pub begun : OnErr answer (OnlyLoads (calls before.port) (calls after.port) name
+        ⊎ OnLogs (files before.sources) logs (λ logs. BeginsToWrite (calls before.port) (calls after.port) name adopt logs))
+    pub device : port_failures after.port ≡ calls_failed answer (port_failures before.port)
+    pub reads : failures after.sources ≡ merge_reads_failed answer (failures before.sources)
+
+module _ {P W : Type 0} (calls : P → Option (List Call)) (failures : P → ℕ) (contents : W → Option (List ℕ)) where
+  -- That of what follows once the log of a note was mended, of which so much was left out: its text is put, what was left out is
+  -- printed, and then it is told why the text was not put. The status is that of the print, or of that fault.
+  pub record IsStatusOfPut (name : List ℕ) (left : LeftOut) (status : ℕ) (before after : MendSide P W) : Type 0 where
+    pub answer : Result (Unit {0}) MergeFault
+    pub put : OnOk answer (PutsNote (calls before.port) (calls after.port) name)
+    pub note : IfErr answer (λ e. IsOfNote e → FindsNoNote (calls before.port) (calls after.port) name e)
+    pub begun : OnErr answer (OnlyLoads (calls before.port) (calls after.port) name ⊎ BeginsToPut (calls before.port) (calls after.port) name)
+    pub device : failures after.port ≡ calls_failed answer (failures before.port)
+    pub print_status : ℕ
+    pub between : KnownTelling
+    pub printed : IsStatusOfPrint contents (Some (left_out_text left)) print_status before.output after.output before.told between
+    pub done : OnOk answer ((status ≡ print_status) × (after.told ≡ between))
+    pub exact : IfErr answer (λ e. status ≡ merge_status e)
+    pub told_line : IfErr answer (λ e. TellsMore between after.told (line (merge_message [] e) ∷ []))
+
+module _ {P W : Type 0} (calls : P → Option (List Call)) (standing : P → List ℕ → Option Standing) (refused : P → List ℕ → Option (List ℕ)) (failures log_failures : P → ℕ) (contents : W → Option (List ℕ)) where
+  -- That of an answer to `mend`, which says what became of the log of its name and of what was refused of it, where these are
+  -- told, what is told, and what follows.
+  pub record IsStatusOfMend (name : List ℕ) (status : ℕ) (before after : MendSide P W) : Type 0 where
+    pub answer : Result LeftOut ShowFault
+    pub between : P
+    pub left_out : IfOk answer (λ left. IfSome (standing before.port name) (λ s. left ≡ left_out_of s.log))
+    pub keeps : OnOk answer (IfSome (standing before.port name) (λ s. standing between name ≡ Some (mended_standing (refused_of s.log) s)))
+    pub gained : OnOk answer (IfSome (standing before.port name) (λ s. Appends (refused before.port name) (refused between name) (refused_of s.log)))
+    pub follows : IfOk answer (λ left. IsStatusOfPut calls failures contents name left status (mend_side between before.output before.told) after)
+    pub exact : IfErr answer (λ e. status ≡ show_status e)
+    pub told_line : IfErr answer (λ e. TellsMore before.told after.told (line (source_message (log_name name) e) ∷ []))
+    pub unwritten : OnErr answer ((after.output ≡ before.output) × (after.port ≡ between))
+    pub begun : OnErr answer (IfSome (standing before.port name)
+        (λ s. MendsInPart (mended s.log) (refused_of s.log) s (standing between name) (refused before.port name) (refused between name)))
+    pub untouched : IfErr answer (λ e. e ≡ fault.Read → (standing between name ≡ standing before.port name) × (refused between ≡ refused before.port))
+    pub others : SameElsewhere name (standing before.port) (standing between) × SameElsewhere name (refused before.port) (refused between)
+    pub device : log_failures between ≡ failures_after_compaction answer (log_failures before.port)
 
 module _ {R W P : Type 0} (k : Knowledge R W P) where
   -- That of an answer of a session, which says what became of the keys, which device failed and what is told.
@@ -304,8 +363,11 @@ module _ {R W P S : Type 0} (k : Knowledge R W P) (files : S → List ℕ → Op
   IsStatusOfJob (Missing name) status before after =
       IsStatusOfMissing files k.contents failures (string_bytes name) status (read_side before) (read_side after) × OnlyReads before after
   IsStatusOfJob (Merge m) status before after =
-      IsStatusOfMerge k.calls files k.contents (string_bytes m.name) (map string_bytes m.logs.items) m.adopt status (port_sides before) (port_sides after)
+      IsStatusOfMerge k.calls k.failures files failures k.contents (string_bytes m.name) (map string_bytes m.logs.items) m.adopt status (port_sides before) (port_sides after)
       × (after.input ≡ before.input)
+  IsStatusOfJob (Mend name) status before after =
+      IsStatusOfMend k.calls k.standing k.refused k.failures k.log_failures k.contents (string_bytes name) status (mend_side before.port before.output before.told) (mend_side after.port after.output after.told)
+      × (after.input ≡ before.input) × (after.sources ≡ before.sources)
   IsStatusOfJob (Who n) status before after = IsStatusOfWho files k.contents failures n status (read_side before) (read_side after) × OnlyReads before after
 
 module _ {W : Type 0} (contents : W → Option (List ℕ)) where

@@ -9,6 +9,7 @@
 //! output and error and for files, which have no name in a clause.
 #![tactic(auto)]
 
+mod printed;
 mod report;
 mod shell;
 mod sources;

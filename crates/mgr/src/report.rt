@@ -1,11 +1,10 @@
-//! What the shell is told of a fault, and of a merge that is done.
-ghost use Rattle.std.specs.Prelude.{◌≡◌, Some};
+//! What the shell is told of a fault.
+ghost use Rattle.std.specs.Prelude.{◌≡◌, Some, codes};
 ghost use Rattle.mgr.specs.Report as spec;
 
 use mg_files::LoadFault;
 use mg_session::SessionFault;
 use mg_workspace::Failure;
-use mgr_claims::MissingFault;
 use mgr_show::ShowFault;
 use rga_exchange::ReceiveFault;
 use rga_lines::LineFault;
@@ -18,23 +17,6 @@ use std::fmt;
 pub struct Report {
     pub status: u8,
     pub message: Message,
-}
-
-/// How many operations of a merge were new: a line, with its newline.
-#[derive(Clone, Copy)]
-pub(crate) struct Count(pub usize);
-
-impl fmt::Display for Count {
-    ghost output = { λ count. Some (spec.count_line count.0) };
-
-    fn fmt<W: fmt::Write>(&self, f: &mut fmt::Formatter<W>) -> fmt::Result {
-        let number = self.0;
-        if number == 1 {
-            write!(f, "1 new operation\n")
-        } else {
-            write!(f, "{number} new operations\n")
-        }
-    }
 }
 
 /// What is said of a fault.
@@ -110,28 +92,49 @@ impl Report {
         }
     }
 
-    /// What the shell is told of a fault of `mgr missing`. It takes no memory.
-    ///
-    /// Where claims are refused the status is 1, and the line is `claims: no head`, `claims: Cut`,
-    /// `claims: Count` or `claims: line 2: Json`. A refused log, devices and memory as for `mgr
-    /// show`.
-    pub fn of_missing(fault: &MissingFault) -> Report
-        ensures status { result.status ≡ spec.missing_status fault.now }
-        ensures text { spec.report_text result.message ≡ spec.missing_message fault.now }
+    /// Claims do not begin with their head.
+    pub(crate) fn no_head() -> Report
+        ensures status { result.status ≡ 1 }
+        ensures text { spec.report_text result.message ≡ codes "claims: no head" }
     {
-        match *fault {
-            MissingFault::Head => refused(Message::File("claims", "no head")),
-            MissingFault::Claims(fault) => of_claims(fault),
-            MissingFault::Log(fault) => Report::of_show(&fault),
-            MissingFault::Write => Report::device(),
-            MissingFault::Memory => Report::memory(),
+        refused(Message::File("claims", "no head"))
+    }
+
+    /// What the shell is told of claims that are refused or can't be read. It takes no memory.
+    ///
+    /// The status is 1, and the line `claims: Cut`, `claims: Count` or `claims: line 2: Json`. Devices
+    /// and memory as for `mgr show`.
+    pub(crate) fn of_claims(fault: ReceiveFault) -> Report
+        ensures status { result.status ≡ spec.log_status fault }
+        ensures text { spec.report_text result.message ≡ spec.claims_message fault }
+    {
+        match fault {
+            ReceiveFault::Line(_, LineFault::Memory) => Report::memory(),
+            ReceiveFault::Line(line, fault) => refused(Message::Claim(line, fault.name())),
+            ReceiveFault::Refused(_, Refusal::Memory) => Report::memory(),
+            ReceiveFault::Refused(line, refusal) => refused(Message::Claim(line, refusal.name())),
+            ReceiveFault::Cut => refused(Message::File("claims", "Cut")),
+            ReceiveFault::Count => refused(Message::File("claims", "Count")),
+            ReceiveFault::Read => Report::device(),
+            ReceiveFault::Memory => Report::memory(),
+        }
+    }
+
+    /// A last line, which has this number, was cut off, and left out.
+    pub(crate) fn torn(line: u64) -> Report
+        ensures { spec.report_text result.message
+            ≡ spec.line_report line (codes "Torn: left out") }
+    {
+        Report {
+            status: 0,
+            message: Message::Line(line, "Torn: left out"),
         }
     }
 
     /// Logs are not merged into a note, for this reason.
     pub(crate) fn of_note(why: &'static str) -> Report
         ensures status { result.status ≡ 1 }
-        ensures message { result.message ≡ Message.Note why.entry }
+        ensures text { spec.report_text result.message ≡ why.entry.now }
     {
         refused(Message::Note(why))
     }
@@ -218,22 +221,6 @@ fn of_log(fault: ReceiveFault) -> Report
         ReceiveFault::Refused(line, refusal) => of_refused(line, refusal),
         ReceiveFault::Cut => refused(Message::File("log", "Cut")),
         ReceiveFault::Count => refused(Message::File("log", "Count")),
-        ReceiveFault::Read => Report::device(),
-        ReceiveFault::Memory => Report::memory(),
-    }
-}
-
-fn of_claims(fault: ReceiveFault) -> Report
-    ensures status { result.status ≡ spec.log_status fault }
-    ensures text { spec.report_text result.message ≡ spec.claims_message fault }
-{
-    match fault {
-        ReceiveFault::Line(_, LineFault::Memory) => Report::memory(),
-        ReceiveFault::Line(line, fault) => refused(Message::Claim(line, fault.name())),
-        ReceiveFault::Refused(_, Refusal::Memory) => Report::memory(),
-        ReceiveFault::Refused(line, refusal) => refused(Message::Claim(line, refusal.name())),
-        ReceiveFault::Cut => refused(Message::File("claims", "Cut")),
-        ReceiveFault::Count => refused(Message::File("claims", "Count")),
         ReceiveFault::Read => Report::device(),
         ReceiveFault::Memory => Report::memory(),
     }

@@ -1,11 +1,15 @@
 //! The job of the command line, done, and what the shell is told of it.
-ghost use Rattle.std.specs.Prelude.{◌≡◌, ◌≤◌, [], ◌∷◌, IfErr, MatchResult, map, option_map, string_bytes};
-ghost use Rattle.mgr.specs.Report.{join_message, join_status, merge_message, merge_status, named_text, report_text};
-ghost use Rattle.mgr.specs.Telling.{TellsMore, line};
+ghost use Rattle.std.specs.Prelude.{◌≡◌, ◌≤◌, [], ◌∷◌, IfErr, MatchResult, map, option_map, slice_get, string_bytes};
+ghost use Rattle.mgr.specs.Report.{join_message, join_status, merge_message, merge_status, missing_message};
+ghost use Rattle.mgr.specs.Report.{missing_status, named_text, report_text, show_status, source_message, torn_message};
+ghost use Rattle.mgr_claims.specs.Notes.{log_source};
+ghost use Rattle.mgr_show.specs.Note.{log_name};
+ghost use Rattle.mgr.specs.Telling.{TellsMore, line, torn_telling};
 ghost use Rattle.mgr.specs.Status as status;
 ghost use Rattle.mgr.specs.Peers as spec;
 
-use crate::report::{Count, Report};
+use crate::printed::{Count, Mending};
+use crate::report::Report;
 use crate::sources::PathFiles;
 use crate::streams::hold_closed;
 use crate::tell::{StandardError, Tell};
@@ -13,12 +17,13 @@ use mg_files::Port;
 use mg_session::run_keys;
 use mg_settings::Settings;
 use mgr_args::{Job, JobFault, Merging, Note, Shown, job_of, job_status, words};
-use mgr_claims::{write_claims, write_missing};
+use mgr_claims::{MissingFault, write_claims, write_missing};
 use mgr_compact::compact_note;
 use mgr_look::{write_authors, write_numbers};
-use mgr_merge::{MergeFault, merge_logs};
+use mgr_mend::{LeftOut, mend_note};
+use mgr_merge::{MergeFault, Torn, merge_logs, put_note};
 use mgr_port::{FilePort, Logs};
-use mgr_show::{JoinFault, Sources, join_logs, show_note, show_ops, write_text};
+use mgr_show::{JoinFault, ShowFault, Sources, join_logs, show_note, show_ops, write_text};
 use rga_devices::Counted;
 use rga_flat::FlatStore;
 use std::alloc::Global;
@@ -28,6 +33,10 @@ use std::io;
 use std::io::{Read, Write};
 use std::net::Net;
 use std::rt::{Env, Files};
+
+/// Why a merge of nothing new leaves a text as it is.
+const TEXT_STAYS: &str =
+    "the text stays: it is not the log's, but another program's or an older one (remove it, and mgr merge puts it anew)";
 
 /// Does the job that the command line asks for, by standard input and output, by files and by
 /// sockets of this machine, and answers the exit status that `do_job` does. No file takes the place of
@@ -76,7 +85,9 @@ fn reads_streams(job: &Result<Job, JobFault>) -> bool {
 /// line of the fault, or the text of a wrong command line, and nothing where the status is 0.
 /// `compact` leaves the log as it was where the status is not 0, but at a device that fails once the
 /// new one has its name. `merge` may have been done where the status is 3 or 4: the count of new
-/// operations could not be printed.
+/// operations could not be printed. It tells each log of which a last line was left out, too. `mend`
+/// may have mended the log where the status is not 0: then the text could not be put, or what was
+/// left out not be printed, each of which is told.
 pub fn do_job<R: Read, W: Write, P: Port + Logs, S: Sources, T: Tell>(
     alloc: Global,
     job: &Result<Job, JobFault>,
@@ -88,7 +99,8 @@ pub fn do_job<R: Read, W: Write, P: Port + Logs, S: Sources, T: Tell>(
 ) -> u8
     ensures status { MatchResult job.now
         (λ job. status.IsStatusOfJob
-        (status.known R.remaining W.contents P.calls P.Port.failures P.standing P.Logs.failures)
+        (status.known R.remaining W.contents P.calls P.Port.failures P.standing P.refused
+        P.Logs.failures)
         S.contents S.failures job result
         (status.outside reader.old writer.old port.old sources.old (T.told errors.old))
         (status.outside reader.new writer.new port.new sources.new (T.told errors.new)))
@@ -110,6 +122,7 @@ pub fn do_job<R: Read, W: Write, P: Port + Logs, S: Sources, T: Tell>(
         Ok(Job::Who(note)) => who(alloc, note, sources, writer, errors),
         Ok(Job::Claims(name)) => claims(alloc, name, sources, writer, errors),
         Ok(Job::Missing(name)) => missing(alloc, name.as_str(), sources, writer, errors),
+        Ok(Job::Mend(name)) => mend(alloc, name.as_str(), port, writer, errors),
         Ok(Job::Merge(merging)) => merge(alloc, merging, port, sources, writer, errors),
         Err(fault) => refuse(alloc, fault, writer, errors),
     }
@@ -148,7 +161,7 @@ fn show_front<S: Sources, W: Write, T: Tell>(
 {
     match show_note(alloc, sources, name, lines, writer) {
         Ok(()) => 0,
-        Err(fault) => told(errors, Report::of_show(&fault)),
+        Err(fault) => told_of_note(errors, name, &fault),
     }
 }
 
@@ -161,7 +174,8 @@ fn edit<R: Read, W: Write, P: Port + Logs, T: Tell>(
     errors: &mut T,
 ) -> u8
     ensures status { status.IsStatusOfEdit
-        (status.known R.remaining W.contents P.calls P.Port.failures P.standing P.Logs.failures)
+        (status.known R.remaining W.contents P.calls P.Port.failures P.standing P.refused
+        P.Logs.failures)
         settings.now result
         (status.surroundings reader.old writer.old port.old (T.told errors.old))
         (status.surroundings reader.new writer.new port.new (T.told errors.new)) }
@@ -246,7 +260,7 @@ fn numbers<S: Sources, W: Write, T: Tell>(
 {
     match write_numbers(alloc, sources, note.name.as_str(), note.flag, writer) {
         Ok(()) => 0,
-        Err(fault) => told(errors, Report::of_show(&fault)),
+        Err(fault) => told_of_note(errors, note.name.as_str(), &fault),
     }
 }
 
@@ -264,7 +278,7 @@ fn who<S: Sources, W: Write, T: Tell>(
 {
     match write_authors(alloc, sources, note.name.as_str(), note.flag, writer) {
         Ok(()) => 0,
-        Err(fault) => told(errors, Report::of_show(&fault)),
+        Err(fault) => told_of_note(errors, note.name.as_str(), &fault),
     }
 }
 
@@ -283,7 +297,7 @@ fn claims<S: Sources, W: Write, T: Tell>(
 {
     match write_claims(alloc, sources, name.as_str(), writer) {
         Ok(()) => 0,
-        Err(fault) => told(errors, Report::of_show(&fault)),
+        Err(fault) => told_of_source(errors, name.as_str(), &fault),
     }
 }
 
@@ -302,7 +316,22 @@ fn missing<S: Sources, W: Write, T: Tell>(
 {
     match write_missing(alloc, sources, name, "-", writer) {
         Ok(_) => 0,
-        Err(fault) => told(errors, Report::of_missing(&fault)),
+        Err(fault) => told_of_missing(errors, name, &fault),
+    }
+}
+
+/// Tells of the fault of what a note has and claims lack, and answers its exit status.
+fn told_of_missing<T: Tell>(errors: &mut T, name: &str, fault: &MissingFault) -> u8
+    ensures status { result ≡ missing_status fault.now }
+    ensures told { TellsMore (T.told errors.old) (T.told errors.new)
+        (line (missing_message (log_source name.now) fault.now) ∷ []) }
+{
+    match *fault {
+        MissingFault::Head => told(errors, Report::no_head()),
+        MissingFault::Claims(fault) => told(errors, Report::of_claims(fault)),
+        MissingFault::Log(fault) => told_of_source(errors, name, &fault),
+        MissingFault::Write => told(errors, Report::device()),
+        MissingFault::Memory => told(errors, Report::memory()),
     }
 }
 
@@ -315,7 +344,7 @@ fn merge<P: Port, S: Sources, W: Write, T: Tell>(
     writer: &mut Counted<W>,
     errors: &mut T,
 ) -> u8
-    ensures status { status.IsStatusOfMerge P.calls S.contents W.contents
+    ensures status { status.IsStatusOfMerge P.calls P.failures S.contents S.failures W.contents
         (string_bytes merging.now.name) (map string_bytes merging.now.logs.items)
         merging.now.adopt result
         (status.merge_side port.old sources.old writer.old (T.told errors.old))
@@ -331,9 +360,82 @@ fn merge<P: Port, S: Sources, W: Write, T: Tell>(
         logs,
         merging.adopt,
     ) {
-        Ok(new) => print(alloc, &Count(new), writer, errors),
+        Ok(merged) => {
+            tell_torn(errors, logs, &merged.torn);
+            print(alloc, &Count(merged.new), writer, errors)
+        }
         Err(fault) => told_of_merge(errors, logs, fault),
     }
+}
+
+/// Tells of each log with one of these names of which a last line was left out.
+fn tell_torn<T: Tell>(errors: &mut T, names: &[String], torn: &[Torn])
+    ensures { TellsMore (T.told errors.old) (T.told errors.new)
+        (torn_telling (map string_bytes names.now) torn.now) }
+{
+    for log in torn {
+        tell_torn_line(errors, names, *log);
+    }
+}
+
+fn tell_torn_line<T: Tell>(errors: &mut T, names: &[String], torn: Torn)
+    ensures { TellsMore (T.told errors.old) (T.told errors.new)
+        (line (torn_message (map string_bytes names.now) torn) ∷ []) }
+{
+    told_of_log(errors, names.get(torn.log), Report::torn(torn.line));
+}
+
+/// Mends the log of a note, puts its text, and prints what was left out of the log.
+fn mend<P: Port + Logs, W: Write, T: Tell>(
+    alloc: Global,
+    name: &str,
+    port: &mut P,
+    writer: &mut Counted<W>,
+    errors: &mut T,
+) -> u8
+    ensures status { status.IsStatusOfMend P.calls P.standing P.refused P.Port.failures
+        P.Logs.failures W.contents name.now result
+        (status.mend_side port.old writer.old (T.told errors.old))
+        (status.mend_side port.new writer.new (T.told errors.new)) }
+    ensures bound { result ≤ 4 }
+{
+    match mend_note(alloc, port, name) {
+        Ok(left_out) => put_mended(alloc, name, left_out, port, writer, errors),
+        Err(fault) => told_of_note(errors, name, &fault),
+    }
+}
+
+/// Puts the text of a note whose log was mended, and prints what was left out of that.
+fn put_mended<P: Port, W: Write, T: Tell>(
+    alloc: Global,
+    name: &str,
+    left_out: LeftOut,
+    port: &mut P,
+    writer: &mut Counted<W>,
+    errors: &mut T,
+) -> u8
+    ensures status { status.IsStatusOfPut P.calls P.failures W.contents name.now left_out result
+        (status.mend_side port.old writer.old (T.told errors.old))
+        (status.mend_side port.new writer.new (T.told errors.new)) }
+    ensures bound { result ≤ 4 }
+{
+    match put_note::<FlatStore, _>(alloc, port, name) {
+        Ok(()) => print(alloc, &Mending(left_out), writer, errors),
+        Err(fault) => {
+            print(alloc, &Mending(left_out), writer, errors);
+            told_of_merge(errors, &[], fault)
+        }
+    }
+}
+
+/// Tells of the log with this index, with its name in front, and answers the exit status.
+fn told_of_named<T: Tell>(errors: &mut T, names: &[String], at: usize, report: Report) -> u8
+    ensures status { result ≡ report.status }
+    ensures told { TellsMore (T.told errors.old) (T.told errors.new)
+        (line (named_text (slice_get (map string_bytes names.now) at)
+        (report_text report.message)) ∷ []) }
+{
+    told_of_log(errors, names.get(at), report)
 }
 
 /// Tells of the fault of a merge, and answers its exit status.
@@ -345,14 +447,24 @@ fn told_of_merge<T: Tell>(errors: &mut T, names: &[String], fault: MergeFault) -
     match fault {
         MergeFault::NoLog => told(errors, Report::of_note("text without a log")),
         MergeFault::Load(fault) => told(errors, Report::of_load(fault)),
-        MergeFault::Log(at, fault) => {
-            told_of_log(errors, names.get(at), Report::of_show(&fault))
+        MergeFault::Log(at, fault) => told_of_named(errors, names, at, Report::of_show(&fault)),
+        MergeFault::Apart(at) => {
+            told_of_named(
+                errors,
+                names,
+                at,
+                Report::of_note("a log of another note, which --adopt takes"),
+            )
         }
-        MergeFault::Apart => told(
-            errors,
-            Report::of_note("logs of another note, which --adopt takes"),
-        ),
-        MergeFault::Far => told(errors, Report::of_note("counter far above the note's")),
+        MergeFault::Far(at) => {
+            told_of_named(
+                errors,
+                names,
+                at,
+                Report::of_note("counter far above the note's"),
+            )
+        }
+        MergeFault::TextStays => told(errors, Report::of_note(TEXT_STAYS)),
         MergeFault::File => told(errors, Report::device()),
         MergeFault::Memory => told(errors, Report::memory()),
     }
@@ -394,6 +506,40 @@ fn print<D: Display, W: Write, T: Tell>(
     match write_text(text.as_str(), writer) {
         Ok(()) => 0,
         Err(fault) => told(errors, Report::of_show(&fault)),
+    }
+}
+
+/// Tells of the fault of a job that reads the log of a note, and answers its exit status.
+fn told_of_note<T: Tell>(errors: &mut T, name: &str, fault: &ShowFault) -> u8
+    ensures status { result ≡ show_status fault.now }
+    ensures told { TellsMore (T.told errors.old) (T.told errors.new)
+        (line (source_message (log_name name.now) fault.now) ∷ []) }
+{
+    let report = Report::of_show(fault);
+    match fault {
+        ShowFault::Write | ShowFault::Memory => errors.tell(report),
+        _ => errors.tell_of_note(name, report),
+    }
+    report.status
+}
+
+/// The same, where `-` is read as it is.
+#[tactic(auto, unfolding(mgr_claims::specs::Notes::log_source))]
+fn told_of_source<T: Tell>(errors: &mut T, name: &str, fault: &ShowFault) -> u8
+    ensures status { result ≡ show_status fault.now }
+    ensures told { TellsMore (T.told errors.old) (T.told errors.new)
+        (line (source_message (log_source name.now) fault.now) ∷ []) }
+{
+    if name != "-" {
+        return told_of_note(errors, name, fault);
+    }
+    let report = Report::of_show(fault);
+    match fault {
+        ShowFault::Write | ShowFault::Memory => told(errors, report),
+        _ => {
+            errors.tell_of(name, report);
+            report.status
+        }
     }
 }
 

@@ -14,21 +14,29 @@ use std::{fs, io};
 pub(crate) struct PathFiles<R> {
     rt: R,
     streams: bool,
-    /// All bytes of standard input, once they were read.
-    input: Option<Vec<u8>>,
+    /// The streams that were read.
+    read: Vec<Stream>,
     failures: u64,
 }
 
-impl<R> PathFiles<R> {
+/// What came of a stream, which gives it only once.
+#[derive(Drop)]
+struct Stream {
+    name: String,
+    bytes: Vec<u8>,
+}
+
+impl<R: AllocGlobal> PathFiles<R> {
     /// Plain files; with `streams` whatever can be read, and standard input as `-`. A pipe may
     /// never have an end, and a device may have none.
     pub(crate) fn new(rt: R, streams: bool) -> PathFiles<R>
         ensures { result.failures ≡ 0 }
     {
+        let read = Vec::new(rt.alloc());
         PathFiles {
             rt,
             streams,
-            input: None,
+            read,
             failures: 0,
         }
     }
@@ -42,10 +50,10 @@ impl<R: Files<File = File> + Input> Sources for PathFiles<R> {
     ghost failures = { λ sources. sources.failures };
 
     fn read(&mut self, alloc: Global, name: &str) -> Result<Vec<u8>, ShowFault> {
-        let read = if self.streams && name == "-" {
-            input_of(&self.rt, alloc, &mut self.input)
+        let read = if self.streams {
+            bytes_of_any(&self.rt, alloc, &mut self.read, name)
         } else {
-            bytes_of(&self.rt, alloc, name, self.streams)
+            bytes_of_plain(&self.rt, alloc, name)
         };
         match read {
             Ok(bytes) => Ok(bytes),
@@ -58,16 +66,38 @@ impl<R: Files<File = File> + Input> Sources for PathFiles<R> {
     }
 }
 
-/// All bytes of standard input, which are kept: what is read of a name again is the same.
-fn input_of<R: Input>(rt: &R, alloc: Global, kept: &mut Option<Vec<u8>>) -> io::Result<Vec<u8>> {
-    if let Some(bytes) = kept {
-        return copy_of(alloc, bytes.as_slice());
+/// All bytes of a file or a stream. Those of a stream are kept: what is read of it again is the same.
+fn bytes_of_any<R: Files<File = File> + Input>(
+    rt: &R,
+    alloc: Global,
+    read: &mut Vec<Stream>,
+    name: &str,
+) -> io::Result<Vec<u8>> {
+    for stream in read.iter() {
+        if stream.name.as_str() == name {
+            return copy_of(alloc, stream.bytes.as_slice());
+        }
+    }
+    if name != "-" && fs::metadata(rt, name)?.is_file() {
+        return bytes_of(rt, alloc, name);
+    }
+    let bytes = bytes_of_stream(rt, alloc, name)?;
+    let copy = copy_of(alloc, bytes.as_slice())?;
+    keep(alloc, read, name, bytes)?;
+    Ok(copy)
+}
+
+fn bytes_of_stream<R: Files<File = File> + Input>(
+    rt: &R,
+    alloc: Global,
+    name: &str,
+) -> io::Result<Vec<u8>> {
+    if name != "-" {
+        return bytes_of(rt, alloc, name);
     }
     let mut bytes = Vec::new(alloc);
     rt.reader().read_to_end(&mut bytes)?;
-    let copy = copy_of(alloc, bytes.as_slice())?;
-    *kept = Some(bytes);
-    Ok(copy)
+    Ok(bytes)
 }
 
 fn copy_of(alloc: Global, bytes: &[u8]) -> io::Result<Vec<u8>> {
@@ -78,17 +108,27 @@ fn copy_of(alloc: Global, bytes: &[u8]) -> io::Result<Vec<u8>> {
     }
 }
 
-/// All bytes of a file. `InvalidInput` if it is no plain file, and only those are read.
-fn bytes_of<R: Files<File = File>>(
-    rt: &R,
-    alloc: Global,
-    name: &str,
-    streams: bool,
-) -> io::Result<Vec<u8>> {
-    let mut bytes = Vec::new(alloc);
-    if !streams && !fs::metadata(rt, name)?.is_file() {
+/// Keeps what came of a stream.
+fn keep(alloc: Global, read: &mut Vec<Stream>, name: &str, bytes: Vec<u8>) -> io::Result<()> {
+    let Ok(name) = String::from_str(alloc, name) else {
+        return Err(io::Error::from(ErrorKind::OutOfMemory));
+    };
+    match read.push(Stream { name, bytes }) {
+        Ok(()) => Ok(()),
+        Err(_) => Err(io::Error::from(ErrorKind::OutOfMemory)),
+    }
+}
+
+/// All bytes of a plain file. `InvalidInput` if it is none.
+fn bytes_of_plain<R: Files<File = File>>(rt: &R, alloc: Global, name: &str) -> io::Result<Vec<u8>> {
+    if !fs::metadata(rt, name)?.is_file() {
         return Err(io::Error::from(ErrorKind::InvalidInput));
     }
+    bytes_of(rt, alloc, name)
+}
+
+fn bytes_of<R: Files<File = File>>(rt: &R, alloc: Global, name: &str) -> io::Result<Vec<u8>> {
+    let mut bytes = Vec::new(alloc);
     fs::open(rt, name)?.read_to_end(&mut bytes)?;
     Ok(bytes)
 }

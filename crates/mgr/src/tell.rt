@@ -1,6 +1,7 @@
 //! What is told beside what is written.
 ghost use Rattle.std.specs.Prelude.{[], ◌∷◌, ◌++◌, codes};
 ghost use Rattle.mgr.specs.Report.{report_text};
+ghost use Rattle.mgr_show.specs.Note.{log_name};
 ghost use Rattle.mgr.specs.Telling.{KnownTelling, TellsMore, line, text};
 
 use crate::report::Report;
@@ -22,6 +23,11 @@ pub trait Tell {
     fn tell_of(&mut self, log: &str, report: Report)
         ensures { TellsMore (told self.old) (told self.new)
             (line (log.now ++ (codes ": " ++ report_text report.message)) ∷ []) };
+
+    /// Tells the line of a report of the log of the note with this name, which stands in front.
+    fn tell_of_note(&mut self, name: &str, report: Report)
+        ensures { TellsMore (told self.old) (told self.new)
+            (line (log_name name.now ++ (codes ": " ++ report_text report.message)) ∷ []) };
 
     /// Tells the text of a fault of the command line.
     fn tell_text(&mut self, fault: &JobFault)
@@ -51,6 +57,10 @@ impl<R: Eprint> Tell for StandardError<R> {
 
     fn tell_of(&mut self, log: &str, report: Report) {
         let _ = eprintln!(self.rt; "{log}: {report}");
+    }
+
+    fn tell_of_note(&mut self, name: &str, report: Report) {
+        let _ = eprintln!(self.rt; "{name}.ops: {report}");
     }
 
     fn tell_text(&mut self, fault: &JobFault) {

@@ -258,6 +258,7 @@ record NamesNone (word : Text) : Type 0 where
   claims : bytes_eq word (codes "claims") ≡ false
   missing : bytes_eq word (codes "missing") ≡ false
   merge : bytes_eq word (codes "merge") ≡ false
+  mend : bytes_eq word (codes "mend") ≡ false
 
 -- it is the word of that topic
 abbrev NamesTopic : Text → Topic → Type 0
@@ -284,7 +285,10 @@ names_topic word = elim (cases_Bool (bytes_eq word (codes "show"))) [
                 | inl same ↦ rw (show, edit, compact, join, log, who, claims, same) ((bytes_eq-Decides word _).0 same)
                 | inr missing ↦ elim (cases_Bool (bytes_eq word (codes "merge"))) [
                   | inl same ↦ rw (show, edit, compact, join, log, who, claims, missing, same) ((bytes_eq-Decides word _).0 same)
-                  | inr merge ↦ rw (show, edit, compact, join, log, who, claims, missing, merge) (record { show = show; edit = edit; compact = compact; join = join; log = log; who = who; claims = claims; missing = missing; merge = merge })
+                  | inr merge ↦ elim (cases_Bool (bytes_eq word (codes "mend"))) [
+                    | inl same ↦ rw (show, edit, compact, join, log, who, claims, missing, merge, same) ((bytes_eq-Decides word _).0 same)
+                    | inr mend ↦ rw (show, edit, compact, join, log, who, claims, missing, merge, mend) (record { show = show; edit = edit; compact = compact; join = join; log = log; who = who; claims = claims; missing = missing; merge = merge; mend = mend })
+                  ]
                 ]
               ]
             ]
@@ -299,7 +303,7 @@ turn_top : (word : Text) → NamesNone word → bytes_eq word (codes "--") ≡ f
     → turn_fault top top_names (walk_from nothing_held) word ≡ or_else (flag_kinds word) (step_fault top 1 (flag_held word) (flag_step word))
 unfolding clap_on_literals
 turn_top word none unlike =
-    rw (bytes_eq-swap word _ none.show, bytes_eq-swap word _ none.edit, bytes_eq-swap word _ none.compact, bytes_eq-swap word _ none.join, bytes_eq-swap word _ none.log, bytes_eq-swap word _ none.who, bytes_eq-swap word _ none.claims, bytes_eq-swap word _ none.missing, bytes_eq-swap word _ none.merge, unlike) refl
+    rw (bytes_eq-swap word _ none.show, bytes_eq-swap word _ none.edit, bytes_eq-swap word _ none.compact, bytes_eq-swap word _ none.join, bytes_eq-swap word _ none.log, bytes_eq-swap word _ none.who, bytes_eq-swap word _ none.claims, bytes_eq-swap word _ none.missing, bytes_eq-swap word _ none.merge, bytes_eq-swap word _ none.mend, unlike) refl
 
 first_mistake : (ks next : Kinds) → IsMistaken ks → IsMistaken (or_else ks next)
 first_mistake [] next none = absurd (let clash : false ≡ true = none.test in cc)
@@ -371,6 +375,7 @@ top_kinds (word ∷ rest) utf8 = by_topic (topic_of_word word) refl
     by_topic topic.Claims is = of_job topic.Claims is (subst (NamesTopic word) is (names_topic word)) refl
     by_topic topic.Missing is = of_job topic.Missing is (subst (NamesTopic word) is (names_topic word)) refl
     by_topic topic.Merge is = of_job topic.Merge is (subst (NamesTopic word) is (names_topic word)) refl
+    by_topic topic.Mend is = of_job topic.Mend is (subst (NamesTopic word) is (names_topic word)) refl
 
 -- ---- what the functions of the crate need
 
@@ -535,6 +540,7 @@ entered_by (word ∷ rest) on words is = by_topic (topic_of_word word) refl
     by_topic topic.Claims is_t = of_job topic.Claims (subst (NamesTopic word) is_t (names_topic word)) (wished topic.Claims is_t)
     by_topic topic.Missing is_t = of_job topic.Missing (subst (NamesTopic word) is_t (names_topic word)) (wished topic.Missing is_t)
     by_topic topic.Merge is_t = of_job topic.Merge (subst (NamesTopic word) is_t (names_topic word)) (wished topic.Merge is_t)
+    by_topic topic.Mend is_t = of_job topic.Mend (subst (NamesTopic word) is_t (names_topic word)) (wished topic.Mend is_t)
 
 -- of all words, as they were given to clap
 pub chooses : (app : App) (words : List (String Global)) (given : List Text) (on : Topic) (found : Option (List Row)) → app ≡ command_line

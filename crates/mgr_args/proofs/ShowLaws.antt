@@ -5,7 +5,7 @@ use Rattle.mgr_args.specs.Given.{GivesShown}
 use Rattle.mgr_args.specs.Job.{Finds, FoundGives, IsFaultBehind, kinds_behind, rows_behind_job}
 use Rattle.mgr_args.specs.declared.given.Shown.TheVariants.{Input, Front}
 use Rattle.mgr_args.specs.declared.job.Job.{Job}
-use Rattle.mgr_args.specs.declared.job.Job.TheVariants.{Show, Edit, Compact, Join, Log, Who, Claims, Missing, Merge}
+use Rattle.mgr_args.specs.declared.job.Job.TheVariants.{Show, Edit, Compact, Join, Log, Who, Claims, Missing, Merge, Mend}
 use Rattle.mgr_args.specs.declared.job.JobFault.{JobFault}
 use Rattle.mgr_args.specs.declared.job.JobFault.TheVariants.{Help, Version, Usage, Memory}
 use Rattle.mgr_args.specs.declared.job.Topic.TheVariants as topic
@@ -33,6 +33,7 @@ given (Who note) is = absurd is
 given (Claims name) is = absurd is
 given (Missing name) is = absurd is
 given (Merge merging) is = absurd is
+given (Mend name) is = absurd is
 
 pub only_standard_input : (job : Job) → Finds topic.Show [] (Some job) → job ≡ Show Input
 only_standard_input job is = given job (subst (λ found. FoundGives topic.Show found (Some job)) no_rows is.1)

@@ -40,6 +40,7 @@ word_of topic.Who = codes "who"
 word_of topic.Claims = codes "claims"
 word_of topic.Missing = codes "missing"
 word_of topic.Merge = codes "merge"
+word_of topic.Mend = codes "mend"
 
 -- the job of a word, or the program
 abbrev pub topic_of_word : Text → Topic
@@ -52,7 +53,8 @@ topic_of_word word =
     else if bytes_eq word (codes "who") then topic.Who
     else if bytes_eq word (codes "claims") then topic.Claims
     else if bytes_eq word (codes "missing") then topic.Missing
-    else if bytes_eq word (codes "merge") then topic.Merge else topic.Program
+    else if bytes_eq word (codes "merge") then topic.Merge
+    else if bytes_eq word (codes "mend") then topic.Mend else topic.Program
 
 -- what a word and those behind it ask for, if the first is of that topic
 abbrev pub wish_on : Topic → Text → List Text → Wish
@@ -95,7 +97,7 @@ abbrev pub job_apps : List App
 job_apps =
     show_app ∷ edit_app ∷ note_app (codes "compact") (codes "dels") ∷ join_app
     ∷ note_app (codes "log") (codes "json") ∷ note_app (codes "who") (codes "lines")
-    ∷ name_app (codes "claims") ∷ name_app (codes "missing") ∷ merge_app ∷ []
+    ∷ name_app (codes "claims") ∷ name_app (codes "missing") ∷ merge_app ∷ name_app (codes "mend") ∷ []
 
 abbrev pub command_line : App
 command_line = with_jobs program_alone job_apps

@@ -1,5 +1,5 @@
 -- What jobs were given, by the rows of what clap found.
-use Rattle.std.specs.Prelude.{◌≡◌, ◌≤◌, ◌<◌, ◌^◌, ◌⊎◌, ℕ, Bool, true, false, List, [], codes, length, map, Option, Some, None, string_bytes, unwrap_or}
+use Rattle.std.specs.Prelude.{◌≡◌, ◌≢◌, ◌≤◌, ◌<◌, ◌^◌, ◌⊎◌, ℕ, Bool, true, false, List, [], codes, length, map, Option, Some, None, string_bytes, unwrap_or}
 use Rattle.std.specs.Str.Parse.{IsNumeral, digits_value, without_leading_plus}
 use Rattle.std.specs.declared.alloc.Global.{Global}
 use Rattle.std.specs.declared.string.String.{String}
@@ -36,6 +36,11 @@ pub record GivesName (rows : List Row) (name : String Global) : Type 0 where
 abbrev pub GivesNameIf : List Row → Option (String Global) → Type 0
 GivesNameIf rows None = (name : List ℕ) → first_of (codes "name") rows ≡ Some name → 1 ≤ length name → ⊥
 GivesNameIf rows (Some name) = GivesName rows name
+
+-- the same, but for `-`, which is standard input
+abbrev pub GivesNoteNameIf : List Row → Option (String Global) → Type 0
+GivesNoteNameIf rows None = (name : List ℕ) → first_of (codes "name") rows ≡ Some name → 1 ≤ length name → name ≡ codes "-"
+GivesNoteNameIf rows (Some name) = GivesName rows name × (string_bytes name ≢ codes "-")
 
 -- this name and this flag, or no name that has a character
 pub record GivesBoth (id : List ℕ) (rows : List Row) (note : Note) : Type 0 where

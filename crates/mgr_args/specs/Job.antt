@@ -10,9 +10,9 @@ use Rattle.clap.specs.declared.error.kind.ErrorKind.TheVariants.{DisplayHelp, Di
 use Rattle.clap.specs.declared.error.kind.ErrorKind.TheVariants.{OutOfMemory}
 use Rattle.mgr_args.specs.CommandLine.{Text, Wish, asking, command_line, help, mistake, version, word_of}
 use Rattle.mgr_args.specs.Edit.{GivesSettings}
-use Rattle.mgr_args.specs.Given.{GivesLogs, GivesMerging, GivesName, GivesNameIf, GivesNote, GivesShown}
+use Rattle.mgr_args.specs.Given.{GivesLogs, GivesMerging, GivesName, GivesNameIf, GivesNote, GivesNoteNameIf, GivesShown}
 use Rattle.mgr_args.specs.declared.job.Job.{Job}
-use Rattle.mgr_args.specs.declared.job.Job.TheVariants.{Show, Edit, Compact, Join, Log, Who, Claims, Missing, Merge}
+use Rattle.mgr_args.specs.declared.job.Job.TheVariants.{Show, Edit, Compact, Join, Log, Who, Claims, Missing, Merge, Mend}
 use Rattle.mgr_args.specs.declared.job.JobFault.{JobFault}
 use Rattle.mgr_args.specs.declared.job.JobFault.TheVariants.{Help, Version, Usage, Memory}
 use Rattle.mgr_args.specs.declared.job.Topic.{Topic}
@@ -35,10 +35,12 @@ GivesJob topic.Who rows None = GivesNote (codes "lines") rows None
 GivesJob topic.Who rows (Some (Who note)) = GivesNote (codes "lines") rows (Some note)
 GivesJob topic.Claims rows None = GivesNameIf rows None
 GivesJob topic.Claims rows (Some (Claims name)) = GivesName rows name
-GivesJob topic.Missing rows None = GivesNameIf rows None
-GivesJob topic.Missing rows (Some (Missing name)) = GivesName rows name
+GivesJob topic.Missing rows None = GivesNoteNameIf rows None
+GivesJob topic.Missing rows (Some (Missing name)) = GivesNoteNameIf rows (Some name)
 GivesJob topic.Merge rows None = GivesMerging rows None
 GivesJob topic.Merge rows (Some (Merge merging)) = GivesMerging rows (Some merging)
+GivesJob topic.Mend rows None = GivesNameIf rows None
+GivesJob topic.Mend rows (Some (Mend name)) = GivesName rows name
 GivesJob topic.Program rows None = Unit {0}
 GivesJob on rows _ = ⊥
 

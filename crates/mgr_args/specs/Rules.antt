@@ -24,9 +24,12 @@ optional_name_rule = record (new_rule (codes "name")) { action = Some Set; value
 abbrev pub name_rule : Rule
 name_rule = record optional_name_rule { required = true }
 
--- one path or more
+-- paths that may be left out, and one path or more
+abbrev pub optional_logs_rule : Rule
+optional_logs_rule = record (new_rule (codes "logs")) { action = Some Append; range = Some (record { start_inclusive = 1; end_inclusive = usize_max }); value_names = 1 }
+
 abbrev pub logs_rule : Rule
-logs_rule = record (new_rule (codes "logs")) { action = Some Append; range = Some (record { start_inclusive = 1; end_inclusive = usize_max }); value_names = 1; required = true }
+logs_rule = record optional_logs_rule { required = true }
 
 -- with an argument more for each of these rules
 abbrev pub with_rules : App → List Rule → App
@@ -44,9 +47,9 @@ note_app job id = with_rules (new_app job) (note_rules id)
 abbrev pub name_app : List ℕ → App
 name_app job = with_rules (new_app job) (name_rule ∷ [])
 
--- one that takes a name, paths and a flag
+-- one that takes a name, paths or none, and a flag
 abbrev pub merge_rules : List Rule
-merge_rules = name_rule ∷ logs_rule ∷ flag (codes "adopt") ∷ []
+merge_rules = name_rule ∷ optional_logs_rule ∷ flag (codes "adopt") ∷ []
 
 abbrev pub merge_app : App
 merge_app = with_rules (new_app (codes "merge")) merge_rules

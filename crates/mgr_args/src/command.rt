@@ -6,7 +6,7 @@ ghost use Rattle.mgr_args.specs.Rules.{AddsJobs};
 
 use crate::edit::edit;
 use crate::logs::{join, merge, show};
-use crate::note::{claims, compact, log, missing, who};
+use crate::note::{claims, compact, log, mend, missing, who};
 use crate::part::{described, push};
 use clap::Command;
 use std::alloc::{AllocError, Global};
@@ -14,8 +14,10 @@ use std::alloc::{AllocError, Global};
 /// The version of the package.
 pub const VERSION: &str = "0.1.0";
 
-const MGR_HELP: &str =
-    "`mgr help show` is the help of `show`, and so on. `mgr-live NAME` edits on a terminal.";
+const MGR_HELP: &str = "`mgr help show` is the help of `show`, and so on.";
+
+const MGR_USAGE: &str = "mgr <COMMAND>
+       mgr-live <NAME>  (edits on a terminal)";
 
 /// The program without its jobs.
 fn program<'a>(alloc: Global) -> Command<'a>
@@ -24,6 +26,7 @@ fn program<'a>(alloc: Global) -> Command<'a>
     let about = "An editor whose buffers are replicas of one text";
     described(alloc, "mgr", about, MGR_HELP)
         .version(VERSION)
+        .override_usage(MGR_USAGE)
         .subcommand_required(true)
         .disable_help_subcommand(true)
 }
@@ -40,7 +43,8 @@ fn add_jobs<'a>(alloc: Global, jobs: &mut Vec<Command<'a>>) -> Result<(), AllocE
     push(jobs, who(alloc)?)?;
     push(jobs, claims(alloc)?)?;
     push(jobs, missing(alloc)?)?;
-    push(jobs, merge(alloc)?)
+    push(jobs, merge(alloc)?)?;
+    push(jobs, mend(alloc)?)
 }
 
 /// The program with its jobs.

@@ -5,7 +5,7 @@ ghost use Rattle.clap.specs.Walk.{rows_of, texts};
 ghost use Rattle.mg_settings.specs.Settings.{Values};
 ghost use Rattle.mgr_args.specs.Edit.{GivesNumbers, GivesOptions, GivesSettings};
 ghost use Rattle.mgr_args.specs.Given.{GivesLogs, GivesMerging, GivesNameIf, GivesNote};
-ghost use Rattle.mgr_args.specs.Given.{GivesNumberIf, GivesShown};
+ghost use Rattle.mgr_args.specs.Given.{GivesNoteNameIf, GivesNumberIf, GivesShown};
 
 use clap::ArgMatches;
 use mg_settings::{Settings, Values};
@@ -47,6 +47,22 @@ pub(crate) fn name_of(alloc: Global, found: &ArgMatches<'_>) -> Result<Option<St
         return Ok(None);
     }
     Ok(Some(String::from_str(alloc, name)?))
+}
+
+/// The same; none too if it is `-`, which is standard input.
+pub(crate) fn note_name_of(
+    alloc: Global,
+    found: &ArgMatches<'_>,
+) -> Result<Option<String>, AllocError>
+    ensures { IfOk result (GivesNoteNameIf (rows_of (found_of found.now))) }
+{
+    let Some(name) = name_of(alloc, found)? else {
+        return Ok(None);
+    };
+    if name.as_str() == "-" {
+        return Ok(None);
+    }
+    Ok(Some(name))
 }
 
 /// What clap's matches give to a job of one note and this flag; none if the name is empty.

@@ -10,7 +10,8 @@ ghost use Rattle.mgr_args.specs.declared.job.JobFault.TheVariants.{Memory};
 
 use crate::command::command;
 use crate::given::{
-    Merging, Note, Shown, logs_of, merging_of, name_of, note_of, settings_of, shown_of,
+    Merging, Note, Shown, logs_of, merging_of, name_of, note_name_of, note_of, settings_of,
+    shown_of,
 };
 use clap::error::ErrorKind;
 use clap::{ArgMatches, Error};
@@ -38,6 +39,8 @@ pub enum Job {
     Missing(String),
     /// Logs, taken into a note; with `--adopt` those of another note too.
     Merge(Merging),
+    /// A log that is refused or torn, made one that is not.
+    Mend(String),
 }
 
 /// What help is on.
@@ -54,6 +57,7 @@ pub enum Topic {
     Claims,
     Missing,
     Merge,
+    Mend,
 }
 
 /// Why there is no job.
@@ -97,9 +101,10 @@ pub fn job_status(fault: &JobFault) -> u8
 ///
 /// The first word names the job, and clap reads those after it. `show` takes a name or none and
 /// `--lines N` or not, `edit` a name, `--replica N` and the other options, `compact`, `log` and
-/// `who` a name and a flag or not, `join` paths, `claims` and `missing` a name, and `merge` a name,
-/// paths and `--adopt` or not. `Help` is on the program if the first word is
-/// `--help`, or `-h` with anything after it, and on a job if clap finds it after its word.
+/// `who` a name and a flag or not, `join` paths, `claims`, `missing` and `mend` a name, and `merge`
+/// a name, paths or none, and `--adopt` or not. No name may be empty, and that of `missing` not `-`.
+/// `Help` is on the program if the first word is `--help`, or `-h` with anything after it, and on a
+/// job if clap finds it after its word.
 /// `Version` if the first word is `--version`, or `-V` with anything after it. `help` in front is
 /// `--help` at the end: `mgr help show` asks for what `mgr show --help` does. `Usage` at any other
 /// command line, and `Memory`.
@@ -128,12 +133,20 @@ fn chosen(alloc: Global, topic: Topic, matches: &ArgMatches<'_>) -> Result<Job, 
     };
     match job_given(alloc, topic, found)? {
         Some(job) => Ok(job),
-        None => Err(mistake(alloc, "the name is missing or empty")),
+        None => Err(mistake(alloc, reason_of(topic))),
     }
 }
 
-/// The job of a topic that clap's matches give; none if the name is missing or empty, and on the
-/// program.
+/// Why clap's matches give no job of a topic.
+fn reason_of(topic: Topic) -> &'static str {
+    match topic {
+        Topic::Missing => "the name is empty or -: standard input has the claims",
+        _ => "the name is missing or empty",
+    }
+}
+
+/// The job of a topic that clap's matches give; none if the name is missing or empty, or is `-` for
+/// `missing`, and on the program.
 fn job_given(alloc: Global, topic: Topic, found: &ArgMatches<'_>) -> Result<Option<Job>, AllocError>
     ensures { IfOk result (GivesJob topic (rows_of (found_of found.now))) }
 {
@@ -146,8 +159,9 @@ fn job_given(alloc: Global, topic: Topic, found: &ArgMatches<'_>) -> Result<Opti
         Topic::Log => note_of(alloc, found, "json")?.map(Job::Log),
         Topic::Who => note_of(alloc, found, "lines")?.map(Job::Who),
         Topic::Claims => name_of(alloc, found)?.map(Job::Claims),
-        Topic::Missing => name_of(alloc, found)?.map(Job::Missing),
+        Topic::Missing => note_name_of(alloc, found)?.map(Job::Missing),
         Topic::Merge => merging_of(alloc, found)?.map(Job::Merge),
+        Topic::Mend => name_of(alloc, found)?.map(Job::Mend),
     })
 }
 
@@ -206,6 +220,9 @@ fn topic_of(words: &[&str]) -> Topic
     }
     if first == Some(&"merge") {
         return Topic::Merge;
+    }
+    if first == Some(&"mend") {
+        return Topic::Mend;
     }
     Topic::Program
 }

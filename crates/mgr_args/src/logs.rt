@@ -1,7 +1,7 @@
 //! The subcommands that read logs as they came: `show`, `join` and `merge`.
 ghost use Rattle.std.specs.Prelude.{IfOk};
 ghost use Rattle.mgr_args.specs.Rules.{IsLocal, IsPlain, join_app, logs_rule, merge_app};
-ghost use Rattle.mgr_args.specs.Rules.{optional_name_rule, show_app};
+ghost use Rattle.mgr_args.specs.Rules.{optional_logs_rule, optional_name_rule, show_app};
 
 use crate::part::{add_flag, add_name, described, number, push};
 use clap::{Arg, ArgAction, Command};
@@ -25,7 +25,8 @@ const MERGE_HELP: &str = "Each LOG is the path of a log, or - for standard input
     mgr merge notes /mnt/share/notes.ops
     ssh host mgr claims notes | mgr missing notes | ssh host mgr merge notes - --adopt
 
-NAME.ops and the text NAME then have what the logs have. If one is refused, both stay.";
+NAME.ops and the text NAME then have what the logs have. If one is refused, both stay. Without
+LOG a text NAME that is missing is put.";
 
 /// `show`, with the words of its help.
 pub(crate) fn show<'a>(alloc: Global) -> Result<Command<'a>, AllocError>
@@ -44,7 +45,8 @@ pub(crate) fn join<'a>(alloc: Global) -> Result<Command<'a>, AllocError>
     ensures { IfOk result (IsPlain join_app) }
 {
     let mut args = Vec::new(alloc);
-    push(&mut args, logs(alloc, "The logs to join"))?;
+    let logs = optional_logs(alloc, "The logs to join");
+    push(&mut args, logs.required(true))?;
     let about = "Write the log that logs make together";
     described(alloc, "join", about, JOIN_HELP).args(args)
 }
@@ -55,7 +57,7 @@ pub(crate) fn merge<'a>(alloc: Global) -> Result<Command<'a>, AllocError>
 {
     let mut args = Vec::new(alloc);
     add_name(alloc, &mut args)?;
-    push(&mut args, logs(alloc, "The logs to merge"))?;
+    push(&mut args, optional_logs(alloc, "The logs to merge"))?;
     add_flag(alloc, &mut args, "adopt", "Take logs of another note, too")?;
     let about = "Merge logs into a text and its log";
     described(alloc, "merge", about, MERGE_HELP).args(args)
@@ -71,14 +73,13 @@ fn optional_name<'a>(alloc: Global) -> Arg<'a>
         .help("The note whose log NAME.ops is read")
 }
 
-/// One path or more, with the words of their help.
-fn logs<'a>(alloc: Global, help: &'a str) -> Arg<'a>
-    ensures { IsLocal logs_rule result }
+/// Paths, which may be left out, with the words of their help.
+fn optional_logs<'a>(alloc: Global, help: &'a str) -> Arg<'a>
+    ensures { IsLocal optional_logs_rule result }
 {
     Arg::new(alloc, "logs")
         .action(ArgAction::Append)
         .num_args(1..)
         .value_name("LOG")
-        .required(true)
         .help(help)
 }

@@ -1,5 +1,5 @@
 //! The subcommands that take a note and a flag, `compact`, `log` and `who`, or a note alone,
-//! `claims` and `missing`.
+//! `claims`, `missing` and `mend`.
 ghost use Rattle.std.specs.Prelude.{codes, IfOk};
 ghost use Rattle.mgr_args.specs.Rules.{IsPlain, IsToldOf, name_app, note_app, note_rules};
 
@@ -37,6 +37,13 @@ const MISSING_HELP: &str =
     ssh host mgr claims notes | mgr missing notes | ssh host mgr merge notes - --adopt
 
 What is written is a log, which `mgr merge` takes.";
+
+const MEND_HELP: &str =
+    "Each whole line of NAME.ops that is an operation stays, of two that conflict one:
+
+    mgr mend notes
+
+What is left out goes to NAME.ops.refused, and the old log to NAME.ops~.";
 
 /// `compact`, with the words of its help.
 pub(crate) fn compact<'a>(alloc: Global) -> Result<Command<'a>, AllocError>
@@ -80,6 +87,14 @@ pub(crate) fn missing<'a>(alloc: Global) -> Result<Command<'a>, AllocError>
 {
     let about = "Write the operations that another log of a text lacks";
     name_alone(alloc, "missing", about, MISSING_HELP)
+}
+
+/// `mend`, with the words of its help.
+pub(crate) fn mend<'a>(alloc: Global) -> Result<Command<'a>, AllocError>
+    ensures { IfOk result (IsPlain (name_app (codes "mend"))) }
+{
+    let about = "Make a refused or torn log one that is read";
+    name_alone(alloc, "mend", about, MEND_HELP)
 }
 
 /// A command that takes a name, with the words of its help.

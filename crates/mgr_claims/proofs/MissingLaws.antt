@@ -1,5 +1,5 @@
 -- What is written of what claims lack.
-use Rattle.std.proofs.Common.{◌≡◌, ℕ, List, [], ◌++◌, length, Option, Some, None, Result, Ok, Err, refl, sym, ap, subst, ◌∙◌, lit≤, inr}
+use Rattle.std.proofs.Common.{◌≡◌, ℕ, List, [], ◌++◌, length, Option, Some, None, Ok, refl, sym, ap, subst, ◌∙◌, lit≤, inr}
 use Rattle.std.specs.Prelude.{IfSome, ◌⊎◌}
 use Rattle.rga_ops.specs.Content.{Content, nothing, join, content_of, IsAgreed, IsSound}
 use Rattle.rga_ops.specs.ListAnswer.{AreWellFormed, IsJoinable}
@@ -8,23 +8,18 @@ use Rattle.rga_ops.specs.declared.op.Op.TheVariants.{Insert}
 use Rattle.rga_ops.proofs.AgreeLaws.{agree_nothing, agree_swap}
 use Rattle.rga_ops.proofs.ContentLaws.{nothing_join}
 use Rattle.rga_ops.proofs.OperationLaws.{Contains-nil}
-use Rattle.rga_store.specs.declared.text_store.TheConstants.{MAX_LIMIT}
 use Rattle.rga_devices.specs.Counting.{Calls, Writes, WritesFront, WritesNothing}
 use Rattle.rga_lines.specs.Log.{log_operations, then_operations}
 use Rattle.rga_lines.specs.Stream.{rest_of}
 use Rattle.rga_lines.proofs.StandLemmas.{nothing_stands}
 use Rattle.rga_exchange.specs.Sending.{StandsFor, log_text}
+use Rattle.rga_exchange.specs.declared.log.LogRead.{LogRead}
 use Rattle.rga_digest.specs.Summary.{Summary, missing}
 use Rattle.rga_digest.proofs.SentLaws.{sent_agreed}
 use Rattle.rga_brief.proofs.SentLaws.{missing_well_formed}
-use Rattle.mgr_show.specs.Log.{ShowOutcome}
 use Rattle.mgr_show.specs.Shown.{log_content}
-use Rattle.mgr_show.specs.Note.{note_of, IsReadable}
-use Rattle.mgr_show.proofs.NoteLaws.{content_of_note}
-use Rattle.mgr_show.specs.declared.fault.ShowFault.{ShowFault}
-use Rattle.mgr_claims.specs.declared.fault.MissingFault.{MissingFault}
-use Rattle.mgr_claims.specs.declared.fault.MissingFault.TheVariants as fault
-use Rattle.mgr_claims.specs.Missing.{claims_heard, log_held, with_log_fault, lacked, OnBoth, WritesMissing, BeginsMissing}
+use Rattle.mgr_show.specs.Stored.{IsRead}
+use Rattle.mgr_claims.specs.Missing.{claims_heard, lacked, OnBoth, WritesMissing, BeginsMissing}
 
 -- ---- the lines as a log
 
@@ -49,56 +44,38 @@ stands_alone c s sound joined =
     subst (StandsFor (log_text (missing c s))) (nothing_join (content_of (missing c s)))
     (joined [] nothing empty_stands refl (missing_well_formed c s sound) (record { agreed = sent_agreed c s; agree = agree_swap (content_of (missing c s)) nothing (agree_nothing (content_of (missing c s))) }))
 
--- ---- what was held
-
-abbrev holds_it : Content → Result Content MissingFault
-holds_it c = Ok c
-
-abbrev fails : ShowFault → Result Content MissingFault
-fails e = Err (fault.Log e)
-
-content_held : (bytes : List ℕ) (c : Content) → log_held bytes ≡ Ok c → IsReadable bytes × (c ≡ log_content bytes)
-content_held bytes c h = by (note_of MAX_LIMIT bytes) refl h
-  where
-    by : (r : ShowOutcome) → note_of MAX_LIMIT bytes ≡ r → with_log_fault r ≡ Ok c → IsReadable bytes × (c ≡ log_content bytes)
-    by (Ok d) is g =
-        let same : holds_it d ≡ holds_it c = g in
-        let content : d ≡ c = cc in
-        content_of_note bytes c (is ∙ ap Ok content)
-    by (Err e) is g = let clash : fails e ≡ holds_it c = g in absurd cc
-
 -- ---- what is written
 
 module _ {W : Type 0} (contents : W → Option (List ℕ)) where
-  pub writes_missing : (claims log read : Option (List ℕ)) (old new : Calls W) (c : Content) (peer : Summary) (ops : List Op) (number : ℕ)
-      → IfSome claims (λ bytes. claims_heard bytes ≡ Ok peer) → read ≡ log → IfSome read (λ bytes. log_held bytes ≡ Ok c) → IsSound c
+  pub writes_missing : (claims log read : Option (List ℕ)) (old new : Calls W) (c : Content) (ended : LogRead) (peer : Summary) (ops : List Op) (number : ℕ)
+      → IfSome claims (λ bytes. claims_heard bytes ≡ Ok peer) → read ≡ log → IfSome read (λ bytes. IsRead bytes c ended) → IsSound c
       → ops ≡ missing c peer → number ≡ length ops → Writes contents old new (log_text ops) → JoinedAfter ops
       → OnBoth claims log (λ heard bytes. WritesMissing contents old new heard bytes number)
-  writes_missing None log read old new c peer ops number heard same held sound are count w joined = tt
-  writes_missing (Some told) None read old new c peer ops number heard same held sound are count w joined = tt
-  writes_missing (Some told) (Some bytes) read old new c peer ops number heard same held sound are count w joined =
-      let of_log = content_held bytes c (subst (λ known. IfSome known (λ bytes. log_held bytes ≡ Ok c)) same held) in
-      let is : ops ≡ lacked bytes peer = are ∙ ap (λ d. missing d peer) of_log.1 in
+  writes_missing None log read old new c ended peer ops number heard same held sound are count w joined = tt
+  writes_missing (Some told) None read old new c ended peer ops number heard same held sound are count w joined = tt
+  writes_missing (Some told) (Some bytes) read old new c ended peer ops number heard same held sound are count w joined =
+      let of_log : IsRead bytes c ended = subst (λ known. IfSome known (λ bytes. IsRead bytes c ended)) same held in
+      let is : ops ≡ lacked bytes peer = are ∙ ap (λ d. missing d peer) of_log.content in
       record {
         peer = peer;
         heard = heard;
-        readable = of_log.0;
+        readable = of_log.readable;
         count = count ∙ ap length is;
         written = subst (λ l. Writes contents old new (log_text l)) is w;
-        stands = subst (λ d. StandsFor (log_text (missing d peer)) (content_of (missing d peer))) of_log.1 (stands_alone c peer sound (subst JoinedAfter are joined));
+        stands = subst (λ d. StandsFor (log_text (missing d peer)) (content_of (missing d peer))) of_log.content (stands_alone c peer sound (subst JoinedAfter are joined));
       }
 
-  pub begins_missing : (claims log read : Option (List ℕ)) (old new : Calls W) (c : Content) (peer : Summary) (ops : List Op)
-      → IfSome claims (λ bytes. claims_heard bytes ≡ Ok peer) → read ≡ log → IfSome read (λ bytes. log_held bytes ≡ Ok c)
+  pub begins_missing : (claims log read : Option (List ℕ)) (old new : Calls W) (c : Content) (ended : LogRead) (peer : Summary) (ops : List Op)
+      → IfSome claims (λ bytes. claims_heard bytes ≡ Ok peer) → read ≡ log → IfSome read (λ bytes. IsRead bytes c ended)
       → ops ≡ missing c peer → WritesFront contents old new (log_text ops)
       → OnBoth claims log (λ heard bytes. WritesNothing contents old new ⊎ BeginsMissing contents old new heard bytes)
-  begins_missing None log read old new c peer ops heard same held are w = tt
-  begins_missing (Some told) None read old new c peer ops heard same held are w = tt
-  begins_missing (Some told) (Some bytes) read old new c peer ops heard same held are w =
-      let of_log = content_held bytes c (subst (λ known. IfSome known (λ bytes. log_held bytes ≡ Ok c)) same held) in
+  begins_missing None log read old new c ended peer ops heard same held are w = tt
+  begins_missing (Some told) None read old new c ended peer ops heard same held are w = tt
+  begins_missing (Some told) (Some bytes) read old new c ended peer ops heard same held are w =
+      let of_log : IsRead bytes c ended = subst (λ known. IfSome known (λ bytes. IsRead bytes c ended)) same held in
       inr (record {
         peer = peer;
         heard = heard;
-        readable = of_log.0;
-        begun = subst (λ l. WritesFront contents old new (log_text l)) (are ∙ ap (λ d. missing d peer) of_log.1) w;
+        readable = of_log.readable;
+        begun = subst (λ l. WritesFront contents old new (log_text l)) (are ∙ ap (λ d. missing d peer) of_log.content) w;
       })

@@ -10,7 +10,7 @@ ghost use Rattle.mgr_claims.specs.Claims.{AreClaimsOf, TellsClaims, BeginsToTell
 ghost use Rattle.mgr_claims.specs.Notes.{log_source};
 
 use crate::head::push_head;
-use crate::note::read_log;
+use crate::note::read_note;
 use mgr_show::{ShowFault, Sources};
 use rga_brief::{send_lines, summary_lines};
 use rga_devices::Counted;
@@ -50,8 +50,8 @@ pub fn write_claims<S: Sources, W: Write>(
     ensures reads { S.failures sources.new ≡ failures_after result (S.failures sources.old) }
     ensures writes { CountsAs ShowFault.Write result writer.old writer.new }
 {
-    let store = read_log(alloc, sources, name)?;
-    let Ok(text) = claims_text(alloc, &store) else {
+    let log = read_note(alloc, sources, name)?;
+    let Ok(text) = claims_text(alloc, &log.store) else {
         return Err(ShowFault::Memory);
     };
     send_lines(text.as_slice(), writer)?;

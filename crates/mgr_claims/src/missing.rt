@@ -2,14 +2,15 @@
 ghost use Rattle.std.specs.Prelude.{◌≡◌, ◌≢◌, ◌⊎◌, ℕ, List, true, Ok, Err, IfOk, IfErr, IfSome};
 ghost use Rattle.std.specs.Prelude.{OnOk, OnErr};
 ghost use Rattle.rga_devices.specs.Counting.{CountsAs, WritesNothing};
+ghost use Rattle.mgr_show.specs.Stored.{IsRead};
 ghost use Rattle.mgr_claims.specs.Missing.{claims_heard, log_held, reads_failed, OnBoth};
 ghost use Rattle.mgr_claims.specs.Missing.{IsOfClaims, IsOfLog, WritesMissing, BeginsMissing};
 ghost use Rattle.mgr_claims.specs.Notes.{log_source};
 
 use crate::fault::MissingFault;
 use crate::head::after_head;
-use crate::note::read_log;
-use mgr_show::{ShowFault, Sources};
+use crate::note::read_note;
+use mgr_show::{ShowFault, Sources, StoredLog};
 use rga_brief::hear_summary;
 use rga_devices::Counted;
 use rga_digest::{Summary, missing};
@@ -59,23 +60,23 @@ pub fn write_missing<S: Sources, W: Write>(
     ensures writes { CountsAs MissingFault.Write result writer.old writer.new }
 {
     let peer = read_claims(alloc, sources, claims)?;
-    let store = read_store(alloc, sources, name)?;
-    let _known = store.known();
-    let Ok(ops) = missing(alloc, &store, &peer) else {
+    let log = read_held(alloc, sources, name)?;
+    let _known = log.store.known();
+    let Ok(ops) = missing(alloc, &log.store, &peer) else {
         return Err(MissingFault::Memory);
     };
     let number = append_log(alloc, &ops, writer)?;
     Ok(number)
 }
 
-/// What the log of a note leads to, as `read_log` says.
-fn read_store<S: Sources>(
+/// The log of a note, as `read_note` says.
+fn read_held<S: Sources>(
     alloc: Global,
     sources: &mut S,
     name: &str,
-) -> Result<FlatStore, MissingFault>
-    ensures ok { IfOk result (λ store. IfSome (S.contents sources.old (log_source name.now))
-        (λ bytes. log_held bytes ≡ Ok store.content)) }
+) -> Result<StoredLog<FlatStore>, MissingFault>
+    ensures read { IfOk result (λ log. IfSome (S.contents sources.old (log_source name.now))
+        (λ bytes. IsRead bytes log.store.content log.read)) }
     ensures refused { IfErr result (λ e. IsOfLog e →
         IfSome (S.contents sources.old (log_source name.now)) (λ bytes.
         log_held bytes ≡ Err e)) }
@@ -85,8 +86,8 @@ fn read_store<S: Sources>(
     ensures same { (other : List ℕ) → S.contents sources.new other ≡ S.contents sources.old other }
     ensures reads { S.failures sources.new ≡ reads_failed result (S.failures sources.old) }
 {
-    match read_log(alloc, sources, name) {
-        Ok(store) => Ok(store),
+    match read_note(alloc, sources, name) {
+        Ok(log) => Ok(log),
         Err(fault) => Err(MissingFault::at_log(fault)),
     }
 }

@@ -1,20 +1,17 @@
 -- What is told of a log whose compacted lines were written beside it, and how many calls failed.
-use Rattle.std.proofs.Common.{◌≡◌, ◌≢◌, ◌∙◌, ℕ, Bool, List, [], Option, Some, None, Result, Ok, Err, sym, ap, subst, refl}
+use Rattle.std.proofs.Common.{◌≡◌, ◌∙◌, ℕ, Bool, List, [], Option, Some, None, Result, Ok, Err, sym, ap, subst, refl}
 use Rattle.std.specs.Prelude.{IfSome}
 use Rattle.std.specs.Option.{option_map}
 use Rattle.std.specs.Io.KnownBytes.{Appends}
 use Rattle.rga_devices.specs.Counting.{Calls, CountsAs, one_more}
-use Rattle.mgr_port.specs.Logs.{Standing, SameElsewhere, left, raised}
+use Rattle.mgr_port.specs.Logs.{Standing, left, raised}
+use Rattle.mgr_port.proofs.LogsLaws.{all_written}
 use Rattle.mgr_show.specs.Compacted.{KeepsContent, compacted, Compacts}
 use Rattle.mgr_show.specs.declared.fault.ShowFault.{ShowFault}
 use Rattle.mgr_show.specs.declared.fault.ShowFault.TheVariants as fault
 use Rattle.mgr_compact.specs.Ends.{failures_after_compaction}
 
 -- ---- what stands there
-
-lines_are : (o : Option (List ℕ)) (text : List ℕ) → Appends (Some []) o text → o ≡ Some text
-lines_are None text none = absurd none
-lines_are (Some l) text is = ap (λ (k : List ℕ). Some k) is
 
 -- What holds where the bytes of the file beside were to get the name, holds of the compacted lines: the file began empty,
 -- and got them.
@@ -27,7 +24,7 @@ after_naming P remaining contents log reader next old new dels (Some s) opened n
     let none : contents next ≡ Some [] = subst (λ o. IfSome o (λ _. contents next ≡ Some [])) first empty in
     let whole : Compacts contents old new dels s.log = subst (λ o. IfSome o (Compacts contents old new dels)) (ap remaining reads ∙ is) lines in
     let written : contents new.inner ≡ Some (compacted dels s.log) =
-    lines_are (contents new.inner) (compacted dels s.log) (subst (λ o. Appends o (contents new.inner) (compacted dels s.log)) (ap contents writes ∙ none) whole.written) in
+    all_written (contents new.inner) (compacted dels s.log) (subst (λ o. Appends o (contents new.inner) (compacted dels s.log)) (ap contents writes ∙ none) whole.written) in
     let here : IfSome (contents new.inner) (λ bytes. P bytes s) = subst (λ o. IfSome o (λ s. IfSome (contents new.inner) (λ bytes. P bytes s))) (second ∙ first) named in
     (whole.keeps, subst (λ o. IfSome o (λ bytes. P bytes s)) written here)
 
@@ -38,9 +35,6 @@ pub after_leaving : {R : Type 0} (Q : List ℕ → Type 0) (remaining : R → Op
 after_leaving Q remaining log reader None opened now end first second is reads holds ends = tt
 after_leaving Q remaining log reader (Some s) opened now end first second is reads holds ends =
     (subst (λ o. IfSome o Q) (ap remaining reads ∙ is) holds, ends ∙ ap (option_map left) (second ∙ first))
-
-pub elsewhere : (name : List ℕ) (a b c : List ℕ → Option Standing) → SameElsewhere name a b → SameElsewhere name b c → SameElsewhere name a c
-elsewhere name a b c one two other differs = two other differs ∙ one other differs
 
 -- ---- how many calls failed
 

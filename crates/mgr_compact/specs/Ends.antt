@@ -2,14 +2,10 @@
 use Rattle.std.specs.Prelude.{◌≡◌, ◌⊎◌, ℕ, Bool, Option, Some, Result, Ok, Err}
 use Rattle.rga_devices.specs.Counting.{one_more}
 use Rattle.mgr_port.specs.Disk.{whole_steps}
-use Rattle.mgr_port.specs.Logs.{Standing, StopsEarly, left, renamed}
+use Rattle.mgr_port.specs.Logs.{Standing, StaysSame, StopsEarly, renamed}
 use Rattle.mgr_show.specs.Compacted.{KeepsContent, compacted}
 use Rattle.mgr_show.specs.declared.fault.ShowFault.{ShowFault}
 use Rattle.mgr_show.specs.declared.fault.ShowFault.TheVariants as fault
-
--- the old log stands there: no file was beside it, or that one was removed
-abbrev pub StaysSame : Standing → Option Standing → Type 0
-StaysSame s found = (found ≡ Some s) ⊎ (found ≡ Some (left s))
 
 module _ (dels : Bool) (s : Standing) (found : Option Standing) where
   -- it is written anew, for the same content, and each step was made

@@ -5,8 +5,8 @@ ghost use Rattle.mgr_show.specs.Log.{log_of};
 ghost use Rattle.mgr_show.specs.Shown.{IsOfInput};
 ghost use Rattle.mgr_show.specs.declared.fault.ShowFault.TheVariants.{Memory};
 ghost use Rattle.mgr_port.specs.Disk.{whole_steps};
-ghost use Rattle.mgr_port.specs.Logs.{SameElsewhere, StopsEarly, left, raised, renamed};
-ghost use Rattle.mgr_compact.specs.Ends.{EndsWell, EndsEarly, StaysSame, failures_after_compaction};
+ghost use Rattle.mgr_port.specs.Logs.{SameElsewhere, StaysSame, StopsEarly, left, raised, renamed};
+ghost use Rattle.mgr_compact.specs.Ends.{EndsWell, EndsEarly, failures_after_compaction};
 
 use mg_files::PortFault;
 use mgr_port::Logs;
@@ -20,7 +20,7 @@ use std::alloc::Global;
 /// Faults of the log as of `compact_log`; `Read` too where it can't be had; `Write` too where nothing
 /// can be made beside it, where it is not as it was read, and where it is not given its name or that
 /// is not on the device; and `Memory`.
-#[tactic(auto, using(crate::proofs::NoteLaws::elsewhere))]
+#[tactic(auto, using(mgr_port::proofs::LogsLaws::elsewhere))]
 pub fn compact_note<L: Logs>(
     alloc: Global,
     logs: &mut L,

@@ -1,30 +1,45 @@
--- What a log leads to where it can be read.
-use Rattle.std.proofs.Common.{◌≡◌, ◌≢◌, ℕ, List, Option, Some, None, Ok, sym, ap, subst, ◌∙◌}
-use Rattle.std.specs.Prelude.{IfSome}
-use Rattle.rga_ops.specs.Content.{Content, nothing}
-use Rattle.rga_store.specs.declared.text_store.TheConstants.{MAX_LIMIT}
+-- What is told of the text that stands beside a log.
+use Rattle.std.proofs.Common.{◌≡◌, ◌≢◌, ℕ, List, Option, Some, None, Result, Ok, Err, Bool, true, false, refl, sym, subst, inl, inr}
+use Rattle.std.specs.Prelude.{IfSome, IfErr, if◌then◌else◌}
+use Rattle.std.specs.Str.{bytes_eq}
+use Rattle.rga_ops.specs.Content.{Content}
 use Rattle.rga_exchange.specs.declared.log.LogRead.{LogRead}
-use Rattle.rga_exchange.specs.Log.{log_outcome}
 use Rattle.mgr_show.specs.Shown.{log_content, shown_bytes}
-use Rattle.mgr_show.specs.Note.{note_from, note_of}
-use Rattle.mgr_show.proofs.NoteLaws.{content_of_note}
-use Rattle.mgr_look.specs.Notes.{told, IsRead}
-use Rattle.mgr_look.specs.Numbers.{text_is}
+use Rattle.mgr_show.specs.Stored.{IsRead}
+use Rattle.mgr_show.specs.declared.fault.ShowFault.{ShowFault}
+use Rattle.mgr_show.specs.declared.fault.ShowFault.TheVariants.{Write, Memory}
+use Rattle.mgr_look.specs.Numbers.{failures_of_look, text_is, FailedReads}
 use Rattle.mgr_look.specs.declared.numbers.TextIs.{TextIs}
-use Rattle.mgr_look.specs.declared.numbers.TextIs.TheVariants.{Unread}
-
--- what a store that was made empty took of a log
-pub is_read : (limit : ℕ) (start c : Content) (bytes : List ℕ) (read : LogRead) → limit ≡ MAX_LIMIT → start ≡ nothing
-    → note_from limit start bytes ≡ Ok c → (log_outcome limit start bytes).1 ≡ Ok read → IsRead bytes c read
-is_read limit start c bytes read same empty h ended =
-    let led : note_of MAX_LIMIT bytes ≡ Ok c = (λ k. note_from (sym same k) (sym empty k) bytes) ∙ h in
-    let own = content_of_note bytes c led in
-    record { readable = own.0; content = own.1; ended = (λ k. told (log_outcome (sym same k) (sym empty k) bytes).1) ∙ ap told ended }
+use Rattle.mgr_look.specs.declared.numbers.TextIs.TheVariants.{Same, Other, Unread}
 
 -- the text that stands beside a log is looked at by what the log leads to
-pub text_beside : (log before after : Option (List ℕ)) (is : TextIs) (c : Content) (read : LogRead) → after ≡ before → IfSome log (λ bytes. IsRead bytes c read) → (is ≢ Unread → IfSome after (λ t. is ≡ text_is t (shown_bytes c)))
+pub text_beside : (read_at log before after : Option (List ℕ)) (is : TextIs) (c : Content) (read : LogRead) → read_at ≡ log → after ≡ before → IfSome read_at (λ bytes. IsRead bytes c read) → (is ≢ Unread → IfSome after (λ t. is ≡ text_is t (shown_bytes c)))
     → is ≢ Unread → IfSome log (λ bytes. IfSome before (λ t. is ≡ text_is t (shown_bytes (log_content bytes))))
-text_beside None before after is c read same h looked seen = tt
-text_beside (Some bytes) before after is c read same h looked seen =
+text_beside read_at None before after is c read named same h looked seen = tt
+text_beside read_at (Some bytes) before after is c read named same h looked seen =
+    let held : IsRead bytes c read = subst (λ log. IfSome log (λ b. IsRead b c read)) named h in
     subst (λ text. IfSome text (λ t. is ≡ text_is t (shown_bytes (log_content bytes)))) same
-    (subst (λ d. IfSome after (λ t. is ≡ text_is t (shown_bytes d))) h.content (looked seen))
+    (subst (λ d. IfSome after (λ t. is ≡ text_is t (shown_bytes d))) held.content (looked seen))
+
+-- one that was read is not told as unread
+pub looked_at : (bytes text : List ℕ) (n : ℕ) → failures_of_look (text_is bytes text) n ≡ n
+looked_at bytes text n = by (bytes_eq bytes text)
+  where
+    by : (same : Bool) → failures_of_look (if same then Same else Other) n ≡ n
+    by true = refl
+    by false = refl
+
+-- what fails after it was looked at is no fault of a file
+pub memory_after_look : (is : TextIs) (failed failing : ℕ) → failing ≡ failures_of_look is failed → FailedReads Memory failed failing
+memory_after_look Same failed failing h = inl h
+memory_after_look Other failed failing h = inl h
+memory_after_look Unread failed failing h = inr ((λ a. a), h)
+
+write_after_look : (is : TextIs) (failed failing : ℕ) → failing ≡ failures_of_look is failed → FailedReads Write failed failing
+write_after_look Same failed failing h = inl h
+write_after_look Other failed failing h = inl h
+write_after_look Unread failed failing h = inr ((λ a. a), h)
+
+pub write_failed : {A : Type 0} (written : Result A ShowFault) (is : TextIs) (failed failing : ℕ) → failing ≡ failures_of_look is failed → IfErr written (λ e. e ≡ Write) → IfErr written (λ e. FailedReads e failed failing)
+write_failed (Ok _) is failed failing looked fault = tt
+write_failed (Err e) is failed failing looked fault = subst (λ f. FailedReads f failed failing) (sym fault) (write_after_look is failed failing looked)

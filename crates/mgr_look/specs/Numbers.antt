@@ -1,13 +1,19 @@
 -- What is counted in a log.
-use Rattle.std.specs.Prelude.{◌≡◌, ℕ, List, length, if◌then◌else◌, Ok}
+use Rattle.std.specs.Prelude.{◌≡◌, ◌⊎◌, ℕ, List, length, if◌then◌else◌, Ok, Err}
 use Rattle.std.specs.Str.{bytes_eq}
+use Rattle.rga_ops.specs.Content.{nothing}
+use Rattle.rga_store.specs.declared.text_store.TheConstants.{MAX_LIMIT}
+use Rattle.rga_devices.specs.Counting.{one_more}
 use Rattle.rga_exchange.specs.declared.log.LogRead.{LogRead}
+use Rattle.rga_exchange.specs.Log.{log_outcome}
 use Rattle.mgr_show.specs.Shown.{log_content}
+use Rattle.mgr_show.specs.Joined.{IsOfFile}
 use Rattle.mgr_show.specs.Note.{IsReadable}
+use Rattle.mgr_show.specs.Sources.{failures_after}
+use Rattle.mgr_show.specs.declared.fault.ShowFault.{ShowFault}
 use Rattle.mgr_look.specs.Counts.{AreCounts}
-use Rattle.mgr_look.specs.Notes.{read_of}
 use Rattle.mgr_look.specs.declared.numbers.TextIs.{TextIs}
-use Rattle.mgr_look.specs.declared.numbers.TextIs.TheVariants.{Same, Other}
+use Rattle.mgr_look.specs.declared.numbers.TextIs.TheVariants.{Same, Other, Unread}
 use Rattle.mgr_look.specs.declared.numbers.Numbers.{Numbers}
 
 -- whether these bytes are the text
@@ -20,5 +26,18 @@ pub record AreNumbers (bytes : List ℕ) (n : Numbers) : Type 0 where
   pub counts : AreCounts n.counts (log_content bytes)
   pub long : n.bytes ≡ length bytes
   pub read : LogRead
-  pub ended : read_of bytes ≡ Ok read
+  pub ended : (log_outcome MAX_LIMIT nothing bytes).1 ≡ Ok read
   pub end : n.end ≡ read.end
+
+-- ---- how many reads failed
+
+-- after the text was looked at: one that can't be read is no fault, and is told as unread
+abbrev pub failures_of_look : TextIs → ℕ → ℕ
+failures_of_look Same n = n
+failures_of_look Other n = n
+failures_of_look Unread n = one_more n
+
+-- after this fault: behind the log that of the text may have failed too
+abbrev pub FailedReads : ShowFault → ℕ → ℕ → Type 0
+FailedReads e failed failing =
+    (failing ≡ failures_after {A = Unit {0}} (Err e) failed) ⊎ ((¬ (IsOfFile e)) × (failing ≡ one_more failed))

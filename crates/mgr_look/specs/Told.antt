@@ -5,7 +5,7 @@ use Rattle.rga_devices.specs.Counting.{Calls, Writes, WritesFront}
 use Rattle.rga_exchange.specs.declared.log.LogEnd.{LogEnd}
 use Rattle.rga_exchange.specs.declared.log.LogEnd.TheVariants.{Whole, Bare, Torn}
 use Rattle.mgr_show.specs.Shown.{log_content, shown_bytes}
-use Rattle.mgr_look.specs.Numbers.{text_is, AreNumbers}
+use Rattle.mgr_look.specs.Numbers.{failures_of_look, text_is, AreNumbers}
 use Rattle.mgr_look.specs.declared.counts.Counts.{Counts}
 use Rattle.mgr_look.specs.declared.numbers.Numbers.{Numbers}
 use Rattle.mgr_look.specs.declared.numbers.TextIs.{TextIs}
@@ -99,3 +99,10 @@ module _ {W : Type 0} (contents : W → Option (List ℕ)) (old new : Calls W) (
     pub numbers : Numbers
     pub are : AreNumbersOf log beside numbers
     pub begun : WritesFront contents old new (numbers_bytes json name numbers)
+
+module _ {W : Type 0} (contents : W → Option (List ℕ)) (old new : Calls W) (json : Bool) (name : List ℕ) (failed failing : ℕ) where
+  -- the text was told as unread in what was written, exactly if its read failed
+  pub record LooksAtText : Type 0 where
+    pub numbers : Numbers
+    pub looked : failing ≡ failures_of_look numbers.text failed
+    pub written : Writes contents old new (numbers_bytes json name numbers)

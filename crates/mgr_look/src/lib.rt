@@ -15,7 +15,6 @@ mod counts;
 pub mod laws;
 mod lines;
 mod log;
-mod note;
 mod numbers;
 mod pieces;
 mod tallies;

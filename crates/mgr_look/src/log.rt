@@ -1,10 +1,11 @@
 //! What stands in the log of a note.
-ghost use Rattle.std.specs.Prelude.{◌≡◌, ◌≢◌, ◌⊎◌, true, Err, IfErr, IfSome, OnOk, OnErr};
+ghost use Rattle.std.specs.Prelude.{◌≡◌, ◌≢◌, ◌⊎◌, ℕ, List, true, Err, IfErr, IfSome, OnOk, OnErr};
 ghost use Rattle.rga_devices.specs.Counting.{CountsAs, WritesNothing};
 ghost use Rattle.mgr_show.specs.Shown.{IsOfInput};
 ghost use Rattle.mgr_show.specs.Note.{log_name};
 ghost use Rattle.mgr_look.specs.Notes.{read_of};
-ghost use Rattle.mgr_look.specs.Told.{WritesNumbers, BeginsToWriteNumbers};
+ghost use Rattle.mgr_look.specs.Numbers.{FailedReads};
+ghost use Rattle.mgr_look.specs.Told.{WritesNumbers, BeginsToWriteNumbers, LooksAtText};
 
 use crate::numbers::numbers_of;
 use crate::told::numbers_text;
@@ -19,6 +20,7 @@ use std::io::Write;
 /// counter of these. It writes lines for people, or with `json` one object in one line.
 ///
 /// Faults as of `write_authors`. A text that can't be read is no fault: it is told as unread.
+#[tactic(auto, using(crate::proofs::NoteLaws::memory_after_look))]
 pub fn write_numbers<S: Sources, W: Write>(
     alloc: Global,
     sources: &mut S,
@@ -32,12 +34,20 @@ pub fn write_numbers<S: Sources, W: Write>(
     // A fault of the log is the first one of its bytes.
     ensures refused { IfErr result (λ e. IsOfInput e →
         IfSome (S.contents sources.old (log_name name.now)) (λ bytes. read_of bytes ≡ Err e)) }
+    ensures whole { (number : ℕ) → result ≢ Err (ShowFault.Torn number) }
     ensures unwritten { IfErr result (λ e. e ≢ ShowFault.Write → writer.new ≡ writer.old) }
     // Whatever fails, nothing was written or a beginning of what was to be.
     ensures begun { OnErr result (WritesNothing W.contents writer.old writer.new
         ⊎ BeginsToWriteNumbers W.contents writer.old writer.new json name.now
         (S.contents sources.old (log_name name.now)) (S.contents sources.old name.now)) }
     ensures flushed { OnOk result (writer.new.flushed ≡ true) }
+
+    ensures same { (other : List ℕ) → S.contents sources.new other ≡ S.contents sources.old other }
+    // The text is told as unread exactly if its read failed.
+    ensures looked { OnOk result (LooksAtText W.contents writer.old writer.new json name.now
+        (S.failures sources.old) (S.failures sources.new)) }
+    ensures reads { IfErr result (λ e.
+        FailedReads e (S.failures sources.old) (S.failures sources.new)) }
     ensures writes { CountsAs ShowFault.Write result writer.old writer.new }
 {
     let numbers = numbers_of(alloc, sources, name)?;

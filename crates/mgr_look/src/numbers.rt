@@ -1,13 +1,12 @@
 //! What is counted in the log of a note.
-ghost use Rattle.std.specs.Prelude.{◌≡◌, ◌≢◌, Err, IfOk, IfErr, IfSome};
+ghost use Rattle.std.specs.Prelude.{◌≡◌, ◌≢◌, ℕ, List, Err, IfOk, IfErr, IfSome, OnErr};
 ghost use Rattle.mgr_show.specs.Shown.{IsOfInput, log_content, shown_bytes};
 ghost use Rattle.mgr_show.specs.Note.{log_name};
 ghost use Rattle.mgr_look.specs.Notes.{read_of};
-ghost use Rattle.mgr_look.specs.Numbers.{text_is, AreNumbers};
+ghost use Rattle.mgr_look.specs.Numbers.{failures_of_look, text_is, AreNumbers, FailedReads};
 
 use crate::counts::{Counts, counts_of};
-use crate::note::{NoteLog, read_note};
-use mgr_show::{ShowFault, Sources};
+use mgr_show::{ShowFault, Sources, StoredLog, log_name, read_log};
 use rga_exchange::LogEnd;
 use rga_flat::FlatStore;
 use rga_store::TextStore;
@@ -33,6 +32,7 @@ pub(crate) struct Numbers {
 
 /// Counts what stands in the log of a note, and looks whether its text is the log's. Faults as of
 /// `write_authors`.
+#[tactic(auto, using(crate::proofs::NoteLaws::memory_after_look))]
 pub(crate) fn numbers_of<S: Sources>(
     alloc: Global,
     sources: &mut S,
@@ -46,9 +46,16 @@ pub(crate) fn numbers_of<S: Sources>(
         numbers.text ≡ text_is text (shown_bytes (log_content bytes))))) }
     ensures refused { IfErr result (λ e. IsOfInput e →
         IfSome (S.contents sources.old (log_name name.now)) (λ bytes. read_of bytes ≡ Err e)) }
+    ensures whole { (number : ℕ) → result ≢ Err (ShowFault.Torn number) }
     ensures no_write { result ≢ Err ShowFault.Write }
+    ensures same { (other : List ℕ) → S.contents sources.new other ≡ S.contents sources.old other }
+    ensures looked { IfOk result (λ numbers. S.failures sources.new
+        ≡ failures_of_look numbers.text (S.failures sources.old)) }
+    ensures reads { IfErr result (λ e.
+        FailedReads e (S.failures sources.old) (S.failures sources.new)) }
 {
-    let NoteLog { bytes, store, read } = read_note(alloc, sources, name)?;
+    let file = log_name(alloc, name)?;
+    let StoredLog { bytes, store, read } = read_log::<FlatStore, S>(alloc, sources, file.as_str())?;
     let text = look_at_text(alloc, sources, name, &store)?;
     let Ok(counts) = counts_of(alloc, &store) else {
         return Err(ShowFault::Memory);
@@ -72,11 +79,15 @@ fn look_at_text<S: Sources>(
         IfSome (S.contents sources.old name.now)
         (λ text. is ≡ text_is text (shown_bytes store.now.content))) }
     ensures memory { IfErr result (λ e. e ≡ ShowFault.Memory) }
+    ensures same { (other : List ℕ) → S.contents sources.new other ≡ S.contents sources.old other }
+    ensures looked { IfOk result (λ is.
+        S.failures sources.new ≡ failures_of_look is (S.failures sources.old)) }
+    ensures unfailed { OnErr result (S.failures sources.new ≡ S.failures sources.old) }
 {
     match sources.read(alloc, name) {
         Ok(bytes) => compare(alloc, &bytes, store),
-        Err(ShowFault::Memory) => Err(ShowFault::Memory),
-        Err(_) => Ok(TextIs::Unread),
+        Err(ShowFault::Read) => Ok(TextIs::Unread),
+        Err(_) => Err(ShowFault::Memory),
     }
 }
 

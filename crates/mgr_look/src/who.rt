@@ -1,17 +1,17 @@
 //! Who wrote the text of a note.
-ghost use Rattle.std.specs.Prelude.{◌≡◌, ◌≢◌, ◌⊎◌, true, Err, string_bytes};
+ghost use Rattle.std.specs.Prelude.{◌≡◌, ◌≢◌, ◌⊎◌, ℕ, List, true, Err, string_bytes};
 ghost use Rattle.std.specs.Prelude.{IfOk, IfErr, IfSome, OnOk, OnErr};
 ghost use Rattle.rga_devices.specs.Counting.{CountsAs, WritesNothing};
 ghost use Rattle.mgr_show.specs.Shown.{IsOfInput, log_content};
 ghost use Rattle.mgr_show.specs.Note.{log_name, IsReadable};
+ghost use Rattle.mgr_show.specs.Sources.{failures_after};
 ghost use Rattle.mgr_look.specs.Authors.{authors_bytes};
 ghost use Rattle.mgr_look.specs.Notes.{read_of, WritesAbout, BeginsToWriteAbout};
 
 use crate::authors::authored;
 use crate::lines::lines_text;
-use crate::note::read_note;
 use crate::pieces::pieces_text;
-use mgr_show::{ShowFault, Sources, write_text};
+use mgr_show::{ShowFault, Sources, log_name, read_log, write_text};
 use rga_devices::Counted;
 use rga_flat::FlatStore;
 use rga_ops::Refusal;
@@ -22,8 +22,10 @@ use std::io::Write;
 /// line. With `by_lines` it writes the lines of the text, each after the replicas that wrote in it.
 ///
 /// What stands after the last newline of the log counts if it is an operation, and else it is left
-/// out. Faults of the log, of which the first in the order of the lines is answered: `Line`,
-/// `Refused`. Nothing is written before the whole log was taken.
+/// out.
+///
+/// `Line` and `Refused` are the first fault in the order of the lines. `Read` comes if the log
+/// can't be read. Nothing is written before all of it was taken.
 pub fn write_authors<S: Sources, W: Write>(
     alloc: Global,
     sources: &mut S,
@@ -38,6 +40,7 @@ pub fn write_authors<S: Sources, W: Write>(
     // A fault of the log is the first one of its bytes.
     ensures refused { IfErr result (λ e. IsOfInput e →
         IfSome (S.contents sources.old (log_name name.now)) (λ bytes. read_of bytes ≡ Err e)) }
+    ensures whole { (number : ℕ) → result ≢ Err (ShowFault.Torn number) }
     ensures unwritten { IfErr result (λ e. e ≢ ShowFault.Write → writer.new ≡ writer.old) }
     // Whatever fails, nothing was written or a beginning of what was to be.
     ensures begun { OnErr result (IfSome (S.contents sources.old (log_name name.now)) (λ bytes.
@@ -46,7 +49,8 @@ pub fn write_authors<S: Sources, W: Write>(
         (authors_bytes by_lines (log_content bytes)))) }
     ensures flushed { OnOk result (writer.new.flushed ≡ true) }
 
-    ensures reads { OnOk result (S.failures sources.new ≡ S.failures sources.old) }
+    ensures same { (other : List ℕ) → S.contents sources.new other ≡ S.contents sources.old other }
+    ensures reads { S.failures sources.new ≡ failures_after result (S.failures sources.old) }
     ensures writes { CountsAs ShowFault.Write result writer.old writer.new }
 {
     let text = authors_text(alloc, sources, name, by_lines)?;
@@ -66,10 +70,13 @@ fn authors_text<S: Sources>(
         (λ bytes. IsReadable bytes)) }
     ensures refused { IfErr result (λ e. IsOfInput e →
         IfSome (S.contents sources.old (log_name name.now)) (λ bytes. read_of bytes ≡ Err e)) }
+    ensures whole { (number : ℕ) → result ≢ Err (ShowFault.Torn number) }
     ensures no_write { result ≢ Err ShowFault.Write }
-    ensures failures { OnOk result (S.failures sources.new ≡ S.failures sources.old) }
+    ensures same { (other : List ℕ) → S.contents sources.new other ≡ S.contents sources.old other }
+    ensures reads { S.failures sources.new ≡ failures_after result (S.failures sources.old) }
 {
-    let log = read_note(alloc, sources, name)?;
+    let file = log_name(alloc, name)?;
+    let log = read_log::<FlatStore, S>(alloc, sources, file.as_str())?;
     content_text(alloc, &log.store, by_lines).map_err(|_| ShowFault::Memory)
 }
 

@@ -1,82 +1,109 @@
--- Logs beside a note.
-use Rattle.std.proofs.Common.{◌≡◌, ◌≢◌, ℕ, suc, ◌<◌, Bool, true, false, not, true≢false, nat_eq, List, [], ◌∷◌, length, Option, Some, None, Result, Ok, refl, sym, subst, ◌∙◌, arith}
-use Rattle.std.specs.Prelude.{IfSome}
+-- What is found of the operations of a log, line by line.
+use Rattle.std.proofs.Common.{◌≡◌, ◌-◌, length-drop, nat_eq, arith, subst, Option, Some, take, drop, ◌+◌, ◌<◌, suc, length, get_or, drop-cons, add-one, Bool, true, false, not, ◌&&◌, ◌||◌, ℕ, List, [], ◌∷◌, ◌++◌, Ok, Err, refl, sym, ap, ◌∙◌}
+use Rattle.std.specs.Prelude.{MatchOption}
+use Rattle.std.specs.List.{list_any}
 use Rattle.std.proofs.lemmas.Bool.{eqb-true}
-use Rattle.std.specs.List.{Contains}
-use Rattle.rga_ops.specs.Content.{Content, Holds, nothing, known_count}
-use Rattle.rga_ops.specs.Operations.{operations}
+use Rattle.std.proofs.Math.Bool.{or_assoc}
+use Rattle.std.proofs.lemmas.List.Folds.{list_any-append}
+use Rattle.rga_ops.specs.Content.{Content}
 use Rattle.rga_ops.specs.declared.op.Op.{Op}
-use Rattle.rga_store.specs.declared.text_store.TheConstants.{MAX_LIMIT}
-use Rattle.mgr_show.specs.Joined.{joined_from}
-use Rattle.mgr_show.specs.declared.fault.JoinFault.{JoinFault}
-use Rattle.mgr_merge.specs.Merging.{IsApart, AreApart, AreTogether}
+use Rattle.rga_lines.specs.Log.{operations_at, operations_of, then_operations}
+use Rattle.rga_lines.specs.LineFault.{LineFault}
+use Rattle.rga_lines.specs.Stream.{HasNoNewline}
+use Rattle.rga_lines.proofs.StreamLemmas.{FirstLine, lines-none, rest-none, lines-line, rest-line}
+use Rattle.mgr_merge.specs.Taking.{all_lines, are_any, is_tied}
 
-module _ (known : Option (List (List ℕ))) (c : Content) {limit : ℕ} {start j : Content} (same : limit ≡ MAX_LIMIT) (empty : start ≡ nothing) (h : IfSome known (λ logs. joined_from limit 0 start logs ≡ Ok j)) where
-  pub are_apart : IsApart c j → IfSome known (λ logs. AreApart c logs)
-  are_apart apart = by known h
-    where
-      by : (known : Option (List (List ℕ))) → IfSome known (λ logs. joined_from limit 0 start logs ≡ Ok j) → IfSome known (λ logs. AreApart c logs)
-      by None h = tt
-      by (Some logs) h = record { joined = j; outcome = subst (λ l. joined_from l 0 nothing logs ≡ Ok j) same (subst (λ e. joined_from limit 0 e logs ≡ Ok j) empty h); apart = apart }
+-- ---- the first line
 
-  pub are_together : ¬ (IsApart c j) → IfSome known (λ logs. AreTogether c logs)
-  are_together together = by known h
-    where
-      by : (known : Option (List (List ℕ))) → IfSome known (λ logs. joined_from limit 0 start logs ≡ Ok j) → IfSome known (λ logs. AreTogether c logs)
-      by None h = tt
-      by (Some logs) h = record { joined = j; outcome = subst (λ l. joined_from l 0 nothing logs ≡ Ok j) same (subst (λ e. joined_from limit 0 e logs ≡ Ok j) empty h); together = together }
+pub first_of_lines : (bytes line behind : List ℕ) (n : ℕ) → FirstLine bytes n → line ≡ take n bytes → behind ≡ drop (n + 1) bytes → all_lines bytes ≡ line ∷ all_lines behind
+first_of_lines bytes line behind n first is after =
+    ap all_lines first.parts
+    ∙ (λ k. lines-line (take n bytes) (drop (n + 1) bytes) first.none k ++ rest-line (take n bytes) (drop (n + 1) bytes) first.none k ∷ [])
+    ∙ (λ k. sym is k ∷ all_lines (sym after k))
 
--- ---- what is found of them
+pub shorter : (bytes behind : List ℕ) (n : ℕ) → n < length bytes → behind ≡ drop (n + 1) bytes → length behind < length bytes
+shorter bytes behind n within is =
+    let left : length behind ≡ length bytes - (n + 1) = ap length is ∙ length-drop (n + 1) bytes in
+    omega (arith, within, left)
 
-pub no_operations : (c j : Content) (ops : List Op) → ops ≡ operations j → ops ≡ [] → ¬ (IsApart c j)
-no_operations c j ops is none apart = apart.some (sym is ∙ none)
+pub rest_alone : (bytes : List ℕ) → HasNoNewline bytes → all_lines bytes ≡ bytes ∷ []
+rest_alone bytes none = (λ k. lines-none bytes none k ++ rest-none bytes none k ∷ [])
 
-pub nothing_known : (c j : Content) → known_count c ≡ 0 → ¬ (IsApart c j)
-nothing_known c j none apart = absurd (zero_known (known_count c) none apart.known)
+-- ---- their operations
+
+pub with_line : (bytes line : List ℕ) (lines : List (List ℕ)) (ops : List Op) → all_lines bytes ≡ line ∷ lines → operations_at line ≡ Ok ops → operations_of (all_lines bytes) ≡ ops ++ operations_of lines
+with_line bytes line lines ops cut is = ap operations_of cut ∙ ap (λ r. then_operations r (operations_of lines)) is
+
+pub with_no_line : (bytes line : List ℕ) (lines : List (List ℕ)) (e : LineFault) → all_lines bytes ≡ line ∷ lines → operations_at line ≡ Err e → operations_of (all_lines bytes) ≡ []
+with_no_line bytes line lines e cut is = ap operations_of cut ∙ ap (λ r. then_operations r (operations_of lines)) is
+
+-- ---- ties
+
+any-append : (xs ys : List Op) → are_any (xs ++ ys) ≡ (are_any xs || are_any ys)
+any-append [] ys = refl
+any-append (x ∷ xs) ys = refl
+
+and-false : (b : Bool) → (b && false) ≡ false
+and-false true = refl
+and-false false = refl
+
+pub any_is : (ops : List Op) → not (nat_eq (length ops) 0) ≡ are_any ops
+any_is [] = refl
+any_is (op ∷ ops) = by (nat_eq (length (op ∷ ops)) 0) refl
   where
-    zero_known : (n : ℕ) → n ≡ 0 → 0 < n → ⊥
-    zero_known n is some = omega (arith, is, some)
+    by : (empty : Bool) → nat_eq (length (op ∷ ops)) 0 ≡ empty → not (nat_eq (length (op ∷ ops)) 0) ≡ true
+    by true is = let it : length (op ∷ ops) ≡ 0 = eqb-true (length (op ∷ ops)) 0 is in absurd (omega (arith, it))
+    by false is = ap not is
 
-pub one_shared : (c j : Content) (ops : List Op) → ops ≡ operations j → (op : Op) × Contains ops op × Holds c op → ¬ (IsApart c j)
-one_shared c j ops is (op, had, held) apart = apart.none op (subst (λ l. Contains l op) is had) held
+-- what is said of an option that is there
+pub if_some : {A : Type 0} (P : Type 0) (Q : A → Type 0) (o : Option A) (x : A) → o ≡ Some x → MatchOption o P Q → Q x
+if_some {A} P Q o x is h = subst (λ (o : Option A). MatchOption o P Q) is h
 
-pub none_shared : (c j : Content) (ops : List Op) → ops ≡ operations j → ops ≢ [] → known_count c ≢ 0 → ((op : Op) → Contains ops op → ¬ (Holds c op)) → IsApart c j
-none_shared c j ops is some known none = record {
-  known = above (known_count c) known;
-  some = λ e. some (is ∙ e);
-  none = λ op had. none op (subst (λ l. Contains l op) (sym is) had);
-}
-  where
-    above : (n : ℕ) → n ≢ 0 → 0 < n
-    above n h = omega (arith, h)
+module _ (c : Content) where
+  -- of some that stood before these, or none, none is tied, and none of these
+  abbrev pub untied_after : Bool → List Op → Bool
+  untied_after some ops = (some || are_any ops) && not (list_any (is_tied c) ops)
 
--- ---- whether a list is empty
+  pub nothing_after : (some : Bool) (ops : List Op) → ops ≡ [] → untied_after some ops ≡ some
+  nothing_after true ops is = ap (untied_after true) is
+  nothing_after false ops is = ap (untied_after false) is
 
-pub none_there : {X : Type 0} (xs : List X) (b : Bool) → b ≡ nat_eq (length xs) 0 → b ≡ true → xs ≡ []
-none_there [] b is h = refl
-none_there (x ∷ xs) b is h = absurd (never (length xs) (sym is ∙ h))
-  where
-    never : (n : ℕ) → nat_eq (suc n) 0 ≡ true → ⊥
-    never n h = let it : suc n ≡ 0 = eqb-true (suc n) 0 h in omega (arith, it)
+  -- the first are passed over: none of them is tied
+  pub passes : (some : Bool) (all ops more : List Op) → all ≡ ops ++ more → list_any (is_tied c) ops ≡ false → untied_after some all ≡ untied_after (some || are_any ops) more
+  passes some all ops more is untied =
+      ap (untied_after some) is
+      ∙ (λ k. (some || any-append ops more k) && not (list_any-append (is_tied c) ops more k))
+      ∙ ap (λ b. (some || (are_any ops || are_any more)) && not (b || list_any (is_tied c) more)) untied
+      ∙ ap (λ b. b && not (list_any (is_tied c) more)) (sym (or_assoc some (are_any ops) (are_any more)))
 
-pub some_there : {X : Type 0} (xs : List X) (b : Bool) → b ≡ nat_eq (length xs) 0 → b ≡ false → xs ≢ []
-some_there [] b is h e = absurd (true≢false (sym is ∙ h))
-some_there (x ∷ xs) b is h e = absurd cc
+  -- one of the first is tied
+  pub finds_tied : (some : Bool) (all ops more : List Op) → all ≡ ops ++ more → list_any (is_tied c) ops ≡ true → untied_after some all ≡ false
+  finds_tied some all ops more is tied =
+      ap (untied_after some) is
+      ∙ (λ k. (some || are_any (ops ++ more)) && not (list_any-append (is_tied c) ops more k))
+      ∙ ap (λ b. (some || are_any (ops ++ more)) && not (b || list_any (is_tied c) more)) tied
+      ∙ and-false (some || are_any (ops ++ more))
 
--- the answer is the contrary of what was found
-abbrev Answer : Type 0
-Answer = Result Bool JoinFault
+-- ---- a list, one by one
 
-abbrev answered : Bool → Answer
-answered b = Ok b
+module _ {X : Type 0} (f : X → Bool) (xs : List X) (i : ℕ) (x : X) (within : i < length xs) (is : x ≡ get_or xs i x) where
+  next_is : list_any f (drop i xs) ≡ (f x || list_any f (drop (i + 1) xs))
+  next_is =
+      ap (list_any f) (drop-cons xs i x within)
+      ∙ ap (λ (y : X). f y || list_any f (drop (suc i) xs)) (sym is)
+      ∙ ap (λ j. f x || list_any f (drop j xs)) (sym (add-one i))
 
-pub not-is-true : (b : Bool) → answered (not b) ≡ answered true → b ≡ false
-not-is-true true e = absurd cc
-not-is-true false e = refl
+  pub any_here : list_any f xs ≡ list_any f (drop i xs) → f x ≡ true → list_any f xs ≡ true
+  any_here left passes = left ∙ next_is ∙ ap (λ b. b || list_any f (drop (i + 1) xs)) passes
 
-pub not-is-false : (b : Bool) → answered (not b) ≡ answered false → b ≡ true
-not-is-false true e = refl
-not-is-false false e = absurd cc
+  pub any_later : list_any f xs ≡ list_any f (drop i xs) → f x ≡ false → list_any f xs ≡ list_any f (drop (i + 1) xs)
+  any_later left fails = left ∙ next_is ∙ ap (λ b. b || list_any f (drop (i + 1) xs)) fails
 
-pub among : {ops all : List Op} {P : Op → Type 0} → ops ≡ all → (op : Op) × Contains ops op × P op → (op : Op) × Contains all op × P op
-among is (op, had, holds) = (op, subst (λ l. Contains l op) is had, holds)
+-- one line more, none of whose operations is tied
+pub goes_on : (c : Content) (had some : Bool) (whole : Bool) (rest line behind : List ℕ) (ops given : List Op) (any : Bool) → whole ≡ untied_after c had (operations_of (all_lines rest)) → all_lines rest ≡ line ∷ all_lines behind → operations_at line ≡ Ok ops → given ≡ ops
+    → any ≡ list_any (is_tied c) given → any ≡ false → some ≡ (had || are_any given) → whole ≡ untied_after c some (operations_of (all_lines behind))
+goes_on c had some whole rest line behind ops given any left cut is same tied none now =
+    left
+    ∙ passes c had (operations_of (all_lines rest)) ops (operations_of (all_lines behind)) (with_line rest line (all_lines behind) ops cut is) (ap (list_any (is_tied c)) (sym same) ∙ sym tied ∙ none)
+    ∙ ap (λ l. untied_after c (had || are_any l) (operations_of (all_lines behind))) (sym same)
+    ∙ ap (λ b. untied_after c b (operations_of (all_lines behind))) (sym now)

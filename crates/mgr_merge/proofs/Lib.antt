@@ -1,4 +1,4 @@
 pub mod GuardLemmas
-pub mod SearchLemmas
+pub mod TakingLemmas
 pub mod MergeLemmas
 pub mod HeldLaws

@@ -1,2 +1,4 @@
+pub mod Beside
+pub mod Taking
 pub mod Merging
 pub mod MergedHeld

@@ -1,2 +1,3 @@
 pub mod DiskLaws
 pub mod RaisedLaws
+pub mod LogsLaws

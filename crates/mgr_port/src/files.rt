@@ -38,6 +38,17 @@ pub(crate) fn plain_if_there<R: Files>(rt: &R, path: &str) -> io::Result<Option<
     }
 }
 
+/// Whether a plain file stands under a path itself. `InvalidInput` if something else does, a link
+/// too.
+pub(crate) fn is_plain_there<R: Files>(rt: &R, path: &str) -> io::Result<bool> {
+    match fs::symlink_metadata(rt, path) {
+        Ok(standing) if standing.is_file() => Ok(true),
+        Ok(_) => Err(io::Error::from(ErrorKind::InvalidInput)),
+        Err(error) if error.kind() == ErrorKind::NotFound => Ok(false),
+        Err(error) => Err(error),
+    }
+}
+
 /// Whether the path stands for the file that is open.
 pub(crate) fn stands_for<R: Files>(rt: &R, path: &str, file: &File) -> io::Result<bool> {
     let Some(there) = metadata_if_there(rt, path)? else {

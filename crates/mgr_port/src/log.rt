@@ -78,7 +78,7 @@ impl Log {
     }
 
     /// The bytes of the log, from its begin.
-    pub(crate) fn read<R: AllocGlobal>(rt: &R, file: &mut File) -> io::Result<Vec<u8>> {
+    pub(crate) fn read<R: AllocGlobal, F: Read>(rt: &R, file: &mut F) -> io::Result<Vec<u8>> {
         let mut bytes = Vec::new(rt.alloc());
         file.read_to_end(&mut bytes)?;
         Ok(bytes)
@@ -145,7 +145,8 @@ impl End {
     }
 }
 
-fn ends_in_a_newline(file: &File, length: u64) -> io::Result<bool> {
+/// Whether the last byte of a file of such a length is a newline.
+pub(crate) fn ends_in_a_newline(file: &File, length: u64) -> io::Result<bool> {
     let mut last = [0u8; 1];
     file.read_exact_at(&mut last, length.saturating_sub(1))?;
     Ok(last[0] == b'\n')

@@ -31,6 +31,11 @@ impl Paths {
             log,
         })
     }
+
+    /// The path of what is kept as refused of the log.
+    pub(crate) fn refused(&self, alloc: Global) -> io::Result<String> {
+        path(alloc, self.log.as_str(), ".refused")
+    }
 }
 
 /// The path of the log of a name. Where a link stands there, it is that of the log behind it: a new

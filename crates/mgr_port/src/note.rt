@@ -52,8 +52,8 @@ impl NoteFiles {
         }
     }
 
-    /// Closes what was open, locks the files, and reads the log; where there is none the text. Where
-    /// that fails nothing stays locked.
+    /// Closes what was open, locks the files, and reads the log; the text too where there is no log,
+    /// and where it is not known as this port's own. Where that fails nothing stays locked.
     pub(crate) fn load<R: Files<File = File> + AllocGlobal>(
         &mut self,
         rt: &R,
@@ -87,7 +87,8 @@ impl NoteFiles {
         }
     }
 
-    /// Reads a log that is open and locked, and locks the text beside it.
+    /// Reads a log that is open and locked, and locks the text beside it. That is read where it is not
+    /// known as this port's own.
     fn load_log<R: Files<File = File> + AllocGlobal>(
         &mut self,
         rt: &R,
@@ -97,11 +98,11 @@ impl NoteFiles {
         let bytes = Log::read(rt, &mut file)?;
         let log = Log::read_to(file, bytes.len() as u64)?;
         log.give_up(rt, paths.next_log.as_str());
-        self.text.take_beside(rt, paths.text.as_str(), &log)?;
+        let text = self.text.take_beside(rt, paths.text.as_str(), &log)?;
         self.log = Some(log);
         Ok(Found {
             log: Some(bytes),
-            text: None,
+            text,
         })
     }
 

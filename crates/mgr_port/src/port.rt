@@ -5,10 +5,11 @@ ghost use Rattle.mg_files.specs.declared.port.LinkFault.TheVariants.{NoPort};
 ghost use Rattle.mg_files.specs.declared.port.PortFault.TheVariants.{Memory};
 ghost use Rattle.mgr_port.specs.Logs.{raised};
 
+use crate::log::Log;
 use crate::logs::Logs;
 use crate::names::Paths;
 use crate::note::Note;
-use crate::rewriting::{OpenLog, leave_next, make_next, name_next, open_log};
+use crate::rewriting::{OpenLog, keep_refused, leave_next, make_next, name_next, open_log};
 use crate::sockets::{accept_one, connect_to, listen_at};
 use mg_files::{Found, LinkFault, LogLines, Port, PortFault};
 use rga_devices::Counted;
@@ -21,8 +22,8 @@ use std::rt::Files;
 
 /// Files by their paths: the text of a buffer under its name, its log under that name with `.ops`
 /// behind it. It makes two further files, with `.ops.new` and `.ops.text` behind the name, which
-/// then take the names of the log and of the text. Peers are met on 127.0.0.1, at a port number
-/// that may be left out.
+/// then take the names of the log and of the text; what is refused of a log is kept with
+/// `.ops.refused` behind it. Peers are met on 127.0.0.1, at a port number that may be left out.
 ///
 /// A note that was loaded stays locked for as long as the port is there, under whatever path it is
 /// asked for. What stands under a name when another file takes it, and is nothing that the port read
@@ -284,12 +285,31 @@ impl<R: Files<File = File> + Net + AllocGlobal + Drop> Logs for FilePort<R> {
 
     ghost standing = { λ _ _. None };
 
+    ghost refused = { λ _ _. None };
+
     ghost failures = { λ p. p.failures };
 
     /// A log that may not be written is refused.
     fn open_log(&mut self, name: &str) -> Result<OpenLog, PortFault> {
         let opened = open_log(&self.rt, name);
         told(&mut self.failures, opened)
+    }
+
+    fn read_log(&mut self, log: &mut OpenLog) -> Result<Vec<u8>, PortFault> {
+        let bytes = Log::read(&self.rt, log);
+        told(&mut self.failures, bytes)
+    }
+
+    /// They stand under the name of the log with `.refused` behind it, each time on lines of their
+    /// own. A link is no plain file.
+    fn keep_refused(
+        &mut self,
+        name: &str,
+        log: &mut OpenLog,
+        bytes: &[u8],
+    ) -> Result<(), PortFault> {
+        let kept = keep_refused(&self.rt, name, log, bytes);
+        told(&mut self.failures, kept)
     }
 
     fn make_next(&mut self, name: &str, log: &OpenLog) -> Result<File, PortFault> {

@@ -2,14 +2,15 @@
 use crate::beside::{Beside, Kind, remove_next};
 use crate::disk::{Named, name_written};
 use crate::files::{
-    Keeping, TRIES, check_writable, keep, metadata_if_there, take_beside, take_mode,
+    Keeping, TRIES, check_writable, fill, is_plain_there, keep, metadata_if_there, open_beside,
+    sync_folder, take_beside, take_mode,
 };
-use crate::log::Log;
+use crate::log::{Log, ends_in_a_newline};
 use crate::names::Paths;
 use crate::stamp::Stamp;
 use std::fs::File;
 use std::io;
-use std::io::{ErrorKind, Read};
+use std::io::{ErrorKind, Read, Write};
 use std::rt::Files;
 use std::time::SystemTime;
 
@@ -19,6 +20,9 @@ pub struct OpenLog {
     file: File,
     /// How many bytes were read.
     read: u64,
+    /// Whether anything of it is refused: then a text that was put beside it may have what the log in
+    /// its place has not.
+    refused: bool,
 }
 
 impl Read for OpenLog {
@@ -41,7 +45,11 @@ impl OpenLog {
             match Log::open(rt, path) {
                 Ok(Some(file)) => {
                     check_writable(rt, path)?;
-                    return Ok(OpenLog { file, read: 0 });
+                    return Ok(OpenLog {
+                        file,
+                        read: 0,
+                        refused: false,
+                    });
                 }
                 Ok(None) => return Err(io::Error::from(ErrorKind::NotFound)),
                 Err(error) if error.kind() == ErrorKind::Interrupted => {}
@@ -67,14 +75,21 @@ impl OpenLog {
     }
 }
 
-/// Gives a log the time of change of the one that was read, by which a text that was put beside that
-/// is known, and waits until it is on the device. A file system that keeps no such times is no reason
-/// to stop.
+/// Waits until a log is on the device that takes the place of one that was read. If nothing of that
+/// is refused, it gets its time of change, by which a text that was put beside it is known. Else that
+/// text is nobody's, and is kept when another takes its name.
 pub(crate) fn sync_as_read(next: &File, read: &OpenLog) -> io::Result<()> {
+    if !read.refused {
+        date_as_read(next, read);
+    }
+    next.sync_all()
+}
+
+/// A file system that keeps no such times is no reason to stop.
+fn date_as_read(next: &File, read: &OpenLog) {
     if let Ok(time) = read.changed() {
         let _ = next.set_modified(time);
     }
-    next.sync_all()
 }
 
 /// Keeps a log of a path. Nothing gets the name of one that is not as it was read.
@@ -96,6 +111,43 @@ pub(crate) fn open_log<R: Files<File = File> + AllocGlobal>(
 ) -> io::Result<OpenLog> {
     let paths = Paths::new(rt, name)?;
     OpenLog::open(rt, paths.log.as_str())
+}
+
+/// Puts bytes at the end of the file of what was refused of a log, and waits until they are on the
+/// device under its name. Who has the log open has this file for himself.
+pub(crate) fn keep_refused<R: Files<File = File> + AllocGlobal>(
+    rt: &R,
+    name: &str,
+    log: &mut OpenLog,
+    bytes: &[u8],
+) -> io::Result<()> {
+    log.refused = true;
+    let path = Paths::new(rt, name)?.refused(rt.alloc())?;
+    let mut refused = open_refused(rt, path.as_str(), log)?;
+    end_line(&mut refused)?;
+    fill(&mut refused, bytes)?;
+    // One that was killed may have left it without a name on the device.
+    sync_folder(rt, path.as_str())
+}
+
+/// The file of what was refused of a log. Where it is not there it is made, with the owner and the
+/// rights of the log.
+fn open_refused<R: Files<File = File>>(rt: &R, path: &str, log: &OpenLog) -> io::Result<File> {
+    if is_plain_there(rt, path)? {
+        return open_beside(rt, path);
+    }
+    let made = open_beside(rt, path)?;
+    take_mode(&made, &log.file.metadata()?)?;
+    Ok(made)
+}
+
+/// Ends a last line that was cut off, so that nothing is read as a part of it.
+fn end_line(file: &mut File) -> io::Result<()> {
+    let length = file.metadata()?.len();
+    if length == 0 || ends_in_a_newline(file, length)? {
+        return Ok(());
+    }
+    file.write_all(b"\n")
 }
 
 /// An empty file beside a log, locked, with the owner and the rights of the log.

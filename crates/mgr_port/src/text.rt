@@ -62,25 +62,27 @@ impl Text {
     }
 
     /// The same beside a log that was read: the text need not be readable then. It is this port's
-    /// own where it was put beside this log.
-    pub(crate) fn take_beside<R: Files<File = File>>(
+    /// own where it was put beside this log; else it is read, and stays what another program left.
+    pub(crate) fn take_beside<R: Files<File = File> + AllocGlobal>(
         &mut self,
         rt: &R,
         path: &str,
         log: &Log,
-    ) -> io::Result<()> {
+    ) -> io::Result<Option<Vec<u8>>> {
         match self.take(rt, path) {
             Ok(()) => {}
             Err(error) if error.kind() == ErrorKind::WouldBlock => return Err(error),
-            Err(_) => return Ok(()),
+            Err(_) => return Ok(None),
         }
-        if let Some(file) = &self.file {
-            let found = file.metadata()?;
-            if is_dated_by(&found, &log.stamp()) {
-                self.own = Some(Stamp::of(&found));
-            }
+        let Some(file) = &self.file else {
+            return Ok(None);
+        };
+        let found = file.metadata()?;
+        if is_dated_by(&found, &log.stamp()) {
+            self.own = Some(Stamp::of(&found));
+            return Ok(None);
         }
-        Ok(())
+        read_if_readable(rt, path)
     }
 
     /// Locks and reads the text, which is this port's own then.
@@ -174,6 +176,18 @@ impl Text {
         sync_dated(&file, text.log)?;
         self.own = Some(Stamp::of(&file.metadata()?));
         Ok(())
+    }
+}
+
+/// The bytes of a file; none where it can't be read.
+fn read_if_readable<R: Files<File = File> + AllocGlobal>(
+    rt: &R,
+    path: &str,
+) -> io::Result<Option<Vec<u8>>> {
+    match fs::read(rt, path) {
+        Ok(bytes) => Ok(Some(bytes)),
+        Err(error) if error.kind() == ErrorKind::OutOfMemory => Err(error),
+        Err(_) => Ok(None),
     }
 }
 

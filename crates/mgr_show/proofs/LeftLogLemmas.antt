@@ -26,24 +26,24 @@ tells_all None limit start had = tt
 tells_all (Some logs) limit start had = record { rest = logs; told = refl; outcome = refl; runs = refl }
 
 -- the first log that is left is told, and so are those behind it
-record IsSplit (first : Option (List ℕ)) (later : Option (List (List ℕ))) (rest : List (List ℕ)) : Type 0 where
-  bytes : List ℕ
-  others : List (List ℕ)
-  first_told : first ≡ Some bytes
-  later_told : later ≡ Some others
-  whole : rest ≡ bytes ∷ others
+pub record IsSplit (first : Option (List ℕ)) (later : Option (List (List ℕ))) (rest : List (List ℕ)) : Type 0 where
+  pub bytes : List ℕ
+  pub others : List (List ℕ)
+  pub first_told : first ≡ Some bytes
+  pub later_told : later ≡ Some others
+  pub whole : rest ≡ bytes ∷ others
 
 abbrev told_logs : List (List ℕ) → Option (List (List ℕ))
 told_logs logs = Some logs
 
-is_split : (first : Option (List ℕ)) (later : Option (List (List ℕ))) (rest : List (List ℕ)) → in_front first later ≡ Some rest → IsSplit first later rest
+pub is_split : (first : Option (List ℕ)) (later : Option (List (List ℕ))) (rest : List (List ℕ)) → in_front first later ≡ Some rest → IsSplit first later rest
 is_split None later rest h = absurd cc
 is_split (Some bytes) None rest h = absurd cc
 is_split (Some bytes) (Some others) rest h =
     let same : told_logs (bytes ∷ others) ≡ told_logs rest = h in
     record { bytes = bytes; others = others; first_told = refl; later_told = refl; whole = cc }
 
-if_told : {A : Type 0} (P : A → Type 0) (o : Option A) (x : A) → o ≡ Some x → IfSome o P → P x
+pub if_told : {A : Type 0} (P : A → Type 0) (o : Option A) (x : A) → o ≡ Some x → IfSome o P → P x
 if_told P o x is h = subst (λ o. IfSome o P) is h
 
 -- what is told of names from one on: of that one, and of those behind it

@@ -2,6 +2,7 @@ pub mod ShownLaws
 pub mod CompactedLaws
 pub mod LineCountLaws
 pub mod LeftLogLemmas
+pub mod StoredLaws
 pub mod JoinedLaws
 pub mod NoteLaws
 pub mod JoinWordsLaws

@@ -1,13 +1,15 @@
 //! Theorems about logs that are compacted, joined and cut. Each function does nothing: its contract
 //! is the theorem.
-ghost use Rattle.std.specs.Prelude.{◌≡◌, ◌↔◌, ℕ, ◌≤◌, ◌<◌, List, [], ◌∷◌, ◌++◌, Bool, length, take, Ok, Err};
+ghost use Rattle.std.specs.Prelude.{◌≡◌, ◌↔◌, ℕ, ◌≤◌, ◌<◌, Bool, Ok, Err};
+ghost use Rattle.std.specs.Prelude.{List, [], ◌∷◌, ◌++◌, length, take};
 ghost use Rattle.rga_ops.specs.Content.{Content, content_of, nothing};
 ghost use Rattle.rga_lines.specs.Stream.{lines_of, rest_of};
 ghost use Rattle.rga_store.specs.declared.text_store.TheConstants.{MAX_LIMIT};
 ghost use Rattle.rga_exchange.specs.Sending.{StandsFor};
 ghost use Rattle.mgr_show.specs.Shown.{IsAccepted};
 ghost use Rattle.mgr_show.specs.Compacted.{compacted_lines, log_lines};
-ghost use Rattle.mgr_show.specs.Joined.{join_of, join_text, all_operations, MayBeJoined, HasSameLogs, IsFirstRefused};
+ghost use Rattle.mgr_show.specs.Joined.{join_of, join_text, all_operations};
+ghost use Rattle.mgr_show.specs.Joined.{MayBeJoined, HasSameLogs, IsFirstRefused};
 ghost use Rattle.mgr_show.specs.Note.{first_lines};
 ghost use Rattle.mgr_show.specs.declared.fault.JoinFault.{JoinFault as Fault};
 

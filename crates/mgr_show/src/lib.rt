@@ -4,8 +4,8 @@
 //! `show_ops` reads operation lines to the end of a reader and writes their text; `compact_log`
 //! reads them so, and writes a log that stands for the same content. `show_note` and `join_logs`
 //! read logs by their names (`Sources`): the first writes the text of one, or of its first lines,
-//! the second a log that stands for the content of all. `log_name` and `take_but_torn` serve other
-//! commands that read the log of a note. The crate stands on rga_exchange for the reading of logs,
+//! the second a log that stands for the content of all. `log_name`, `read_log` and `take_but_torn`
+//! serve other commands that read a log. The crate stands on rga_exchange for the reading of logs,
 //! on rga_compaction for the writing of them, and on rga_records for what takes the operations,
 //! lists them and gives their text. The program above may rest on the contracts, for any reader,
 //! writer and source that tell their bytes: what is written is the text of the operations of
@@ -22,6 +22,7 @@ pub mod laws;
 mod note;
 mod show;
 mod sources;
+mod stored;
 mod text;
 
 pub use compact::compact_log;
@@ -30,3 +31,4 @@ pub use join::{join_logs, take_logs};
 pub use note::{log_name, show_note, take_but_torn};
 pub use show::{show_ops, write_text};
 pub use sources::Sources;
+pub use stored::{StoredLog, read_log};

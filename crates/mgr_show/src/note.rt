@@ -1,8 +1,10 @@
 //! The text of a note, by its log.
-ghost use Rattle.std.specs.Prelude.{◌≡◌, ◌≢◌, ◌⊎◌, ℕ, List, true, Ok, Err, OnOk, OnErr, IfOk, IfErr, IfSome, string_bytes};
+ghost use Rattle.std.specs.Prelude.{◌≡◌, ◌≢◌, ◌⊎◌, ℕ, ◌<◌, ◌^◌, List, true, Ok, Err, OnOk, OnErr, IfOk, IfErr, IfSome, string_bytes};
 ghost use Rattle.rga_store.specs.declared.text_store.TheConstants.{MAX_LIMIT};
 ghost use Rattle.rga_devices.specs.Counting.{CountsAs, Writes, WritesFront, WritesNothing};
 ghost use Rattle.rga_exchange.specs.Log.{log_outcome};
+ghost use Rattle.rga_exchange.specs.Taking.{intake};
+ghost use Rattle.mgr_show.specs.Log.{HasFollowed};
 ghost use Rattle.mgr_show.specs.Shown.{log_content, shown_bytes, IsOfInput};
 ghost use Rattle.mgr_show.specs.Note.{log_name, first_lines, front_of, note_from, note_of, IsReadable};
 ghost use Rattle.mgr_show.specs.Sources.{failures_after};
@@ -135,6 +137,10 @@ pub fn take_but_torn<T: Taker>(
         note_from (T.limit taker.old) (T.content taker.old) bytes.now ≡ Err e) }
     ensures whole { (number : ℕ) → result ≢ Err (ShowFault.Torn number) }
     ensures device { (result ≢ Err ShowFault.Read) × (result ≢ Err ShowFault.Write) }
+    ensures limit { T.limit taker.new ≡ T.limit taker.old }
+    ensures follows { OnOk result
+        (HasFollowed (intake T.limit T.content T.follows taker.old taker.new)) }
+    ensures bound { IfOk result (λ read. read.lines < 2 ^ 63) }
 {
     match take_log(alloc, taker, &mut Counted::new(bytes), &mut false) {
         Ok(read) => Ok(read),

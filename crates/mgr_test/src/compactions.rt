@@ -177,7 +177,7 @@ fn a_log_is_compacted_where_it_is_accepted(rt: HostRuntime) {
 }
 
 /// Whether these steps were made, in words.
-fn has_rewritten(alloc: Global, logs: &MemoryLogs, steps: &str) -> bool {
+pub(crate) fn has_rewritten(alloc: Global, logs: &MemoryLogs, steps: &str) -> bool {
     let mut line = String::new(alloc);
     logs.push_steps(&mut line).is_ok() && line.as_str() == steps
 }

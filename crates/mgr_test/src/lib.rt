@@ -1,8 +1,8 @@
 //! Calls of libraries that no program shows: devices that are counted, exchanges that are cut off,
 //! lines that are lent, runs at stores that are nearly full, writes in blocks, plans that no key
 //! leads to, cursors that no window shows, frames and texts that are not flushed, saves over a port
-//! that refuses, files over a disk that fails, stores and logs that are compacted, and logs that
-//! are read by their names.
+//! that refuses, files over a disk that fails, stores and logs that are compacted, notes that are
+//! mended, and logs that are read by their names.
 #![tactic(auto)]
 
 #[cfg(test)]
@@ -17,6 +17,8 @@ mod disks;
 mod joins;
 #[cfg(test)]
 mod lines;
+#[cfg(test)]
+mod mendings;
 #[cfg(test)]
 mod plans;
 #[cfg(test)]

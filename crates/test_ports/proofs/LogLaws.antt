@@ -6,7 +6,7 @@ use Rattle.std.proofs.lemmas.Option.{same_Some}
 use Rattle.std.proofs.lemmas.Bool.{eqb-true}
 use Rattle.mg_files.specs.declared.port.PortFault.{PortFault}
 use Rattle.mgr_port.specs.Disk.{DiskStep, Removes, StopsBefore, TellsSteps, unnamed_steps}
-use Rattle.mgr_port.specs.Logs.{Standing, SameElsewhere, Names, left}
+use Rattle.mgr_port.specs.Logs.{Standing, SameElsewhere, Names, Gains, left}
 use Rattle.test_ports.specs.Steps.{standing_at, with_steps}
 
 -- what holds of the log, holds where it is told
@@ -27,7 +27,7 @@ pub unlike_empty : (name : List ℕ) (s t : Standing) → (length name == 0) ≡
 unlike_empty [] s t e = let no : true ≡ false = e in absurd cc
 unlike_empty (byte ∷ name) s t e = refl
 
-pub elsewhere_at : (name : List ℕ) (s t : Standing) → (length name == 0) ≡ true → SameElsewhere name (λ other. standing_at other s) (λ other. standing_at other t)
+pub elsewhere_at : {A : Type 0} (name : List ℕ) (s t : A) → (length name == 0) ≡ true → SameElsewhere name (λ other. standing_at other s) (λ other. standing_at other t)
 elsewhere_at [] s t e [] differs = absurd (differs refl)
 elsewhere_at [] s t e (byte ∷ other) differs = refl
 elsewhere_at (byte ∷ name) s t e other differs = absurd (none (length name) (eqb-true (suc (length name)) 0 e))
@@ -51,3 +51,10 @@ pub given_up_as : (fault : PortFault) (bytes log : List ℕ) (begun steps : List
 given_up_as fault bytes log begun steps none s =
     let is : steps ≡ s.made = told_from begun steps s.made none s.tells in
     inl (steps ++ Removes ∷ [], record { begun = s.made; begins = s.begins; is = ap (λ (l : List DiskStep). l ++ Removes ∷ []) is }, refl)
+
+-- ---- what is kept as refused
+
+pub gained_at : (answer : Result (Unit {0}) PortFault) (name bytes old new : List ℕ) → Gains answer bytes (Some old) (Some new) → Gains answer bytes (standing_at name old) (standing_at name new)
+gained_at answer [] bytes old new h = h
+gained_at (Ok u) (byte ∷ name) bytes old new h = tt
+gained_at (Err fault) (byte ∷ name) bytes old new h = record { front = []; rest = bytes; parts = refl; appended = tt }

@@ -18,8 +18,8 @@ abbrev pub left_steps : Bool → List DiskStep
 left_steps true = Removes ∷ []
 left_steps false = []
 
--- the one log stands under the empty name
-abbrev pub standing_at : List ℕ → Standing → Option Standing
+-- what is told of the one log stands under the empty name
+abbrev pub standing_at : {A : Type 0} → List ℕ → A → Option A
 standing_at [] s = Some s
 standing_at (byte ∷ name) s = None
 

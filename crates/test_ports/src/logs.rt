@@ -1,7 +1,7 @@
 //! A log in memory that is written anew.
 ghost use Rattle.std.specs.Prelude.{◌≡◌, [], false, Some, Err};
 ghost use Rattle.mg_files.specs.Calls.{failures_after};
-ghost use Rattle.mgr_port.specs.Logs.{Names, raised};
+ghost use Rattle.mgr_port.specs.Logs.{Names, Gains, raised};
 ghost use Rattle.test_ports.specs.Steps.{with_steps};
 
 use crate::disk::MemoryDisk;
@@ -10,7 +10,7 @@ use mgr_port::{Logs, Named, put_whole};
 use rga_devices::Counted;
 use std::alloc::{AllocError, Global};
 use std::io;
-use std::io::{Cursor, ErrorKind};
+use std::io::{Cursor, ErrorKind, Read};
 
 /// Holds one log, under the empty name, and tells the steps by which another takes its place, one of
 /// which fails. It refuses every other name.
@@ -23,18 +23,25 @@ pub struct MemoryLogs {
     pub disk: MemoryDisk,
     /// Whether that file was removed.
     pub left: bool,
+    /// What was refused of the log.
+    pub refused: Vec<u8>,
+    /// How many bytes there is room for of what is refused at once.
+    pub room: usize,
     /// How many calls failed.
     pub failures: u64,
 }
 
 impl MemoryLogs {
-    /// A log over a disk that makes so many steps.
+    /// A log over a disk that makes so many steps. Nothing was refused of it, and there is room for
+    /// all of it that is.
     pub fn new(alloc: Global, log: Vec<u8>, left: usize) -> MemoryLogs {
         MemoryLogs {
             alloc,
             log,
             disk: MemoryDisk::new(alloc, left),
             left: false,
+            refused: Vec::new(alloc),
+            room: usize::MAX,
             failures: 0,
         }
     }
@@ -93,18 +100,40 @@ fn take_place(
     }
 }
 
+/// Puts bytes behind others, as many as there is room for.
+fn put_behind(
+    kept: &mut Vec<u8>,
+    bytes: &[u8],
+    room: usize,
+    failures: &mut u64,
+) -> Result<(), PortFault>
+    ensures gained { Gains result bytes.now (Some kept.old.items) (Some kept.new.items) }
+    ensures device { failures.new ≡ failures_after result failures.old }
+{
+    if bytes.len() <= room {
+        kept.extend_from_slice(bytes)?;
+        return Ok(());
+    }
+    let (front, _) = bytes.split_at(room);
+    kept.extend_from_slice(front)?;
+    *failures = failures.saturating_add(1);
+    Err(PortFault::File)
+}
+
 impl Logs for MemoryLogs {
     ghost use Rattle.std.specs.Prelude.{◌≡◌, IfSome};
     ghost use Rattle.std.specs.Option.{option_map};
     ghost use Rattle.mg_files.specs.Calls.{failures_after};
-    ghost use Rattle.mgr_port.specs.Logs.{SameElsewhere, Names, left, raised};
-    ghost use Rattle.test_ports.specs.Standings.{stands_in};
+    ghost use Rattle.mgr_port.specs.Logs.{SameElsewhere, Names, Gains, left, raised};
+    ghost use Rattle.test_ports.specs.Standings.{stands_in, refused_in};
 
     type Log = Cursor<Vec<u8>>;
 
     type Next = Vec<u8>;
 
     ghost standing = { λ logs. stands_in logs };
+
+    ghost refused = { λ logs. refused_in logs };
 
     ghost failures = { λ logs. logs.failures };
 
@@ -114,6 +143,34 @@ impl Logs for MemoryLogs {
             return Err(PortFault::File);
         }
         Ok(Cursor::new(Vec::from_slice(self.alloc, &self.log)?))
+    }
+
+    /// What stands in memory is refused for memory alone.
+    fn read_log(&mut self, log: &mut Cursor<Vec<u8>>) -> Result<Vec<u8>, PortFault> {
+        let mut bytes = Vec::new(self.alloc);
+        match log.read_to_end(&mut bytes) {
+            Ok(_) => Ok(bytes),
+            Err(_) => Err(PortFault::Memory),
+        }
+    }
+
+    fn keep_refused(
+        &mut self,
+        name: &str,
+        _log: &mut Cursor<Vec<u8>>,
+        bytes: &[u8],
+    ) -> Result<(), PortFault>
+        ensures gained { Gains result bytes.now (refused_in self.old name.now)
+            (refused_in self.new name.now) }
+        ensures same { stands_in self.new ≡ stands_in self.old }
+        ensures others { SameElsewhere name.now (refused_in self.old) (refused_in self.new) }
+        ensures device { self.new.failures ≡ failures_after result self.old.failures }
+    {
+        if !name.is_empty() {
+            self.failures = self.failures.saturating_add(1);
+            return Err(PortFault::File);
+        }
+        put_behind(&mut self.refused, bytes, self.room, &mut self.failures)
     }
 
     fn make_next(&mut self, _name: &str, _log: &Cursor<Vec<u8>>) -> Result<Vec<u8>, PortFault> {
@@ -129,6 +186,7 @@ impl Logs for MemoryLogs {
         ensures named { IfSome (stands_in self.old name.now)
             (λ s. Names result next.inner.items s (stands_in self.new name.now)) }
         ensures others { SameElsewhere name.now (stands_in self.old) (stands_in self.new) }
+        ensures kept { refused_in self.new ≡ refused_in self.old }
         ensures device { self.new.failures ≡ failures_after result
             (raised (raised self.old.failures log.failures) next.failures) }
     {
@@ -152,6 +210,7 @@ impl Logs for MemoryLogs {
         ensures left { stands_in self.new name.now
             ≡ option_map left (stands_in self.old name.now) }
         ensures others { SameElsewhere name.now (stands_in self.old) (stands_in self.new) }
+        ensures kept { refused_in self.new ≡ refused_in self.old }
         ensures device { self.new.failures
             ≡ raised (raised self.old.failures log.failures) next.failures }
     {

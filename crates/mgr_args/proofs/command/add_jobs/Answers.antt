@@ -15,4 +15,5 @@ returns c =
     let whos = more_jobs _ _ _ _ _ logs (one_job _ _ _ (note_app (codes "who") (codes "lines")) c.in_ok-push-6.ensures c.in_ok-who.ensures) in
     let claims = more_jobs _ _ _ _ _ whos (one_job _ _ _ (name_app (codes "claims")) c.in_ok-push-7.ensures c.in_ok-claims.ensures) in
     let missings = more_jobs _ _ _ _ _ claims (one_job _ _ _ (name_app (codes "missing")) c.in_ok-push-8.ensures c.in_ok-missing.ensures) in
-    on_ok_weaker c.push-9.result (λ is. more_jobs _ _ _ _ _ missings (one_job _ _ _ merge_app is c.in_ok-merge.ensures)) c.push-9.ensures
+    let merges = more_jobs _ _ _ _ _ missings (one_job _ _ _ merge_app c.in_ok-push-9.ensures c.in_ok-merge.ensures) in
+    on_ok_weaker c.push-10.result (λ is. more_jobs _ _ _ _ _ merges (one_job _ _ _ (name_app (codes "mend")) is c.in_ok-mend.ensures)) c.push-10.ensures

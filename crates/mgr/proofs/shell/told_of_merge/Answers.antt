@@ -1,0 +1,7 @@
+use Rattle.mgr.proofs.shell.told_of_merge.Goals as goal
+
+pub returns-in-Apart-clause-told : goal.returns-in-Apart-clause-told
+returns-in-Apart-clause-told g c = rw c.in-Apart.is (rw c.of_note-in-Apart.ensures.text at c.told_of_named-in-Apart.ensures.told)
+
+pub returns-in-Far-clause-told : goal.returns-in-Far-clause-told
+returns-in-Far-clause-told g c = rw c.in-Far.is (rw c.of_note-in-Far.ensures.text at c.told_of_named-in-Far.ensures.told)

@@ -1,0 +1,111 @@
+//! The operations of a damaged log.
+ghost use Rattle.std.specs.Prelude.{◌≡◌, ◌∷◌, [], ◌++◌, Some, length, IfOk, OnOk};
+ghost use Rattle.rga_lines.specs.Log.{operations_at};
+ghost use Rattle.mgr_mend.specs.Mending.{line_operations, all_lines, whole_operations};
+ghost use Rattle.mgr_mend.specs.Parts.{count_said, counts_of};
+
+use memchr::memchr;
+use rga_lines::{Line, LineFault, read_any, read_deletion, read_insertions};
+use rga_ops::Op;
+use std::alloc::{AllocError, Global};
+
+/// What the lines of a log say, and its rest as one more.
+#[derive(Drop)]
+pub(crate) struct LogOperations {
+    /// The operations of all.
+    pub(crate) ops: Vec<Op>,
+    /// How many of them each has. `None` if it is no operation.
+    pub(crate) counts: Vec<Option<usize>>,
+}
+
+/// Reads the operations of all lines that have some, and of the rest.
+pub(crate) fn read_operations(alloc: Global, bytes: &[u8]) -> Result<LogOperations, AllocError>
+    ensures ops { IfOk result (λ log. log.ops.items ≡ whole_operations bytes.now) }
+    ensures counts { IfOk result (λ log. log.counts.items ≡ counts_of (all_lines bytes.now)) }
+{
+    let mut ops = Vec::new(alloc);
+    let mut counts = Vec::new(alloc);
+    let mut own = Vec::new(alloc);
+    let mut rest = bytes;
+    'lines: while let Some(end) = memchr(b'\n', rest) {
+        let (line, _) = rest.split_at(end);
+        let (_, behind) = rest.split_at(end + 1);
+        add_line(alloc, &mut ops, &mut counts, &mut own, line)?;
+        rest = behind;
+    }
+    add_line(alloc, &mut ops, &mut counts, &mut own, rest)?;
+    Ok(LogOperations { ops, counts })
+}
+
+/// Adds the operations of a line, and how many they are. What stands in the last list counts for
+/// nothing: its places are used again.
+fn add_line(
+    alloc: Global,
+    ops: &mut Vec<Op>,
+    counts: &mut Vec<Option<usize>>,
+    own: &mut Vec<Op>,
+    line: &[u8],
+) -> Result<(), AllocError>
+    ensures ops { OnOk result (ops.new.items ≡ ops.old.items ++ line_operations line.now) }
+    ensures counts { OnOk result (counts.new.items
+        ≡ counts.old.items ++ count_said (operations_at line.now) ∷ []) }
+{
+    let count = read_line(alloc, own, line)?;
+    ops.extend_from_slice(own)?;
+    counts.push(count)?;
+    Ok(())
+}
+
+/// Reads the operations of a line into the list, in place of what stood there, and answers how many
+/// they are: `None` if the line is no operation.
+fn read_line(alloc: Global, ops: &mut Vec<Op>, line: &[u8]) -> Result<Option<usize>, AllocError>
+    ensures ops { OnOk result (ops.new.items ≡ line_operations line.now) }
+    ensures count { IfOk result (λ count. count ≡ count_said (operations_at line.now)) }
+{
+    if let Some(deletion) = read_deletion(line) {
+        ops.clear();
+        return put_all(ops, &[deletion]);
+    }
+    match read_insertions(ops, line) {
+        Ok(true) => Ok(Some(ops.as_slice().len())),
+        Ok(false) => read_other(alloc, ops, line),
+        Err(_) => Err(AllocError),
+    }
+}
+
+/// The same of any line, whatever it is.
+fn read_other(alloc: Global, ops: &mut Vec<Op>, line: &[u8]) -> Result<Option<usize>, AllocError>
+    ensures ops { OnOk result (ops.new.items ≡ line_operations line.now) }
+    ensures count { IfOk result (λ count. count ≡ count_said (operations_at line.now)) }
+{
+    ops.clear();
+    match read_any(alloc, line) {
+        Ok(Line::One(op)) => put_all(ops, &[op]),
+        Ok(Line::Run(run)) => {
+            let Ok(own) = run.ops(alloc) else {
+                return Err(AllocError);
+            };
+            put_all(ops, own.as_slice())
+        }
+        Ok(Line::Deletions(run)) => {
+            let Ok(own) = run.ops(alloc) else {
+                return Err(AllocError);
+            };
+            put_all(ops, own.as_slice())
+        }
+        Ok(Line::Head) => Ok(None),
+        Ok(Line::Last(_)) => Ok(None),
+        Err(LineFault::Memory) => Err(AllocError),
+        Err(_) => Ok(None),
+    }
+}
+
+/// Puts operations into the list, which is empty, and answers how many they are.
+fn put_all(ops: &mut Vec<Op>, own: &[Op]) -> Result<Option<usize>, AllocError>
+    requires { ops.old.items ≡ [] }
+    ensures ops { OnOk result (ops.new.items ≡ own.now) }
+    ensures count { IfOk result (λ count. count ≡ Some (length own.now)) }
+{
+    ops.extend_from_slice(own)?;
+    Ok(Some(own.len()))
+}
