@@ -56,11 +56,11 @@ try-exchange: build/mgr
 try-sharing: build/mgr
 	@scripts/try_sharing.py build/mgr
 
-# Saves that are killed at each call of the system, by strace.
+# Saves, compactions, merges and mends that are killed at each call of the system, by strace.
 crash: build/mgr
 	@scripts/crash.py build/mgr
 
-# Peers that break off or lie, memory that is refused, files that fail, logs that are made to be slow, random ones, random pairs, and random sets that are merged.
+# Peers that break off or lie, memory that is refused, files that fail, logs that are made to be slow, random ones, random pairs, random sets that are merged, and damaged logs that are mended.
 hostile: build/mgr
 	@scripts/hostile_peers.py build/mgr
 	@scripts/refused_growths.py build/mgr
@@ -69,6 +69,7 @@ hostile: build/mgr
 	@scripts/compactions.py build/mgr
 	@scripts/brief_pairs.py build/mgr
 	@scripts/merged_sets.py build/mgr
+	@scripts/mended_logs.py build/mgr
 
 # The files of notes that other programs change, and a second session, while they are edited.
 files: build/mgr
@@ -142,7 +143,7 @@ help:
 	@echo "               exchanges a note between two mgr on this machine (needs python3)"
 	@echo "make try-sharing"
 	@echo "               shares a note by git, by a sync tool and from one plain text, and shows what two edits of one"
-	@echo "               word become (needs python3 and git); examples/git/two-clones.sh says how to share by git"
+	@echo "               word become (needs python3 and git); examples/git/README says how to share by git"
 	@echo "make test      looks up each name in the documents, proves all that the kit does not have as proved, runs every"
 	@echo "               test and plays every scene; the last line counts all (needs python3)"
 	@echo "make scenes    plays the scenes with the mgr that make built; those of one file: make scenes FILE=scenes/.."
@@ -155,11 +156,12 @@ help:
 	@echo "               they reach: scripts/contracts.py NAME; with --down-to CRATE,.. behind it these themselves, down to"
 	@echo "               those of some crates; what is to be read of the claim: scripts/contracts.py --claim"
 	@echo "               (needs python3)"
-	@echo "make crash     kills saves at each call of the system, and loads again (needs python3 and strace)"
+	@echo "make crash     kills saves, compactions, merges and mends at each call of the system, and loads again (needs"
+	@echo "               python3 and strace)"
 	@echo "make hostile   exchanges with peers that break off, lie, flood or are deaf; refuses each growth of memory and each"
-	@echo "               call of a save; fills a disk; looks for logs that are slow; compacts random ones, and exchanges"
-	@echo "               random pairs whole and briefly (needs python3, cc, strace and root;"
-	@echo "               what has to be left out without one of these is said)"
+	@echo "               call of a save; fills a disk; looks for logs that are slow; compacts random ones, exchanges"
+	@echo "               random pairs whole and briefly, merges random sets, and mends damaged logs (needs python3, cc,"
+	@echo "               strace and root; what has to be left out without one of these is said)"
 	@echo "make files     does to a note's files what other programs do while it is edited, and looks for each word"
 	@echo "               (needs python3)"
 	@echo "make bench     measures mgr beside a native program (needs python3 and rustc)"

@@ -6,8 +6,8 @@
 # (`bench/buffers.py`) and a frame of it (`bench/frames.py`), what a key of `mgr edit` costs
 # (`bench/keys.py`), what its store is good or bad at (`bench/stores.py`), an exchange between two of
 # them (`bench/exchange.py`), and what it costs to read and to write logs and exchanges
-# (`bench/logs.py`), what a compaction makes of a log (`bench/compaction.py`), and random events at
-# sites (`bench/worlds.py`).
+# (`bench/logs.py`), what a compaction makes of a log (`bench/compaction.py`), the commands that merge,
+# mend and tell of notes (`bench/notes.py`), and random events at sites (`bench/worlds.py`).
 # `make bench` calls it. A call by hand may say `--largest N`, to have `mgr show` measured on no log
 # of more than N operations, and `--shape SHAPE`.
 #
@@ -45,5 +45,7 @@ echo
 python3 bench/logs.py
 echo
 python3 bench/compaction.py
+echo
+python3 bench/notes.py
 echo
 exec python3 bench/worlds.py

@@ -7,8 +7,10 @@ the log has to be the old one or the new one, byte for byte, the text too, and t
 beside the new log; and what is loaded then has to show the old text or the new one. `make crash`
 calls it. It prints a row a call, and ends with an error where one is not as it has to be.
 
-A compaction is killed before each of its calls likewise: then the log has to be the old one or the new one, and
-the old one to be kept beside the new one.
+A compaction, merges and mends are killed before each of their calls likewise: then the log has to be the old one
+or the new one; the old one with a beginning of what is appended too, where that is more than one write takes. A log
+that was replaced has to be kept beside the new one, and what a mend left out of it in notes.ops.refused. Done once
+more, the job has to end as if it had not been killed; where a merge then leaves the older text, behind a mend.
 
 A kill is no power cut: that what was synced is on the device, and that a write that was begun is
 there in part, it cannot show. So the cuts of what is appended are tried by hand, one for each
@@ -133,31 +135,117 @@ LOG = b"".join(
 ROW_TEXT = b"a" * (ROW - 1)
 
 
-def compacted(mgr, *strace):
-    """Compacts that log, and returns the files that this leaves."""
-    shutil.rmtree(FOLDER, ignore_errors=True)
-    FOLDER.mkdir(parents=True)
-    (FOLDER / "notes.ops").write_bytes(LOG)
-    subprocess.run([*strace, mgr, "compact", "notes"], cwd=FOLDER, capture_output=True)
-    return {path.name: path.read_bytes() for path in FOLDER.iterdir()}
+def other_log(count):
+    """Returns the lines of that log, and so many insertions of replica 2 in front of all."""
+    return LOG + b"".join(b'{"char":"b","id":[%d,2],"op":"ins","parent":[0,0]}\n' % (ROW + at) for at in range(1, count + 1))
 
 
-def run_compaction(mgr):
-    """Kills a compaction at each call; returns how many were not as they have to be."""
-    trace = FOLDER.parent / "crash.trace"
-    new = compacted(mgr, "strace", "-f", "-o", trace)["notes.ops"]
-    calls = [call[1] for call in map(CALL.match, trace.read_text(errors="replace").splitlines()) if call]
-    seen, bad = collections.Counter(), 0
-    for name in calls:
-        seen[name] += 1
-        inject = f"inject={name}:signal=KILL:when={seen[name]}"
-        left = compacted(mgr, "strace", "-f", "-o", "/dev/null", "-e", inject)
-        log = left.get("notes.ops")
-        shown = subprocess.run([mgr, "show"], input=log or b"", capture_output=True).stdout
-        if shown != ROW_TEXT or log != LOG and (log != new or left.get("notes.ops~") != LOG):
-            print(f"a compaction that is killed before {name} {seen[name]}: not as it has to be")
+# Jobs on the log of a note: their words, and the files before them.
+Job = collections.namedtuple("Job", "name words files")
+NOTE = {"notes.ops": LOG, "notes": ROW_TEXT}
+CONFLICT = b'{"char":"A","id":[7,1],"op":"ins","parent":[6,1]}\nno line\n'
+JOBS = [
+    Job("a compaction", ["compact", "notes"], {"notes.ops": LOG}),
+    Job("a merge", ["merge", "notes", "other"], NOTE | {"other": other_log(2)}),
+    Job("a merge into a new note", ["merge", "notes", "other"], {"other": other_log(2)}),
+    Job("a merge of more than a block", ["merge", "notes", "other"], NOTE | {"other": other_log(ROW)}),
+    Job("a mend of a torn log", ["mend", "notes"], NOTE | {"notes.ops": LOG + TORN}),
+    Job("a mend of a refused log", ["mend", "notes"], NOTE | {"notes.ops": LOG + CONFLICT, "notes.ops.refused": b"before\n"}),
+]
+BLOCK = 65536
+
+
+class JobTrial:
+    """A folder in which a job is run, again and again, from the same files."""
+
+    def __init__(self, mgr, job):
+        self.mgr, self.job = mgr, job
+        self.trace = FOLDER.parent / "crash.trace"
+        self.after = self.run(job.files, "strace", "-f", "-o", self.trace)
+        if self.after == job.files:
+            sys.exit(f"{job.name} changes no file")
+        self.grows = self.after["notes.ops"].startswith(job.files.get("notes.ops", b""))
+
+    def run(self, files, *strace):
+        """Runs the job over these files, and returns those that it leaves."""
+        shutil.rmtree(FOLDER, ignore_errors=True)
+        FOLDER.mkdir(parents=True)
+        for name, data in files.items():
+            (FOLDER / name).write_bytes(data)
+        subprocess.run([*strace, self.mgr, *self.job.words], cwd=FOLDER, capture_output=True)
+        return {path.name: path.read_bytes() for path in FOLDER.iterdir()}
+
+    def calls(self):
+        """Returns the job's calls, each with how many of its name came before it."""
+        names = [call[1] for call in map(CALL.match, self.trace.read_text(errors="replace").splitlines()) if call]
+        seen = collections.Counter()
+        for name in names:
+            seen[name] += 1
+            yield name, seen[name]
+
+    def killed_at(self, name, number):
+        return self.run(self.job.files, "strace", "-f", "-o", "/dev/null", "-e", f"inject={name}:signal=KILL:when={number}")
+
+    def is_begun(self, log):
+        """Whether a log is the old one with a beginning of what is appended, which one write does not hold."""
+        old, new = self.job.files.get("notes.ops"), self.after["notes.ops"]
+        grows = old is not None and new.startswith(old) and len(new) - len(old) > BLOCK
+        return grows and log is not None and log.startswith(old) and new.startswith(log)
+
+    def faults_of(self, left):
+        """Yields what of the files that a kill left is wrong."""
+        old, after = self.job.files, self.after
+        log, new = left.get("notes.ops"), left.get("notes.ops") == after["notes.ops"]
+        if not new and log != old.get("notes.ops") and not self.is_begun(log):
+            yield "the log is neither"
+        if new and not self.grows and left.get("notes.ops~") != old["notes.ops"]:
+            yield "the old log is not kept"
+        if left.get("notes") not in (old.get("notes"), after.get("notes")):
+            yield "the text is neither"
+        if left.get("notes") != old.get("notes") and not new:
+            yield "the text is before its log"
+        if new and left.get("notes.ops.refused") != after.get("notes.ops.refused"):
+            yield "what is refused is not kept"
+        if not left.get("notes.ops.refused", b"").startswith(old.get("notes.ops.refused", b"")):
+            yield "what was refused before is gone"
+        if any(left.get(name) != data for name, data in old.items() if name == "other"):
+            yield "another file changed"
+
+    def faults_of_another(self, left):
+        """Yields what of the files is wrong, where the job is done once more over those that a kill left."""
+        again = self.run(left)
+        if again.get("notes") != self.after.get("notes"):
+            # A merge with nothing new leaves an older text, and says so; a mend puts that of the log.
+            subprocess.run([self.mgr, "mend", "notes"], cwd=FOLDER, capture_output=True)
+            again = {path.name: path.read_bytes() for path in FOLDER.iterdir()}
+        # A log that was torn is written as a whole, in an order of its own.
+        if lines_of(again) != lines_of(self.after):
+            yield "done once more, the log is another"
+        if again.get("notes") != self.after.get("notes"):
+            yield "done once more, the text is another"
+        # What is refused may stand there twice, the first time in part.
+        before, refused = (files.get("notes.ops.refused", b"") for files in (self.job.files, self.after))
+        found = again.get("notes.ops.refused", b"")
+        if not (found.startswith(before) and found.endswith(refused[len(before) :])):
+            yield "done once more, what is refused is another"
+
+
+def lines_of(files):
+    """Returns the lines of the log, in the order of their bytes."""
+    return sorted(files.get("notes.ops", b"").splitlines())
+
+
+def run_job(mgr, job):
+    """Kills a job at each call; returns how many were not as they have to be."""
+    trial, bad, count = JobTrial(mgr, job), 0, 0
+    for name, number in trial.calls():
+        left = trial.killed_at(name, number)
+        faults = [*trial.faults_of(left), *trial.faults_of_another(left)]
+        count += 1
+        if faults:
+            print(f"{job.name} that is killed before {name} {number}: {'; '.join(faults)}")
             bad += 1
-    print(f"\na compaction: {len(calls)} calls, {bad} of them not well")
+    print(f"\n{job.name}: {count} calls, {bad} of them not well")
     return bad
 
 
@@ -187,7 +275,7 @@ def main():
     if shutil.which("strace") is None:
         sys.exit("strace is not installed, and kills the saves")
     mgr = os.path.abspath(sys.argv[1])
-    bad = sum(run(mgr, case) for case in CASES) + run_compaction(mgr) + cut_appends(mgr)
+    bad = sum(run(mgr, case) for case in CASES) + sum(run_job(mgr, job) for job in JOBS) + cut_appends(mgr)
     if bad:
         sys.exit(f"{bad} are not as they have to be")
     print("All loaded the old or the new.")
