@@ -1,5 +1,6 @@
 """A note's files and what mgr-live does with them at the start."""
 
+import json
 import re
 
 from terminal import BEHIND, mode_line, text_of
@@ -89,7 +90,7 @@ def a_missing_part(terminal):
     log.write_text("".join(line for i, line in enumerate(lines) if i != 3))
     (terminal.folder / "notes").write_text("one two three\n")
     terminal.begin("notes --replica 1 --keep-file")
-    said = "A part of notes.ops is missing; see notes~"
+    said = "A part of notes.ops is missing; notes~ has what stood there"
     terminal.see("the first frame", {0: "one", 8: mode_line("--", "L1 C0", waiting=10), 9: said})
     terminal.press("C-x", "C-c")
     terminal.left("left", "status 0")
@@ -98,7 +99,7 @@ def a_missing_part(terminal):
 
 def numbers(terminal):
     """numbers that are drawn and kept, while the log has them"""
-    log, kept = terminal.folder / "notes.ops", terminal.folder / "state" / "mgr" / "replicas"
+    log, kept = terminal.folder / "notes.ops", terminal.folder / "state" / "mgr" / "copies"
     _write(terminal, "without a number", "", "a")
     _write(terminal, "once more", "a", "b")
     first = _numbers_in(log)
@@ -134,7 +135,36 @@ def _numbers_in(log):
 
 
 def _kept_numbers(kept):
-    return re.findall(r", (\d+)\]$", kept.read_text(), re.M)
+    """Returns the numbers of the one copy that something is kept of."""
+    (copy,) = kept.iterdir()
+    return [str(number) for number in json.loads(copy.read_text())["numbers"]]
+
+
+def a_refused_log(terminal):
+    """a log that mgr refuses: it is left, and then mended"""
+    made(terminal, OLD)
+    log = terminal.folder / "notes.ops"
+    damaged = log.read_text() + "no operation\n"
+    log.write_text(damaged)
+    lines = damaged.count("\n")
+    for answer in ("q", "m"):
+        terminal.begin("notes")
+        terminal.expect("the question", lambda: "m or q?" in terminal.shown(), True)
+        terminal.picture()
+        terminal.write(answer)
+        terminal.press("Enter")
+        if answer == "q":
+            said = f"mgr-live: notes.ops: line {lines}: Json: see `mgr mend notes`"
+            terminal.expect("q", lambda: said in terminal.shown() and "status 1" in terminal.shown(), True)
+            terminal.expect_file("notes.ops", damaged)
+    terminal.see("m", {0: "one", 8: mode_line("--", "L1 C0"), 9: "notes.ops.refused has what was left out; notes.ops~ has wha$"}, (0, 0))
+    terminal.write("!")
+    terminal.press("C-x", "C-s", "C-x", "C-c")
+    terminal.expect("left", lambda: any(row.endswith("status 0") for row in terminal.shown()), True)
+    terminal.expect_file("notes", "!" + OLD)
+    terminal.expect_file("notes.ops~", damaged)
+    terminal.expect_file("notes.ops.refused", "no operation\n")
+    terminal.expect("another number", lambda: len(_numbers_in(log)), 2)
 
 
 def refusals(terminal):
@@ -142,12 +172,10 @@ def refusals(terminal):
     (terminal.folder / "folder").mkdir()
     (terminal.folder / "large").write_text("x" * 1_000_001)
     (terminal.folder / "latin").write_bytes(b"caf\xe9")
-    (terminal.folder / "bad.ops").write_text("no operation\n")
     for words, said, status in [
         ("folder", "folder: is a folder", 1),
-        ("large", "large: has 1,000,001 characters, and a note has at most 1,000,000", 1),
-        ("latin", "latin: not UTF-8", 1),
-        ("bad --replica 1", "bad.ops: line 1: Json", 1),
+        ("large", "large: text: Full", 1),
+        ("latin", "latin: text: not UTF-8", 1),
         ("--version", "mgr-live 0.1.0", 0),
     ]:
         said = said if status == 0 else f"mgr-live: {said}"
@@ -176,4 +204,13 @@ def open_twice(terminal):
     other.left("left", "status 0")
 
 
-PARTS = (taking_the_file, keeping_the_file, by_the_command_line, a_missing_part, numbers, refusals, open_twice)
+PARTS = (
+    taking_the_file,
+    keeping_the_file,
+    by_the_command_line,
+    a_missing_part,
+    numbers,
+    a_refused_log,
+    refusals,
+    open_twice,
+)

@@ -1,49 +1,31 @@
-"""What is offered before an edit where a note's log is large beside its text."""
-
-import os
-import subprocess
+"""What is offered before an edit where a note's log is large."""
 
 from mgr_front.asking import choice
-from mgr_front.notes import Note, read
+from mgr_front.notes import Note, Refused
+from mgr_front.program import Log, ask
 from mgr_front.saying import tell
 
-# A log is large where it has more bytes than this, and so many times those of the text.
-LEAST_BYTES, TIMES = 1_000_000, 20
-
-# What stands in the line of an insertion that is in no run, and about how long such a line is.
-SINGLE, LINE = b'"op":"ins"', 50
+# A log is large where it has more bytes than this, and so many for each operation: a compacted one
+# has a third of these at most, unless hardly anything was typed in a row.
+LEAST_BYTES, EACH = 1_000_000, 30
 
 
-def is_large(log: int, text: int) -> bool:
-    """Whether a log of so many bytes is large beside a text of so many."""
-    return log > LEAST_BYTES and log >= TIMES * text
+def is_large(log: Log) -> bool:
+    """Whether a log is large, and a compaction makes it smaller."""
+    return log.bytes > LEAST_BYTES and log.bytes >= EACH * log.operations
 
 
-def has_single_lines(log: bytes) -> bool:
-    """Whether half of a log and more are insertions that are in no run: these are what a compaction joins."""
-    return 2 * LINE * log.count(SINGLE) >= len(log)
-
-
-def question(note: Note, log: int, text: int) -> str:
+def question(note: Note, log: Log) -> str:
     return (
-        f"{note.log} has {log:,} bytes, and the text {text:,}. Compact it? It then has the same text and history\n"
-        f"in fewer lines, which an older mgr does not read; {note.log}~ keeps what it is now.\n"
+        f"{note.log} has {log.bytes:,} bytes for {log.operations:,} operations. Compact it? It then has the same text\n"
+        f"and history in fewer lines, which an older mgr does not read; {note.log}~ keeps what it is now.\n"
     )
 
 
-def offer(mgr: str, note: Note) -> None:
-    """Compacts the log of a note if it is large, and the person wants that."""
-    if not (note.has_log and os.path.isfile(note.name)):
-        return
-    log, text = os.path.getsize(note.log), os.path.getsize(note.name)
-    if is_large(log, text) and has_single_lines(read(note.log)):
-        if choice(question(note, log, text), "y", "n") == "y":
-            compact(mgr, note)
-
-
-def compact(mgr: str, note: Note) -> None:
-    """Compacts the log; where mgr does not, it stays as it is, and that is told."""
-    done = subprocess.run([mgr, "compact", "--", note.name], capture_output=True)
-    if done.returncode:
-        said = done.stderr.decode("utf-8", "replace").strip()
-        tell(f"{note.log} was not compacted: {said or f'mgr ended with status {done.returncode}'}")
+def offer(mgr: str, note: Note, log: Log | None) -> None:
+    """Compacts the log of a note if it is large, and the person wants that; else says why it is as it was."""
+    if log and is_large(log) and choice(question(note, log), "y", "n") == "y":
+        try:
+            ask(mgr, note, "compact")
+        except Refused as refused:
+            tell(f"{note.log} was not compacted: {refused}")

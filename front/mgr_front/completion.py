@@ -12,7 +12,7 @@ from mgr_front.names import COMMANDS
 
 HOME = "~/"
 # Files that stand beside a note and are none.
-BESIDE = ("~", ".ops.new", ".ops.text")
+BESIDE = ("~", ".ops.new", ".ops.refused", ".ops.text")
 LOG = ".ops"
 
 

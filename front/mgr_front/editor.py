@@ -29,6 +29,7 @@ class Editor:
 
     def __init__(self, program: str, words: Sequence[str], rows: int, said: "IO[bytes]") -> None:
         """Begins it; what it says on standard error goes to `said`."""
+        self.program = program
         size = ["--rows", str(rows), "--cols", str(COLUMNS)]
         # In a session of its own, so that the end of the terminal reaches it as the end of the keys.
         # What ends a whole login reaches it all the same, and is held back: it has to save first.

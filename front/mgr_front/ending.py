@@ -28,8 +28,8 @@ def finish(session: Session, note: Note) -> None:
         raise
     finally:
         editor.end(seconds)
-    for name in failed:
-        tell(f"{name} was not saved: File fault")
+    for said in [*session.put_aside, *(f"{name} was not saved: File fault" for name in failed)]:
+        tell(said)
 
 
 def _keep_keys(session: Session, note: Note) -> None:

@@ -1,24 +1,25 @@
 """The program mgr-hub: a note that peers exchange with, one after another."""
 
-import json
 import os
+import re
 import select
 import socket
+import subprocess
 import sys
 import tempfile
 import time
 from collections.abc import Callable, Sequence
 
+from mgr_front.copies import Copy
 from mgr_front.editor import Editor
 from mgr_front.live_exchange import CONFLICT, SERVE
-from mgr_front.notes import Note, Refused, read
-from mgr_front.numbers import keep_number, number_of
-from mgr_front.opening import difference
+from mgr_front.notes import KeptFiles, Note, Refused, read
+from mgr_front.opening import differ, mend
 from mgr_front.options import HubOptions, read_hub
-from mgr_front.program import explained, find
+from mgr_front.program import explained, find, log_of, shell_status
 from mgr_front.relay import HOST, SILENCE, hear_out, held_port, knock, port_of, pump
 from mgr_front.saving import SAVE
-from mgr_front.saying import FAILED, REFUSED, stop, tell
+from mgr_front.saying import FAILED, stop, tell
 from mgr_front.screen import write_all
 from mgr_front.signals import Signals
 
@@ -31,25 +32,22 @@ REST = 20.0
 # How many connections may wait for their turn.
 BACKLOG = 64
 BEGIN = b"\x1bx" + SERVE.encode() + b"\r"
+REFUSED_LINE = re.compile(rb": line (\d+): Conflict$")
 
 
-def id_of(line: bytes) -> object:
-    """Returns the identifier that a line of an operation names, if it names one."""
-    try:
-        return json.loads(line).get("id")
-    except (ValueError, AttributeError):
-        return None
+def line_of(lines: bytes, number: int | bytes) -> bytes:
+    """Returns a line by its number, from 1."""
+    return b"".join(lines.split(b"\n")[int(number) - 1 : int(number)]) + b"\n"
 
 
-def conflicting(log: bytes, said: bytes, number: int) -> bytes:
-    """Returns the line of a log that has the identifier of that line of what a peer said.
+def conflicting(mgr: str, log: str, line: bytes) -> bytes:
+    """Returns the line of a log that is in conflict with one that a peer said, as mgr tells it.
 
     Sent to the peer it says there what is wrong: else the one that connected would be told nothing.
     """
-    lines = said.split(b"\n", number)
-    named = id_of(lines[number - 1]) if len(lines) >= number else None
-    found = (line for line in log.splitlines(keepends=True) if named and id_of(line) == named and b'"ins"' in line)
-    return next(found, b"")
+    joined = subprocess.run([mgr, "join", "--", "-", log], input=line, capture_output=True)
+    told = REFUSED_LINE.search(joined.stderr)
+    return line_of(read(log), told[1]) if told else b""
 
 
 class Hub:
@@ -59,9 +57,11 @@ class Hub:
         """`inner` is the port at which mgr itself waits."""
         self.editor, self.note, self.inner = editor, note, inner
         self.listener, self.signals = listener, signals
+        self.kept = KeptFiles()
 
     def run(self) -> None:
         """Serves peers until a signal comes, and saves; `EOFError` where mgr ends before."""
+        self.kept.since(self.note.name)
         while self.signals.first is None:
             peer = self._next_peer()
             if peer:
@@ -89,9 +89,11 @@ class Hub:
         peer.settimeout(SILENCE)
         said = self._exchange(peer, heard.append)
         log(said)
-        if CONFLICT.match(said):
-            number = int(said.split()[1].rstrip(":"))
-            self._tell_peer(peer, conflicting(read(self.note.log), b"".join(heard), number))
+        for kept in self.kept.since(self.note.name):
+            log(f"saved, and {kept}")
+        if told := CONFLICT.match(said):
+            line = line_of(b"".join(heard), int(told[1]))
+            self._tell_peer(peer, conflicting(self.editor.program, self.note.log, line))
 
     def _tell_peer(self, peer: socket.socket, line: bytes) -> None:
         """Sends a peer a line, once it has said all: it hears nothing before."""
@@ -185,7 +187,7 @@ def serve(mgr: str, note: Note, number: int, options: HubOptions) -> int:
         if status:
             said.seek(0)
             tell(explained(status, said.read().decode(), note, editor.dialogue.has_begun), PROGRAM)
-    return status if status >= 0 else 128 - status
+    return shell_status(status)
 
 
 def main(words: Sequence[str], folder: str) -> int:
@@ -197,15 +199,14 @@ def main(words: Sequence[str], folder: str) -> int:
         stop(f"the program {os.environ.get('MGR') or 'mgr'} is not there", FAILED, PROGRAM)
     try:
         note.check()
-        logged = read(note.log) if note.has_log else b""
-        number = options.replica if options.replica is not None else number_of(note.name, logged)
-        if options.replica is None and not note.has_log:
-            keep_number(note.name, number)  # The text is written under it.
-        found = difference(mgr, note, number)
-        if found:
-            tell(f"{note.name} is not what its log says: it is kept as {found.keep_file()}", PROGRAM)
+        found, copy = log_of(mgr, note), Copy(note.name)
+        number = options.replica or copy.number(found)
+        if not (options.replica or found):
+            copy.keep_number(number)  # The text is written under it.
+        if found and differ(mgr, note, found, number):
+            tell("; ".join([f"{note.name} was not what its log says", *mend(mgr, note)[0]]), PROGRAM)
     except Refused as refused:
-        stop(str(refused), REFUSED, PROGRAM)
-    except (OSError, ValueError) as error:
-        stop(f"{note.name}: {getattr(error, 'strerror', None) or error}", FAILED, PROGRAM)
+        stop(str(refused), refused.status, PROGRAM)
+    except OSError as error:
+        stop(f"{error.filename or note.name}: {error.strerror}", FAILED, PROGRAM)
     return serve(mgr, note, number, options)

@@ -28,7 +28,7 @@ PATIENCE = 3.0
 RUNS = (b"\x0b", b"\x17", b"\x1bd", b"\x1bD", b"\x1f", b"\x18u")
 
 DONE = re.compile(r"Sent \d+, received \d+\Z")
-CONFLICT = re.compile(r"line \d+: Conflict\Z")
+CONFLICT = re.compile(r"line (\d+): Conflict\Z")
 NO_HUB = ("Socket fault", "Cut", "No port")
 STOPPED = "Conflict with the hub: nothing is exchanged any more; C-g"
 

@@ -11,7 +11,7 @@ from mgr_front.frames import Frame
 COLUMNS = 500
 
 MARKS = ("-**-Mg: ", "----Mg: ")
-SAID = re.compile(r"-(\*\*|--)-Mg: (.*) \(fundamental\) L(\d+) C(\d+) W(\d+)\Z", re.DOTALL)
+SAID = re.compile(r"-(\*\*|--)-Mg: (.*) \(fundamental\) L\d+ C\d+ W\d+\Z", re.DOTALL)
 
 
 @dataclass(frozen=True)
@@ -20,9 +20,6 @@ class ModeLine:
 
     is_changed: bool
     name: str
-    line: int
-    column: int
-    waiting: int
 
 
 def mode_rows(rows: Sequence[str], columns: int = COLUMNS) -> set[int]:
@@ -45,7 +42,7 @@ def _looks_like_one(row: str, columns: int) -> bool:
 def mode_line(row: str) -> ModeLine | None:
     """Returns what a mode line says; None where its name is too long for it to say all."""
     said = SAID.match(row.rstrip("-"))
-    return said and ModeLine(said[1] == "**", said[2], int(said[3]), int(said[4]), int(said[5]))
+    return said and ModeLine(said[1] == "**", said[2])
 
 
 def current_mode_row(frame: Frame) -> int:

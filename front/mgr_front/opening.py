@@ -1,4 +1,4 @@
-"""What is done before an edit where a note's text and its log differ.
+"""What is done before an edit: a log that mgr refuses is mended, a text that is not its log's is settled.
 
 mgr reads the log alone. So what another program wrote to the text would be put aside at the next
 save, unless it comes into the log first.
@@ -9,70 +9,139 @@ import shutil
 import tempfile
 import time
 
+from mgr_front.asking import choice
+from mgr_front.compaction import offer
+from mgr_front.copies import Copy
 from mgr_front.difference import changes, keys_of
-from mgr_front.notes import Note, Refused, put_text, read, read_text
-from mgr_front.program import edit, text_of_log
+from mgr_front.notes import KeptFiles, Note, Refused, read
+from mgr_front.options import Options
+from mgr_front.program import Log, ask, edit, log_of, text_of
 from mgr_front.saving import SAVE
+from mgr_front.saying import REFUSED, say
 
 
-class Difference:
-    """A note whose text is not the one that its log makes."""
+class Opening:
+    """A note that is about to be edited, and the number of this copy."""
 
-    def __init__(self, note: Note, text: str, waiting: int) -> None:
-        """`text` is that of the log, in which so many characters wait for their parents."""
-        self.note, self.text, self.waiting = note, text, waiting
+    def __init__(self, mgr: str, note: Note, options: Options) -> None:
+        """Does what is to be done first; `Refused` where nothing is edited then."""
+        self.mgr, self.note, self.options, self.copy = mgr, note, options, Copy(note.name)
+        # What is to be said at the start.
+        self.remarks: list[str] = []
+        note.check()
+        try:
+            log = log_of(mgr, note)
+            self.number = options.replica or self.copy.number(log)
+        except Refused as refused:
+            log = self._mended(refused)
+        if log:
+            self._settle(log)
+            offer(mgr, note, log)
 
-    def question(self) -> str:
-        """Returns what the person is asked."""
-        name, log = self.note.name, self.note.log
-        missing = f"A part of {log} is missing: {self.waiting} characters wait for it.\n" * bool(self.waiting)
-        return (
-            f"{name} and its log {log} differ. Go on with which?\n{missing}"
-            f"f  the file, of {_date(name)}: the log takes its changes\n"
-            f"l  the log, of {_date(log)}: the file is kept as {name}~\n"
-        )
+    def _mended(self, refused: Refused) -> Log | None:
+        """Has the log mended that was refused so, if the person wants that, and says what was left out of it."""
+        log = self.note.log
+        asked = f"{refused}\nm  mend it now; {log}.refused keeps what is refused\nq  leave it as it is\n"
+        if refused.status != REFUSED or choice(asked, "m", "q") == "q":
+            raise refused
+        kept, said = mend(self.mgr, self.note)
+        say(said)
+        if self.options.replica:
+            raise Refused(f"{log} is mended: now give a --replica that nobody has used, or none")
+        found = log_of(self.mgr, self.note)
+        # Others may have what was left out under the number from before.
+        self.number = self.copy.new_number(found)
+        self.remarks += [f"{log}.refused has what was left out", *kept]
+        return found
 
-    def take_file(self, mgr: str, replica: int) -> None:
-        """Brings the changes of the file into the log, as edits of this replica.
+    def _settle(self, log: Log) -> None:
+        """Where the note's text and its log differ: goes on with the one that the person chooses.
 
-        They are tried on a copy first: where the log has no room for all, it has to stay as it is.
+        It is the log, without a question, where that was merged with another and the text is as it was.
         """
-        new = read_text(self.note.name)
-        keys = keys_of(changes(self.text, new)) + SAVE
-        with tempfile.TemporaryDirectory() as folder:
-            copy = Note(os.path.join(folder, "copy"))
-            shutil.copyfile(self.note.log, copy.log)
-            if not _becomes(mgr, copy, replica, keys, new):
-                raise Refused(f"{self.note.log}: has no room for the changes of {self.note.name}: see --keep-file")
-        if not _becomes(mgr, self.note, replica, keys, new):
-            raise Refused(f"{self.note.log}: did not take the changes of {self.note.name}")
+        if log.waiting:
+            # mgr does not show what waits.
+            self.remarks.append(f"A part of {self.note.log} is missing")
+        if not differ(self.mgr, self.note, log, self.number):
+            return
+        keeps = self.options.keeps_file or self.copy.is_merged(read(self.note.name), log)
+        found = None if keeps and not self.options.takes_file else Difference(self.mgr, self.note, log)
+        if found and (self.options.takes_file or choice(found.question(), "f", "l") == "f"):
+            self.keep_number()
+            found.take_file(self.number)
+        else:
+            self.remarks += mend(self.mgr, self.note)[0]
 
-    def keep_file(self) -> str:
-        """Makes the log's text the note's, and returns where the file is kept."""
-        return put_text(self.note, self.text)
+    def keep_number(self) -> None:
+        """Keeps the number of this copy, if none is given, as something is written under it."""
+        if self.options.replica is None:
+            self.copy.keep_number(self.number)
 
-
-def difference(mgr: str, note: Note, replica: int) -> Difference | None:
-    """Returns how a note's text and its log differ.
-
-    None where they do not, where the text cannot be read, and where mgr refuses the log.
-    """
-    if not (note.has_log and os.path.isfile(note.name) and os.access(note.name, os.R_OK)):
-        return None
-    text = text_of_log(mgr, read(note.log))
-    if text is None or text.encode() == read(note.name):
-        return None
-    # It is refused too where somebody else has it open, and may be about to write it.
-    opened = edit(mgr, note.name, replica)
-    if opened.status:
-        return None
-    return Difference(note, text, opened.mode_line.waiting if opened.mode_line else 0)
+    def remember(self) -> None:
+        """Keeps how the edit left the note, if its text is the one of its log."""
+        try:
+            text, log = read(self.note.name), log_of(self.mgr, self.note)
+        except (OSError, Refused):
+            return  # One of them is not there, or this person may not read it.
+        if log and log.text == "same":
+            self.copy.remember(text, log)
 
 
-def _becomes(mgr: str, note: Note, replica: int, keys: bytes, text: str) -> bool:
-    """Presses keys in a note, and answers whether its log makes this text then."""
-    return edit(mgr, note.name, replica, keys).status == 0 and text_of_log(mgr, read(note.log)) == text
+def differ(mgr: str, note: Note, log: Log, replica: int) -> bool:
+    """Whether a note's text is another than that of its log, and nobody else has it open, and may be about to put it."""
+    return log.text == "other" and edit(mgr, note, replica) == 0
 
 
 def _date(path: str) -> str:
     return time.strftime("%Y-%m-%d %H:%M", time.localtime(os.stat(path).st_mtime))
+
+
+class Difference:
+    """A note whose text is another than that of its log."""
+
+    def __init__(self, mgr: str, note: Note, log: Log) -> None:
+        self.mgr, self.note, self.log = mgr, note, log
+        try:
+            self.new = read(note.name).decode()
+        except UnicodeDecodeError:
+            raise Refused(f"{note.name}: not UTF-8: see --keep-file") from None
+        self.changes = changes(text_of(mgr, note), self.new)
+
+    def question(self) -> str:
+        """Returns what the person is asked."""
+        name, log, waiting = self.note.name, self.note.log, self.log.waiting
+        missing = f"A part of {log} is missing: {waiting} characters wait for it.\n" * bool(waiting)
+        deleted = sum(count for _, count, _ in self.changes)
+        new = sum(len(put) for _, _, put in self.changes)
+        return (
+            f"{name} and its log {log} differ. Go on with which?\n{missing}"
+            f"f  the file, of {_date(name)}: in the log {deleted:,} characters are deleted, {new:,} are new\n"
+            f"l  the log, of {_date(log)}: the file is kept as {name}~\n"
+        )
+
+    def take_file(self, replica: int) -> None:
+        """Brings the changes of the file into the log, as edits of this replica.
+
+        They are tried on a copy first: where the log has no room for all, it has to stay as it is.
+        """
+        name, log = self.note.name, self.note.log
+        with tempfile.TemporaryDirectory() as folder:
+            copy = Note(os.path.join(folder, "copy"))
+            shutil.copyfile(log, copy.log)
+            if not self._is_taken_by(copy, replica):
+                raise Refused(f"{log}: has no room for the changes of {name}: see --keep-file")
+        if not self._is_taken_by(self.note, replica):
+            raise Refused(f"{log}: did not take the changes of {name}")
+
+    def _is_taken_by(self, note: Note, replica: int) -> bool:
+        """Makes the changes in a note, and answers whether its log makes the text then."""
+        keys = keys_of(self.changes) + SAVE
+        return edit(self.mgr, note, replica, keys) == 0 and text_of(self.mgr, note) == self.new
+
+
+def mend(mgr: str, note: Note) -> tuple[list[str], bytes]:
+    """Has mgr put the text of the log, which it mends first. Returns what it keeps then, and what it says."""
+    kept = KeptFiles()
+    kept.since(note.name)
+    said = ask(mgr, note, "mend")
+    return kept.since(note.name), said

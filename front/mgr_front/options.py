@@ -2,7 +2,6 @@
 
 import argparse
 from collections.abc import Callable, Sequence
-from dataclasses import dataclass
 
 from mgr_front import VERSION
 
@@ -15,9 +14,16 @@ EPILOG = (
 HUB = "Serves a note to whoever exchanges with it, one after another, and prints a line for each. TERM ends it."
 
 
-@dataclass(frozen=True)
-class Options:
-    """What a command line asks for."""
+class HubOptions(argparse.Namespace):
+    """What a command line of mgr-hub asks for."""
+
+    name: str
+    replica: int | None
+    port: int
+
+
+class Options(argparse.Namespace):
+    """What a command line of mgr-live asks for."""
 
     name: str
     replica: int | None
@@ -28,6 +34,12 @@ class Options:
     takes_file: bool
     keeps_file: bool
     saves: bool
+
+
+def note_name(word: str) -> str:
+    if not word:
+        raise argparse.ArgumentTypeError("it is empty")
+    return word
 
 
 def whole_number(least: int, most: int) -> Callable[[str], int]:
@@ -41,13 +53,7 @@ def whole_number(least: int, most: int) -> Callable[[str], int]:
     return read
 
 
-@dataclass(frozen=True)
-class HubOptions:
-    """What a command line of mgr-hub asks for."""
-
-    name: str
-    replica: int | None
-    port: int
+PORT = whole_number(1, 65535)
 
 
 def hub_address(word: str) -> tuple[str, int]:
@@ -55,21 +61,28 @@ def hub_address(word: str) -> tuple[str, int]:
     host, _, port = word.rpartition(":")
     if host.startswith("-"):
         raise argparse.ArgumentTypeError(f"{host!r} is no name of a machine")
-    return host, whole_number(1, 65535)(port)
+    return host, PORT(port)
 
 
-def parser() -> argparse.ArgumentParser:
-    made = argparse.ArgumentParser("mgr-live", description=DESCRIPTION, epilog=EPILOG, allow_abbrev=False)
-    made.add_argument("name", metavar="NAME", help="the note, and the file of its text")
+def _parser(program: str, description: str, epilog: str = "") -> argparse.ArgumentParser:
+    """Returns what both programs take."""
+    made = argparse.ArgumentParser(program, description=description, epilog=epilog, allow_abbrev=False)
+    made.add_argument("name", metavar="NAME", type=note_name, help="the note, and the file of its text")
+    made.add_argument("--version", action="version", version=f"%(prog)s {VERSION}")
     made.add_argument(
         "--replica",
         metavar="N",
         type=whole_number(1, 65535),
         help="the number of this copy, which no other copy of the note has; else it is drawn once, and kept",
     )
+    return made
+
+
+def parser() -> argparse.ArgumentParser:
+    made = _parser("mgr-live", DESCRIPTION, EPILOG)
     made.add_argument("--fill", metavar="F", type=whole_number(1, 9999), help="the fill column of M-q")
     peers = made.add_mutually_exclusive_group()
-    peers.add_argument("--port", metavar="P", type=whole_number(1, 65535), help="the port at which peers are met")
+    peers.add_argument("--port", metavar="P", type=PORT, help="the port at which peers are met")
     peers.add_argument(
         "--with",
         dest="hub",
@@ -79,54 +92,43 @@ def parser() -> argparse.ArgumentParser:
     )
     choice = made.add_mutually_exclusive_group()
     choice.add_argument(
-        "--take-file", action="store_true", help="where text and log differ, bring the text's changes into the log"
+        "--take-file",
+        dest="takes_file",
+        action="store_true",
+        help="where text and log differ, bring the text's changes into the log",
     )
-    choice.add_argument("--keep-file", action="store_true", help="go on with the log then, and keep the text as NAME~")
-    made.add_argument("--no-autosave", action="store_true", help="do not save after 30 seconds without a key")
-    made.add_argument("--version", action="version", version=f"%(prog)s {VERSION}")
+    choice.add_argument(
+        "--keep-file",
+        dest="keeps_file",
+        action="store_true",
+        help="go on with the log then, and keep the text as NAME~",
+    )
+    made.add_argument(
+        "--no-autosave",
+        dest="saves",
+        action="store_false",
+        help="do not save after 30 seconds without a key",
+    )
+    return made
+
+
+def hub_parser() -> argparse.ArgumentParser:
+    made = _parser("mgr-hub", HUB)
+    made.add_argument(
+        "--port",
+        metavar="P",
+        type=PORT,
+        required=True,
+        help="the port of this machine at which peers are met",
+    )
     return made
 
 
 def read(words: Sequence[str]) -> Options:
     """Returns what these words ask for; ends the program where they are wrong, or ask for help."""
-    given = parser().parse_args(words)
-    if not given.name:
-        parser().error("NAME is empty")
-    return Options(
-        name=given.name,
-        replica=given.replica,
-        fill=given.fill,
-        port=given.port,
-        hub=given.hub,
-        takes_file=given.take_file,
-        keeps_file=given.keep_file,
-        saves=not given.no_autosave,
-    )
-
-
-def hub_parser() -> argparse.ArgumentParser:
-    made = argparse.ArgumentParser("mgr-hub", description=HUB, allow_abbrev=False)
-    made.add_argument("name", metavar="NAME", help="the note, and the file of its text")
-    made.add_argument(
-        "--port",
-        metavar="P",
-        type=whole_number(1, 65535),
-        required=True,
-        help="the port of this machine at which peers are met",
-    )
-    made.add_argument(
-        "--replica",
-        metavar="N",
-        type=whole_number(1, 65535),
-        help="the number of this copy; else it is drawn once, and kept",
-    )
-    made.add_argument("--version", action="version", version=f"%(prog)s {VERSION}")
-    return made
+    return parser().parse_args(words, Options())
 
 
 def read_hub(words: Sequence[str]) -> HubOptions:
     """Returns what these words ask mgr-hub for; ends the program as `read` does."""
-    given = hub_parser().parse_args(words)
-    if not given.name:
-        hub_parser().error("NAME is empty")
-    return HubOptions(given.name, given.replica, given.port)
+    return hub_parser().parse_args(words, HubOptions())

@@ -1,17 +1,31 @@
-"""The program mgr: where it is, and what it says of a note without a terminal."""
+"""The program mgr: where it is, and what its commands say of a note."""
 
+import json
 import os
 import shutil
 import subprocess
 from dataclasses import dataclass
 
-from mgr_front.frames import Frame
-from mgr_front.modelines import COLUMNS, ModeLine, mode_line
-from mgr_front.notes import Note
+from mgr_front.modelines import COLUMNS
+from mgr_front.notes import Note, Refused
+from mgr_front.saying import REFUSED
 
 ROWS = 3
 # What mgr says where it opens nothing since a file is locked or cannot be read.
 DEVICE = "device fault"
+
+
+@dataclass(frozen=True)
+class Log:
+    """What mgr tells of the log of a note."""
+
+    bytes: int
+    operations: int
+    waiting: int
+    # Whether the text that stands beside it is that of the log: "same", "other" or "unread".
+    text: str
+    # How many characters each replica wrote.
+    written: dict[int, int]
 
 
 def find(folder: str) -> str | None:
@@ -21,48 +35,50 @@ def find(folder: str) -> str | None:
     return shutil.which(named)
 
 
-def text_of_log(mgr: str, log: bytes) -> str | None:
-    """Returns the text that a log makes, by `mgr show`; None where it is refused.
-
-    What stands behind its last newline is left out, where it is what refuses it.
-    """
-    for lines in (log, log[: log.rfind(b"\n") + 1]):
-        shown = subprocess.run([mgr, "show"], input=lines, capture_output=True)
-        if shown.returncode == 0:
-            return shown.stdout.decode()
-    return None
+def ask(mgr: str, note: Note, *words: str) -> bytes:
+    """Returns what a command of mgr writes of a note; `Refused` says why it does not do it."""
+    done = subprocess.run([mgr, *words, "--", note.name], capture_output=True)
+    if done.returncode:
+        said = done.stderr.decode("utf-8", "replace")
+        raise Refused(explained(done.returncode, said, note, False), shell_status(done.returncode))
+    return done.stdout
 
 
-@dataclass(frozen=True)
-class Edited:
-    """What came of an edit without a terminal: mgr's status, what it said, and its last frame."""
-
-    status: int
-    said: str
-    frame: Frame | None
-
-    @property
-    def mode_line(self) -> ModeLine | None:
-        return self.frame and mode_line(self.frame.rows[-2])
+def log_of(mgr: str, note: Note) -> Log | None:
+    """Returns what mgr tells of a note's log, if there is one; `Refused` where it reads none."""
+    if not note.has_log:
+        return None
+    told = json.loads(ask(mgr, note, "log", "--json"))
+    written = {each["replica"]: each["characters"] for each in told["replicas"]}
+    return Log(told["bytes"], told["operations"], told["waiting"], told["text"], written)
 
 
-def edit(mgr: str, name: str, replica: int, keys: bytes = b"") -> Edited:
-    """Presses keys in a note, by `mgr edit`."""
+def text_of(mgr: str, note: Note) -> str:
+    """Returns the text of a note's log."""
+    return ask(mgr, note, "show").decode()
+
+
+def edit(mgr: str, note: Note, replica: int, keys: bytes = b"") -> int:
+    """Presses keys in a note, by `mgr edit`, and returns its status."""
     size = ["--rows", str(ROWS), "--cols", str(COLUMNS)]
-    command = [mgr, "edit", "--replica", str(replica), *size, "--", name]
-    done = subprocess.run(command, input=keys, capture_output=True)
-    rows = done.stdout.decode("utf-8", "replace").split("\n")[:ROWS]
-    frame = Frame(tuple(rows), 0, 0) if len(rows) == ROWS else None
-    return Edited(done.returncode, done.stderr.decode("utf-8", "replace").strip(), frame)
+    command = [mgr, "edit", "--strict", "--replica", str(replica), *size, "--", note.name]
+    return subprocess.run(command, input=keys, capture_output=True).returncode
+
+
+def shell_status(status: int) -> int:
+    """Returns what a shell has for a status; one below 0 is a signal."""
+    return status if status >= 0 else 128 - status
 
 
 def explained(status: int, said: str, note: Note, was_open: bool) -> str:
     """Returns why mgr ended: what it said, with the file that it said it of where it opened nothing."""
-    said = said.strip()
+    said = said.strip().removeprefix(f"{note.log}: ")
     if status < 0:
         return f"signal {-status} ended mgr"
     if was_open or not said:
         return said or f"mgr ended with status {status}"
     if said == DEVICE:
         return f"{note.name}: another mgr has it open, or a file of it cannot be read"
-    return f"{note.log if note.has_log else note.name}: {said}"
+    if status == REFUSED and note.has_log:
+        return f"{note.log}: {said}: see `mgr mend {note.name}`"
+    return f"{note.name}: {said}"

@@ -2,6 +2,7 @@
 
 import math
 import os
+import re
 import select
 import signal
 import time
@@ -18,6 +19,7 @@ from mgr_front.frames import Frame
 from mgr_front.keys import Keys, Typed, without_first
 from mgr_front.live_exchange import COMMANDS, EXCHANGE, SERVE
 from mgr_front.minibuffer import Question
+from mgr_front.notes import KeptFiles
 from mgr_front.relay import Relay, knock
 from mgr_front.remarks import Remarks
 from mgr_front.saving import Buffers
@@ -40,6 +42,8 @@ KNOCK, STATUS = 0.1, 1.0
 # the end.
 ANSWER, LAST = 5.0, 10.0
 
+# What is said where a buffer was saved.
+SAVED = re.compile("Wrote |Sent ")
 # How much may wait for mgr before no more keys are read.
 MOST_WAITING = 65536
 
@@ -58,6 +62,9 @@ class Session:
         self.keys = Keys()
         self.dispatcher = Dispatcher(editor, screen.erase)
         self.buffers = Buffers()
+        # What mgr put aside in a save, and what was said of that.
+        self.kept = KeptFiles()
+        self.put_aside: list[str] = []
         self.remarks = Remarks()
         self.watches: list[Watch] = []
         # What the mode line says of the front.
@@ -210,6 +217,8 @@ class Session:
         if not answer.is_size:
             self.said = None
         self.buffers.note(frame)
+        if SAVED.match(frame.echo) or len(self.kept.known) < len(self.buffers.changed):
+            self._note_kept()
         while self.changed and any(self.buffers.changed.values()):
             self.changed.pop()()
         if self.errand:
@@ -225,6 +234,12 @@ class Session:
             self.remarks.acknowledge()
         self.key = answer.key
         self.rings = self.rings or bool(answer.key) and frame.echo in (UNDEFINED, FAILED)
+
+    def _note_kept(self) -> None:
+        """Says what mgr put aside: other programs have written it, and nobody may know."""
+        for said in sum(map(self.kept.since, self.buffers.changed), []):
+            self.put_aside.append(said)
+            self.remark(said)
 
     def _end_exchange(self, said: str) -> None:
         """What an exchange said stays, whatever was typed meanwhile; one that was left says nothing."""

@@ -2,10 +2,8 @@
 
 import contextlib
 import os
-import pathlib
 import select
 import socket
-import stat
 import subprocess
 import sys
 import tempfile
@@ -14,31 +12,28 @@ import time
 import unittest
 from unittest import mock
 
-import context  # noqa: F401
+from context import TESTS, InFolder
 
 from mgr_front import hub
 from mgr_front.editor import Editor
 from mgr_front.hub import Hub
 from mgr_front.relay import HOST, SILENCE, held_port, port_of
 
-FAKE = pathlib.Path(__file__).with_name("fake_mgr.py")
 LINE = b'{"char":"a","id":[1,2],"op":"ins","parent":[0,0]}\n'
 
 
-class TestExchanges(unittest.TestCase):
+class TestExchanges(InFolder):
     def setUp(self) -> None:
+        super().setUp()
         self.open = contextlib.ExitStack()
         self.addCleanup(self.open.close)
 
     def begin(self, name: str) -> Hub:
         """Returns a hub beside a program that takes the place of mgr, once that shows a frame."""
-        folder = pathlib.Path(self.open.enter_context(tempfile.TemporaryDirectory()))
-        program = folder / "mgr"
-        program.write_text(f'#!/bin/sh\nexec {sys.executable} {FAKE} "$@"\n')
-        program.chmod(program.stat().st_mode | stat.S_IXUSR)
         inner = self.open.enter_context(held_port())
         said = self.open.enter_context(tempfile.TemporaryFile())
-        editor = Editor(str(program), ["--port", str(port_of(inner)), "--", str(folder / name)], 3, said)
+        words = ["--port", str(port_of(inner)), "--", str(self.folder / name)]
+        editor = Editor(self.mgr, words, 3, said)
         self.open.callback(editor.end, 5)
         woken, waker = os.pipe()
         self.open.callback(os.close, woken)
@@ -79,7 +74,7 @@ class TestPrinting(unittest.TestCase):
     def log(self, out: int) -> "subprocess.CompletedProcess[bytes]":
         """Prints a line in a program of its own."""
         program = "import context; from mgr_front.hub import log; log('Sent 1, received 2')"
-        return subprocess.run([sys.executable, "-c", program], cwd=FAKE.parent, stdout=out, stderr=subprocess.PIPE)
+        return subprocess.run([sys.executable, "-c", program], cwd=TESTS, stdout=out, stderr=subprocess.PIPE)
 
     def test_a_line(self) -> None:
         done = self.log(subprocess.PIPE)

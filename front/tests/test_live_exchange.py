@@ -7,7 +7,6 @@ import context  # noqa: F401
 
 from mgr_front import live_exchange
 from mgr_front.frames import Frame
-from mgr_front.hub import conflicting
 from mgr_front.live_exchange import LiveExchange
 from mgr_front.remarks import Remarks
 from mgr_front.watches import Moment
@@ -92,16 +91,6 @@ class TestLiveExchange(unittest.TestCase):
         self.assertEqual(self.live.status(self.now), "conflict")
         self.assertEqual(self.remarks.patience(self.now), None)
         self.assertIn("Conflict with the hub", "".join(self.remarks.at(self.now + 1000)))
-
-
-class TestConflicts(unittest.TestCase):
-    def test_the_line_that_says_it(self) -> None:
-        log = b'{"char":"a","id":[1,2],"op":"ins","parent":[0,0]}\n{"id":[1,2],"op":"del"}\n'
-        said = b'{"char":"x","id":[1,3],"op":"ins","parent":[0,0]}\n{"char":"b","id":[1,2],"op":"ins","parent":[0,0]}\n'
-        self.assertEqual(conflicting(log, said, 2), log.splitlines(keepends=True)[0])
-        for what, number in (("another line", 1), ("no line", 9)):
-            with self.subTest(what):
-                self.assertEqual(conflicting(log, said, number), b"")
 
 
 if __name__ == "__main__":

@@ -1,13 +1,11 @@
 """Sessions beside a program that takes the place of mgr, and their ends."""
 
 import pathlib
-import stat
-import sys
 import tempfile
 import unittest
 from unittest import mock
 
-import context  # noqa: F401
+from context import InFolder
 
 from mgr_front import ending, session
 from mgr_front.editor import Editor
@@ -16,23 +14,13 @@ from mgr_front.notes import Note
 from mgr_front.session import Session
 from mgr_front.signals import ENDING
 
-FAKE = pathlib.Path(__file__).with_name("fake_mgr.py")
 
-
-class TestEnds(unittest.TestCase):
-    def setUp(self) -> None:
-        folder = tempfile.TemporaryDirectory()
-        self.addCleanup(folder.cleanup)
-        self.folder = pathlib.Path(folder.name)
-        self.program = self.folder / "mgr"
-        self.program.write_text(f'#!/bin/sh\nexec {sys.executable} {FAKE} "$@"\n')
-        self.program.chmod(self.program.stat().st_mode | stat.S_IXUSR)
-
+class TestEnds(InFolder):
     def begin(self, name: str) -> Session:
         self.note = Note(str(self.folder / name))
         said = tempfile.TemporaryFile()
         self.addCleanup(said.close)
-        editor = Editor(str(self.program), [self.note.name], 3, said)
+        editor = Editor(self.mgr, [self.note.name], 3, said)
         screen, signals = mock.Mock(erase=127), mock.Mock(first=None)
         return Session(editor, screen, signals)
 
@@ -45,14 +33,11 @@ class TestEnds(unittest.TestCase):
     def type(self, edit: Session, sent: bytes) -> None:
         edit.dispatcher.take(Keys().take(sent))
 
-    def text(self) -> str:
-        return pathlib.Path(self.note.name).read_text(encoding="utf-8")
-
     def test_all_that_was_typed_is_saved(self) -> None:
         edit = self.begin("note")
         self.type(edit, b"typed " * 100 + b"\x18")
         ending.finish(edit, self.note)
-        self.assertEqual(self.text(), "typed " * 100)
+        self.assertEqual(self.text("note"), "typed " * 100)
         self.assertEqual(edit.editor.process.returncode, 0)
 
     def test_it_is_too_where_what_ends_a_login_reaches_mgr(self) -> None:
@@ -63,7 +48,7 @@ class TestEnds(unittest.TestCase):
                 self.type(edit, b"typed")
                 edit.editor.process.send_signal(number)
                 ending.finish(edit, self.note)
-                self.assertEqual(self.text(), "typed")
+                self.assertEqual(self.text(f"note-{number}"), "typed")
                 self.assertEqual(edit.editor.process.returncode, 0)
 
     def test_the_first_change_is_told_once(self) -> None:
@@ -75,12 +60,22 @@ class TestEnds(unittest.TestCase):
                 ending.finish(edit, self.note)
                 self.assertEqual(told.call_count, wanted)
 
+    def test_what_a_save_puts_aside_is_told(self) -> None:
+        edit = self.begin("note")
+        self.await_frame(edit)
+        self.put(note="another program's")
+        self.type(edit, b"typed")
+        with mock.patch.object(ending, "tell") as tell:
+            ending.finish(edit, self.note)
+        self.assertEqual((self.text("note"), self.text("note~")), ("typed", "another program's"))
+        tell.assert_called_once_with(f"{self.note.name}~ has what stood there")
+
     def test_it_is_too_where_the_front_has_a_fault(self) -> None:
         edit = self.begin("note")
         self.type(edit, b"typed")
         with mock.patch.object(edit, "work", side_effect=RuntimeError), self.assertRaises(RuntimeError):
             ending.finish(edit, self.note)
-        self.assertEqual(self.text(), "typed")
+        self.assertEqual(self.text("note"), "typed")
 
     def test_keys_that_are_not_taken_are_kept(self) -> None:
         edit = self.begin("silent")
@@ -104,7 +99,7 @@ class TestEnds(unittest.TestCase):
         edit.work()
         self.assertIsNotNone(edit.question)
         ending.finish(edit, self.note)
-        self.assertEqual(self.text(), "ab")
+        self.assertEqual(self.text("note"), "ab")
 
 
 if __name__ == "__main__":

@@ -1,0 +1,96 @@
+"""What is kept of copies of a note: their numbers, and how the last edits left them."""
+
+import os
+import unittest
+from unittest import mock
+
+from context import InFolder
+
+from mgr_front import copies
+from mgr_front.copies import Copy
+from mgr_front.program import Log
+
+
+def log_of(operations: int = 10, **written: int) -> Log:
+    """Returns what mgr tells of a log in which these have written so many characters, as `r1=2`."""
+    return Log(500, operations, 0, "same", {int(name[1:]): count for name, count in written.items()})
+
+
+class Copies(InFolder):
+    def setUp(self) -> None:
+        super().setUp()
+        patch = mock.patch.dict(os.environ, XDG_STATE_HOME=str(self.folder / "state"))
+        patch.start()
+        self.addCleanup(patch.stop)
+        self.path = str(self.folder / "note")
+
+
+class TestNumbers(Copies):
+    def test_a_number_that_wrote_in_the_log_is_kept(self) -> None:
+        first = Copy(self.path).number(None)
+        self.assertIn(first, range(1000, 65001))
+        self.assertEqual(self.names(), [])
+        Copy(self.path).keep_number(first)
+        log = log_of(r1=2, r2=2, **{f"r{first}": 1})
+        self.assertEqual(Copy(self.path).number(log), first)
+        self.assertEqual(self.names(), ["state"])
+        (self.folder / "link").symlink_to(self.folder)
+        self.assertEqual(Copy(str(self.folder / "link" / "note")).number(log), first)
+
+    def test_another_machine_user_and_note_have_others(self) -> None:
+        Copy(self.path).keep_number(1001)
+        with mock.patch.object(copies, "draw", side_effect=[1002, 1003, 1004]):
+            with mock.patch.object(copies, "machine", return_value="another"):
+                self.assertEqual(Copy(self.path).number(log_of(r1001=1)), 1002)
+            with mock.patch.object(copies, "user", return_value="another"):
+                self.assertEqual(Copy(self.path).number(log_of(r1001=1)), 1003)
+            self.assertEqual(Copy(self.path + "2").number(log_of(r1001=1)), 1004)
+            self.assertEqual(Copy(self.path).number(log_of(r1001=1)), 1001)
+
+    def test_no_number_is_had_twice(self) -> None:
+        for number in (1001, 1002):
+            Copy(self.path).keep_number(number)
+        Copy(self.path).remember(b"", log_of(r1002=5))
+        for what, log, used in [
+            ("the log is lost", None, {1001, 1002}),
+            ("it has nothing of the last number", log_of(r1001=9, r7=9), {1001, 1002, 7}),
+            ("it has less of it than at the last edit", log_of(r1002=4), {1001, 1002}),
+        ]:
+            with self.subTest(what), mock.patch.object(copies, "draw") as draw:
+                Copy(self.path).number(log)
+                draw.assert_called_once_with(used)
+        self.assertEqual(Copy(self.path).number(log_of(r1002=5)), 1002)
+
+    def test_what_is_kept_cannot_be_read_or_written(self) -> None:
+        copy = Copy(self.path)
+        copy.keep_number(1001)
+        for kept in ("", "[]", '["a"'):
+            with open(copy.file, "w") as file:
+                file.write(kept)
+            with mock.patch.object(copies, "draw", return_value=1002):
+                self.assertEqual(Copy(self.path).number(log_of(r1001=1)), 1002)
+        with mock.patch.object(os, "makedirs", side_effect=PermissionError):
+            copy.keep_number(1003)
+
+    def test_a_number_that_is_used_is_not_drawn(self) -> None:
+        drawn = iter([2000, 3000])
+        self.assertEqual(copies.draw({2000}, lambda least, most: next(drawn)), 3000)
+
+
+class TestLastEdits(Copies):
+    def test_a_merge_is_told_from_a_change_and_a_loss(self) -> None:
+        self.assertFalse(Copy(self.path).is_merged(b"text", log_of()))
+        Copy(self.path).remember(b"text", log_of())
+        for what, path, text, operations, wanted in [
+            ("nothing", self.path, b"text", 10, True),
+            ("a merge", self.path, b"text", 11, True),
+            ("another text", self.path, b"other", 11, False),
+            ("an older log", self.path, b"text", 9, False),
+            ("another note", self.path + "2", b"text", 10, False),
+        ]:
+            with self.subTest(what):
+                self.assertEqual(Copy(path).is_merged(text, log_of(operations)), wanted)
+
+
+if __name__ == "__main__":
+    unittest.main()

@@ -1,0 +1,149 @@
+"""What is done before an edit, by the answers to what is asked, beside a program in the place of mgr."""
+
+import contextlib
+import os
+import unittest
+from collections.abc import Iterator
+from unittest import mock
+
+from context import InFolder
+
+from mgr_front import opening
+from mgr_front.compaction import is_large
+from mgr_front.copies import Copy
+from mgr_front.hub import conflicting
+from mgr_front.notes import Note, Refused
+from mgr_front.opening import Difference, Opening
+from mgr_front.options import read
+from mgr_front.program import Log, log_of
+
+
+def log(size: int, operations: int) -> Log:
+    return Log(size, operations, 0, "same", {})
+
+
+class Openings(InFolder):
+    def setUp(self) -> None:
+        super().setUp()
+        self.note = Note(str(self.folder / "note"))
+        self.answers: list[str] = []
+        self.said: list[bytes] = []
+        for patch in (
+            mock.patch("builtins.input", lambda _: self.answers.pop(0)),
+            mock.patch("builtins.print"),
+            mock.patch.object(opening, "say", self.said.append),
+            mock.patch.dict(os.environ, XDG_STATE_HOME=str(self.folder / "state")),
+        ):
+            patch.start()
+            self.addCleanup(patch.stop)
+
+    def open(self, *answers: str, words: tuple[str, ...] = ()) -> Opening:
+        """Opens the note; each answer has to be asked for."""
+        self.answers = list(answers)
+        with contextlib.ExitStack() as behind:
+            behind.callback(lambda: self.assertEqual(self.answers, []))
+            return Opening(self.mgr, self.note, read([self.note.name, *words]))
+
+    @contextlib.contextmanager
+    def refused(self, status: int, said: str) -> Iterator[None]:
+        before = {path.name: path.read_text() for path in self.folder.glob("note*")}
+        with self.assertRaises(Refused) as caught:
+            yield
+        told = str(caught.exception).replace(f"{self.folder}/", "")
+        self.assertEqual((caught.exception.status, told), (status, said))
+        if "mended" not in said:
+            self.assertEqual({path.name: path.read_text() for path in self.folder.glob("note*")}, before)
+
+    def remarks(self, opened: Opening) -> list[str]:
+        return [said.replace(f"{self.folder}/", "") for said in opened.remarks]
+
+
+class TestRefusedLogs(Openings):
+    def test_one_that_is_left(self) -> None:
+        self.put(note_ops="?text", note="text")
+        with self.refused(1, "note.ops: line 1: Json: see `mgr mend note`"):
+            self.open("x", "q")
+
+    def test_one_that_is_mended_is_written_in_under_another_number(self) -> None:
+        self.put(note_ops="?text", note="text and more")
+        Copy(self.note.name).keep_number(1001)
+        opened = self.open("m")
+        self.assertNotEqual(opened.number, 1001)
+        said = ["note.ops.refused has what was left out", "note~ has what stood there"]
+        self.assertEqual(self.remarks(opened), said)
+        self.assertEqual((self.said, self.text("note")), ([b"1 line is no operation\n"], "text"))
+
+    def test_a_number_that_is_given_may_be_one_that_lost_lines(self) -> None:
+        self.put(note_ops="?text", note="text")
+        with self.refused(1, "note.ops is mended: now give a --replica that nobody has used, or none"):
+            self.open("m", words=("--replica", "7"))
+        self.assertEqual(self.open(words=("--replica", "8")).number, 8)
+
+    def test_one_that_cannot_be_read(self) -> None:
+        self.put(note_ops="!text", note="text")
+        with self.refused(3, "note: another mgr has it open, or a file of it cannot be read"):
+            self.open()
+
+
+class TestDifferences(Openings):
+    def test_where_they_do_not_differ_nothing_is_done(self) -> None:
+        self.put(note_ops="text", note="text")
+        self.assertEqual(self.open().remarks, [])
+        (self.folder / "note").unlink()
+        self.assertEqual(self.open().remarks, [])
+
+    def test_the_log_is_gone_on_with(self) -> None:
+        for answers, words in ((("x", "L"), ()), ((), ("--keep-file",))):
+            with self.subTest(words=words):
+                self.put(note_ops="text~", note="other")
+                opened = self.open(*answers, words=words)
+                kept = "note.~1~" if words else "note~"
+                self.assertEqual(self.remarks(opened), ["A part of note.ops is missing", f"{kept} has what stood there"])
+                self.assertEqual((self.text("note"), self.text(kept)), ("text~", "other"))
+
+    def test_it_is_said_what_the_file_does_to_the_log(self) -> None:
+        self.put(note_ops="one\ntwo\n", note="one\ntwo and more\n")
+        found = Difference(self.mgr, self.note, log(0, 0))
+        self.assertIn(": in the log 0 characters are deleted, 9 are new\n", found.question())
+        (self.folder / "note").write_bytes(b"\xff")
+        with self.assertRaises(Refused):
+            Difference(self.mgr, self.note, log(0, 0))
+
+    def test_it_is_without_a_question_where_it_was_merged(self) -> None:
+        self.put(note_ops="text", note="text")
+        self.open().remember()
+        self.put(note_ops="text and more")
+        self.open()
+        self.assertEqual((self.text("note"), self.text("note~")), ("text and more", "text"))
+
+
+class TestLargeLogs(Openings):
+    def test_what_is_large(self) -> None:
+        for size, operations, wanted in [
+            (1_000_001, 33_333, True),
+            (1_000_001, 33_334, False),
+            (1_000_000, 20_000, False),
+        ]:
+            with self.subTest(size=size, operations=operations):
+                self.assertEqual(is_large(log(size, operations)), wanted)
+
+    def test_it_is_compacted_where_that_is_wanted(self) -> None:
+        self.put(note_ops="text", note="text")
+        with mock.patch("mgr_front.compaction.is_large", lambda _: True):
+            self.open("n")
+            self.assertNotIn("note.ops~", self.names())
+            self.open("maybe", "Y")
+        self.assertIn("note.ops~", self.names())
+
+
+class TestConflicts(Openings):
+    def test_the_line_of_the_log_is_found(self) -> None:
+        self.put(note_ops="first\nsecond\n")
+        self.assertEqual(conflicting(self.mgr, self.note.log, b"line\n"), b"second\n")
+
+    def test_there_is_no_log_to_tell_of(self) -> None:
+        self.assertIsNone(log_of(self.mgr, self.note))
+
+
+if __name__ == "__main__":
+    unittest.main()
