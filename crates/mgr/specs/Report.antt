@@ -15,6 +15,7 @@ use Rattle.mg_workspace.specs.declared.failures.Failure.{Failure}
 use Rattle.mg_workspace.specs.declared.failures.Failure.TheVariants as failure
 use Rattle.mg_session.specs.declared.fault.SessionFault.{SessionFault}
 use Rattle.mg_session.specs.declared.fault.SessionFault.TheVariants as session
+use Rattle.mgr_show.specs.Note.{log_name}
 use Rattle.mgr_show.specs.declared.fault.JoinFault.{JoinFault}
 use Rattle.mgr_show.specs.declared.fault.JoinFault.TheVariants as join
 use Rattle.mgr_show.specs.declared.fault.ShowFault.{ShowFault}
@@ -194,16 +195,17 @@ missing_message log (missing.Log fault) = source_message log fault
 missing_message log missing.Write = codes "device fault"
 missing_message log missing.Memory = codes "out of memory"
 
--- of the merge of logs with these names
-abbrev pub merge_message : List (List ℕ) → MergeFault → List ℕ
-merge_message names merge.NoLog = codes "text without a log"
-merge_message names (merge.Load fault) = load_message fault
-merge_message names (merge.Log index fault) = named_text (slice_get names index) (show_message fault)
-merge_message names (merge.Apart index) = named_text (slice_get names index) (codes "a log of another note, which --adopt takes")
-merge_message names (merge.Far index) = named_text (slice_get names index) (codes "counter far above the note's")
-merge_message names merge.TextStays = codes "the text stays: it is not the log's, but another program's or an older one (remove it, and mgr merge puts it anew)"
-merge_message names merge.File = codes "device fault"
-merge_message names merge.Memory = codes "out of memory"
+-- of the merge of logs with these names into the note with this name, which stands in front where no log's does
+abbrev pub merge_message : List ℕ → List (List ℕ) → MergeFault → List ℕ
+merge_message name logs merge.NoLog = name ++ (codes ": " ++ codes "text without a log")
+merge_message name logs (merge.Load fault) = log_name name ++ (codes ": " ++ load_message fault)
+merge_message name logs (merge.Log index fault) = named_text (slice_get logs index) (show_message fault)
+merge_message name logs (merge.Apart index) = named_text (slice_get logs index) (codes "a log of another note, which --adopt takes")
+merge_message name logs (merge.Far index) = named_text (slice_get logs index) (codes "counter far above the note's")
+merge_message name logs merge.TextStays =
+    name ++ (codes ": " ++ codes "the text stays: it is not the log's, but another program's or an older one (remove it, and mgr merge puts it anew)")
+merge_message name logs merge.File = codes "device fault"
+merge_message name logs merge.Memory = codes "out of memory"
 
 -- of a log with one of these names, whose last line was cut off
 abbrev pub torn_message : List (List ℕ) → Torn → List ℕ

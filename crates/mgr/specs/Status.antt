@@ -271,7 +271,7 @@ module _ {P S W : Type 0} (calls : P → Option (List Call)) (port_failures : P 
     pub torn : IfOk answer (λ m. TellsMore before.told between (torn_telling logs m.torn.items))
     pub counted : IfOk answer (λ m. IsStatusOfPrint contents (Some (count_line m.new)) status before.output after.output between after.told)
     pub exact : IfErr answer (λ e. status ≡ merge_status e)
-    pub told_line : IfErr answer (λ e. TellsMore before.told after.told (line (merge_message logs e) ∷ []))
+    pub told_line : IfErr answer (λ e. TellsMore before.told after.told (line (merge_message name logs e) ∷ []))
     pub unwritten : OnErr answer (after.output ≡ before.output)
     pub note : IfErr answer (λ e. IsOfNote e → FindsNoNote (calls before.port) (calls after.port) name e)
     pub refused : IfErr answer (λ e. IsOfLogs e → OnLogs (files before.sources) logs (λ logs. RefusesLogs (calls before.port) (calls after.port) name adopt logs e))
@@ -296,7 +296,7 @@ module _ {P W : Type 0} (calls : P → Option (List Call)) (failures : P → ℕ
     pub printed : IsStatusOfPrint contents (Some (left_out_text left)) print_status before.output after.output before.told between
     pub done : OnOk answer ((status ≡ print_status) × (after.told ≡ between))
     pub exact : IfErr answer (λ e. status ≡ merge_status e)
-    pub told_line : IfErr answer (λ e. TellsMore between after.told (line (merge_message [] e) ∷ []))
+    pub told_line : IfErr answer (λ e. TellsMore between after.told (line (merge_message name [] e) ∷ []))
 
 module _ {P W : Type 0} (calls : P → Option (List Call)) (standing : P → List ℕ → Option Standing) (refused : P → List ℕ → Option (List ℕ)) (failures log_failures : P → ℕ) (contents : W → Option (List ℕ)) where
   -- That of an answer to `mend`, which says what became of the log of its name and of what was refused of it, where these are

@@ -1,5 +1,6 @@
 //! The job of the command line, done, and what the shell is told of it.
-ghost use Rattle.std.specs.Prelude.{◌≡◌, ◌≤◌, [], ◌∷◌, IfErr, MatchResult, map, option_map, slice_get, string_bytes};
+ghost use Rattle.std.specs.Prelude.{◌≡◌, ◌≤◌, [], ◌∷◌, ◌++◌, codes, map, slice_get, string_bytes};
+ghost use Rattle.std.specs.Prelude.{IfErr, MatchResult, option_map};
 ghost use Rattle.mgr.specs.Report.{join_message, join_status, merge_message, merge_status, missing_message};
 ghost use Rattle.mgr.specs.Report.{missing_status, named_text, report_text, show_status, source_message, torn_message};
 ghost use Rattle.mgr_claims.specs.Notes.{log_source};
@@ -364,7 +365,7 @@ fn merge<P: Port, S: Sources, W: Write, T: Tell>(
             tell_torn(errors, logs, &merged.torn);
             print(alloc, &Count(merged.new), writer, errors)
         }
-        Err(fault) => told_of_merge(errors, logs, fault),
+        Err(fault) => told_of_merge(errors, merging.name.as_str(), logs, fault),
     }
 }
 
@@ -423,7 +424,7 @@ fn put_mended<P: Port, W: Write, T: Tell>(
         Ok(()) => print(alloc, &Mending(left_out), writer, errors),
         Err(fault) => {
             print(alloc, &Mending(left_out), writer, errors);
-            told_of_merge(errors, &[], fault)
+            told_of_merge(errors, name, &[], fault)
         }
     }
 }
@@ -438,20 +439,20 @@ fn told_of_named<T: Tell>(errors: &mut T, names: &[String], at: usize, report: R
     told_of_log(errors, names.get(at), report)
 }
 
-/// Tells of the fault of a merge, and answers its exit status.
-fn told_of_merge<T: Tell>(errors: &mut T, names: &[String], fault: MergeFault) -> u8
+/// Tells of the fault of a merge into the note of a name, and answers its exit status.
+fn told_of_merge<T: Tell>(errors: &mut T, name: &str, logs: &[String], fault: MergeFault) -> u8
     ensures status { result ≡ merge_status fault }
     ensures told { TellsMore (T.told errors.old) (T.told errors.new)
-        (line (merge_message (map string_bytes names.now) fault) ∷ []) }
+        (line (merge_message name.now (map string_bytes logs.now) fault) ∷ []) }
 {
     match fault {
-        MergeFault::NoLog => told(errors, Report::of_note("text without a log")),
-        MergeFault::Load(fault) => told(errors, Report::of_load(fault)),
-        MergeFault::Log(at, fault) => told_of_named(errors, names, at, Report::of_show(&fault)),
+        MergeFault::NoLog => told_of(errors, name, Report::of_note("text without a log")),
+        MergeFault::Load(fault) => told_of_its_log(errors, name, Report::of_load(fault)),
+        MergeFault::Log(at, fault) => told_of_named(errors, logs, at, Report::of_show(&fault)),
         MergeFault::Apart(at) => {
             told_of_named(
                 errors,
-                names,
+                logs,
                 at,
                 Report::of_note("a log of another note, which --adopt takes"),
             )
@@ -459,15 +460,35 @@ fn told_of_merge<T: Tell>(errors: &mut T, names: &[String], fault: MergeFault) -
         MergeFault::Far(at) => {
             told_of_named(
                 errors,
-                names,
+                logs,
                 at,
                 Report::of_note("counter far above the note's"),
             )
         }
-        MergeFault::TextStays => told(errors, Report::of_note(TEXT_STAYS)),
+        MergeFault::TextStays => told_of(errors, name, Report::of_note(TEXT_STAYS)),
         MergeFault::File => told(errors, Report::device()),
         MergeFault::Memory => told(errors, Report::memory()),
     }
+}
+
+/// Tells of a fault of the note with this name, and answers its exit status.
+fn told_of<T: Tell>(errors: &mut T, name: &str, report: Report) -> u8
+    ensures status { result ≡ report.status }
+    ensures told { TellsMore (T.told errors.old) (T.told errors.new)
+        (line (name.now ++ (codes ": " ++ report_text report.message)) ∷ []) }
+{
+    errors.tell_of(name, report);
+    report.status
+}
+
+/// Tells of a fault of the log of the note with this name, and answers its exit status.
+fn told_of_its_log<T: Tell>(errors: &mut T, name: &str, report: Report) -> u8
+    ensures status { result ≡ report.status }
+    ensures told { TellsMore (T.told errors.old) (T.told errors.new)
+        (line (log_name name.now ++ (codes ": " ++ report_text report.message)) ∷ []) }
+{
+    errors.tell_of_note(name, report);
+    report.status
 }
 
 fn refuse<W: Write, T: Tell>(
