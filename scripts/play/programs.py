@@ -53,10 +53,10 @@ def _confine(takes, memory, closed):
 
 
 def failing(call, fault):
-    """Returns the words of a command under which that call of the system fails so, or does nothing and answers so."""
+    """Returns the words of a command under which that call of the system fails so, does nothing and answers so, or ends it."""
     quiet = ["-f", "-qq", "-o", "/dev/null", "-e", f"trace={call}"]
     # The program is the child then, and what traces it stands apart.
-    how = "retval" if fault[0].isdigit() else "error"
+    how = "retval" if fault[0].isdigit() else "signal" if fault.startswith("SIG") else "error"
     return ["strace", "-D", *quiet, "-e", f"inject={call}:{how}={fault}"]
 
 
