@@ -183,8 +183,9 @@ impl<R: Files<File = File> + Net + AllocGlobal + Drop> Port for FilePort<R> {
 
     ghost failures = { λ p. p.failures };
 
-    /// Where there is a log, the text is not read. A note that something else has open is refused,
-    /// be it under another path, and so is a log or a text that is no plain file.
+    /// Where there is a log, the text is read if it is not known as this port's own. A note that
+    /// something else has open is refused, be it under another path, and so is a log that is no plain
+    /// file, or a text without a log that is none.
     fn load(&mut self, name: &str) -> Result<Found, PortFault>
         ensures device { self.new.failures ≡ failures_after result self.old.failures }
         ensures number { self.new.number ≡ self.old.number }
