@@ -9,7 +9,7 @@ use Rattle.rga_ops.specs.Splice.{Splice, text_after}
 use Rattle.mg_plain.specs.declared.cases.Casing.{Casing}
 use Rattle.mg_plain.specs.declared.cases.Casing.TheVariants.{Capital, Lower, Upper}
 use Rattle.mg_plain.specs.declared.command.Command.{Command}
-use Rattle.mg_plain.specs.declared.command.Command.TheVariants.{BackwardChar, BackwardWord, BeginningOfLine, CapitalizeWord, CopyRegionAsKill, DeleteBackwardChar, DeleteChar, DowncaseWord, EndOfLine, ExchangePointAndMark, FillParagraph, ForwardChar, ForwardWord, Insert, KillLine, KillRegion, KillWord, MarkWholeBuffer, Newline, NewlineAndIndent, NextLine, OpenLine, PreviousLine, ReplaceAll, ReplaceOne, ScrollDown, ScrollUp, SearchBackward, SearchForward, SetMarkCommand, TransposeChars, UpcaseWord, Yank}
+use Rattle.mg_plain.specs.declared.command.Command.TheVariants.{BackwardChar, BackwardWord, BeginningOfLine, CapitalizeWord, CopyRegionAsKill, DeleteBackwardChar, DeleteChar, DowncaseWord, EndOfLine, ExchangePointAndMark, FillParagraph, ForwardChar, ForwardWord, Insert, InsertText, KillLine, KillRegion, KillWord, MarkWholeBuffer, Newline, NewlineAndIndent, NextLine, OpenLine, PreviousLine, ReplaceAll, ReplaceOne, ReplaceRange, ScrollDown, ScrollUp, SearchBackward, SearchForward, SetMarkCommand, TransposeChars, UpcaseWord, Yank}
 use Rattle.mg_plain.specs.declared.outcome.Notice.{Notice}
 use Rattle.mg_plain.specs.declared.outcome.Notice.TheVariants.{NoMark, SearchFailed}
 use Rattle.mg_plain.specs.declared.steps.Direction.{Direction}
@@ -339,6 +339,12 @@ effect-inside (ReplaceOne pattern put) n s column e seen h =
     (λ t. edit-within s (replacements put (current_match pattern s.point ∷ [])) seen (omega arith, seen.point, tt)) h
 effect-inside (ReplaceAll pattern put) n s column e seen h =
     by_if s (stands_before_point pattern s) (replacement_effect put (all_matches pattern s.text s.point) s) SearchFailed e (λ t. replacement_effect-within pattern put s seen t) h
+effect-inside (InsertText put) n s column e seen h = by_ok s (typing s put) e (typing-within s put seen) h
+effect-inside (ReplaceRange lo hi put) n s column e seen h =
+    by_if s (nat_le lo hi && nat_le hi (length s.text)) (edit_effect s (one_splice lo hi put)) EndOfBuffer e
+    (λ t.
+    let both = and_parts (nat_le lo hi) (nat_le hi (length s.text)) t in
+    edit-within s (one_splice lo hi put) seen (one_splice-falling lo hi (length s.text) put (leb-true lo hi both.0) (leb-true hi (length s.text) both.1))) h
 effect-inside FillParagraph n s column e seen h = by_ok s (edit_effect s (if has_nonblank s.text (line_begin s.text s.point) then filling column s.text (paragraph s.text s.point) else [])) e (fill-within column s seen (has_nonblank s.text (line_begin s.text s.point))) h
 
 pub effect-within : (command : Command) (n : ℕ) (s : Situation) (column : ℕ) (e : Effect) → IsView s → effect command n s column ≡ Ok e → IsWithinText s e

@@ -1,7 +1,7 @@
 -- What each command does.
 use Rattle.std.specs.Prelude.{ℕ, Bool, true, false, Result, Ok}
 use Rattle.mg_plain.specs.declared.command.Command.{Command}
-use Rattle.mg_plain.specs.declared.command.Command.TheVariants.{Insert, Newline, OpenLine, NewlineAndIndent, ForwardChar, BackwardChar, BeginningOfLine, EndOfLine, BeginningOfBuffer, EndOfBuffer, NextLine, PreviousLine, ScrollUp, ScrollDown, ForwardWord, BackwardWord, DeleteChar, DeleteBackwardChar, KillLine, KillWord, KillRegion, CopyRegionAsKill, Yank, SetMarkCommand, ExchangePointAndMark, MarkWholeBuffer, TransposeChars, UpcaseWord, DowncaseWord, CapitalizeWord, SearchForward, SearchBackward, ReplaceOne, ReplaceAll, FillParagraph}
+use Rattle.mg_plain.specs.declared.command.Command.TheVariants.{Insert, Newline, OpenLine, NewlineAndIndent, ForwardChar, BackwardChar, BeginningOfLine, EndOfLine, BeginningOfBuffer, EndOfBuffer, NextLine, PreviousLine, ScrollUp, ScrollDown, ForwardWord, BackwardWord, DeleteChar, DeleteBackwardChar, KillLine, KillWord, KillRegion, CopyRegionAsKill, Yank, SetMarkCommand, ExchangePointAndMark, MarkWholeBuffer, TransposeChars, UpcaseWord, DowncaseWord, CapitalizeWord, SearchForward, SearchBackward, ReplaceOne, ReplaceAll, InsertText, ReplaceRange, FillParagraph}
 use Rattle.mg_plain.specs.declared.outcome.Notice.{Notice}
 use Rattle.mg_plain.specs.declared.cases.Casing.TheVariants.{Upper, Lower, Capital}
 use Rattle.mg_plain.specs.declared.steps.Direction.TheVariants.{Forward, Backward}
@@ -9,11 +9,11 @@ use Rattle.mg_plain.specs.Situation.{Situation}
 use Rattle.mg_plain.specs.Effect.{Effect}
 use Rattle.mg_text.specs.Characters.{newline_character}
 use Rattle.mg_plain.specs.Motions.{forward_char, backward_char, beginning_of_line, end_of_line, beginning_of_buffer, end_of_buffer, by_lines, scroll, by_words}
-use Rattle.mg_plain.specs.Insertions.{insert, open_line, newline_and_indent, yank}
+use Rattle.mg_plain.specs.Insertions.{insert, typing, open_line, newline_and_indent, yank}
 use Rattle.mg_plain.specs.Kills.{delete_char, delete_backward_char, kill_line, kill_word, kill_region}
 use Rattle.mg_plain.specs.Mark.{copy_region_as_kill, set_mark_command, exchange_point_and_mark, mark_whole_buffer}
 use Rattle.mg_plain.specs.Cases.{transpose_chars, recasing}
-use Rattle.mg_plain.specs.Replacement.{search_forward, search_backward, replace_one, replace_all}
+use Rattle.mg_plain.specs.Replacement.{search_forward, search_backward, replace_one, replace_all, replace_range}
 use Rattle.mg_plain.specs.Filling.{fill_paragraph}
 
 -- the effect of a command with the argument `n` and a fill column, or why it is not done
@@ -52,6 +52,8 @@ effect (SearchForward pattern start) n s column = search_forward pattern start s
 effect (SearchBackward pattern start) n s column = search_backward pattern start s
 effect (ReplaceOne pattern put) n s column = replace_one pattern put s
 effect (ReplaceAll pattern put) n s column = replace_all pattern put s
+effect (InsertText put) n s column = Ok (typing s put)
+effect (ReplaceRange lo hi put) n s column = replace_range lo hi put s
 effect FillParagraph n s column = Ok (fill_paragraph column s)
 
 -- whether a command needs memory: those that put or keep characters do, motions, searches and the mark do not
@@ -90,4 +92,6 @@ needs_memory (SearchForward pattern start) = false
 needs_memory (SearchBackward pattern start) = false
 needs_memory (ReplaceOne pattern put) = true
 needs_memory (ReplaceAll pattern put) = true
+needs_memory (InsertText put) = true
+needs_memory (ReplaceRange lo hi put) = true
 needs_memory FillParagraph = true

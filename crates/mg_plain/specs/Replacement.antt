@@ -1,12 +1,12 @@
--- Searches and replacements.
+-- Searches, and replacements of matches and of a range.
 use Rattle.std.specs.Prelude.{ℕ, ◌+◌, ◌-◌, ◌&&◌, Bool, List, [], ◌∷◌, length, map, reverse, Result, Ok, Err, if◌then◌else◌, nat_le, nat_lt}
 use Rattle.std.specs.Option.{option_map, ok_or}
 use Rattle.rga_ops.specs.Splice.{Splice}
 use Rattle.mg_plain.specs.declared.outcome.Notice.{Notice}
-use Rattle.mg_plain.specs.declared.outcome.Notice.TheVariants.{SearchFailed}
+use Rattle.mg_plain.specs.declared.outcome.Notice.TheVariants.{EndOfBuffer, SearchFailed}
 use Rattle.mg_text.specs.Spans.{Span}
 use Rattle.mg_plain.specs.Situation.{Situation}
-use Rattle.mg_plain.specs.Effect.{Effect, place_after, edit_effect, motion}
+use Rattle.mg_plain.specs.Effect.{Effect, one_splice, place_after, edit_effect, motion}
 use Rattle.mg_text.specs.Splices.{splice}
 use Rattle.mg_plain.specs.Matches.{stands_at, first_match, last_match, matches}
 
@@ -56,3 +56,7 @@ replacement_effect put spans s = record (edit_effect s (replacements put spans))
 abbrev pub replace_all : List ℕ → List ℕ → Situation → Result Effect Notice
 replace_all pattern put s =
     if stands_before_point pattern s then Ok (replacement_effect put (all_matches pattern s.text s.point) s) else Err SearchFailed
+
+-- the characters from one place up to another become `put`; point and mark are carried
+abbrev pub replace_range : ℕ → ℕ → List ℕ → Situation → Result Effect Notice
+replace_range lo hi put s = if nat_le lo hi && nat_le hi (length s.text) then Ok (edit_effect s (one_splice lo hi put)) else Err EndOfBuffer

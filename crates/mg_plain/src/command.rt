@@ -76,6 +76,11 @@ pub enum Command {
     ReplaceOne { pattern: Chars, put: Chars },
     /// The same for this match and all that follow, each found from the end of the one before.
     ReplaceAll { pattern: Chars, put: Chars },
+    /// Inserts the characters, and point goes behind them.
+    InsertText(Chars),
+    /// Replaces the characters from one place up to another, which are places of the text; point and
+    /// mark are carried.
+    ReplaceRange { lo: usize, hi: usize, put: Chars },
     /// Lays the words of point's paragraph out in lines of at most the fill column.
     FillParagraph,
 }

@@ -35,6 +35,12 @@ pub(crate) fn insert(alloc: Global, view: &View<'_>, ch: char, n: u16) -> Result
     type_in(alloc, view, repeated(alloc, ch, n)?)
 }
 
+pub(crate) fn insert_text(alloc: Global, view: &View<'_>, put: &[char]) -> Result<Plan, Notice>
+    ensures { IsEffectAnswer result (Ok (spec.typing view.now put.now)) }
+{
+    type_in(alloc, view, Vec::from_slice(alloc, put)?)
+}
+
 pub(crate) fn open_line(alloc: Global, view: &View<'_>, n: u16) -> Result<Plan, Notice>
     ensures { IsEffectAnswer result (Ok (spec.open_line n view.now)) }
 {

@@ -11,7 +11,7 @@ mod searches;
 pub use effects::{case_keeps_the_length, effects_stay_within_the_text, kills_keep_what_they_take};
 pub use examples::{
     edits_of_a_line, kills_and_yanks, scrolls_over_five_lines, searches_replacements_and_filling,
-    steps_over_words, the_goal_stays_over_a_short_line,
+    steps_over_words, texts_put_at_point_and_in_a_range, the_goal_stays_over_a_short_line,
 };
 pub use filling::filling_touches_no_word;
 pub use places::places_in_words;

@@ -33,7 +33,7 @@ mod words;
 
 pub use chars::Chars;
 pub use command::Command;
-pub use matching::{count_matches, find};
+pub use matching::{alike, count_matches, find};
 pub use outcome::{Notice, Plan};
 pub use planning::plan;
 pub use rga_ops::Splice;

@@ -5,8 +5,8 @@ ghost use Rattle.mg_plain.specs.Matches as spec;
 use crate::characters::lower;
 use crate::steps::Direction;
 
-/// The same character, ASCII letters without regard to case.
-fn alike(a: char, b: char) -> bool
+/// Whether it is the same character, ASCII letters without regard to case.
+pub fn alike(a: char, b: char) -> bool
     ensures { result ≡ spec.alike a b }
 {
     lower(a) == lower(b)

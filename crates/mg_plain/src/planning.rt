@@ -7,7 +7,7 @@ ghost use Rattle.mg_plain.specs.declared.outcome.Notice.TheVariants.{Memory};
 use crate::cases::{Casing, recase_word, transpose_chars};
 use crate::command::Command;
 use crate::filling::fill_paragraph;
-use crate::insertions::{insert, newline_and_indent, open_line, yank};
+use crate::insertions::{insert, insert_text, newline_and_indent, open_line, yank};
 use crate::kills::{delete_backward_char, delete_char, kill_line, kill_region, kill_word};
 use crate::mark::{
     copy_region_as_kill, exchange_point_and_mark, mark_whole_buffer, set_mark_command,
@@ -17,7 +17,7 @@ use crate::motions::{
     scroll,
 };
 use crate::outcome::{Notice, Plan};
-use crate::replacement::{replace_all, replace_one};
+use crate::replacement::{replace_all, replace_one, replace_range};
 use crate::search::{search_backward, search_forward};
 use crate::steps::Direction;
 use crate::view::View;
@@ -26,10 +26,11 @@ use std::alloc::Global;
 /// What a command does to a text with the argument and the fill column, or the notice why it is not
 /// done. The argument 0 moves, inserts and deletes nothing, and is no notice.
 ///
-/// Notices: `BeginningOfBuffer` and `EndOfBuffer` where there is too little text, `NoMark` where a
-/// command of the region has none, `SearchFailed` where a pattern is not found, does not stand
-/// where it is to be replaced, or is empty there; `Memory`, which comes last. Motions, searches and
-/// the commands that set the mark take no memory.
+/// Notices: `BeginningOfBuffer` and `EndOfBuffer` where there is too little text, `EndOfBuffer` too
+/// where a range does not lie within it, `NoMark` where a command of the region has none,
+/// `SearchFailed` where a pattern is not found, does not stand where it is to be replaced, or is
+/// empty there; `Memory`, which comes last. Motions, searches and the commands that set the mark
+/// take no memory.
 pub fn plan(
     alloc: Global,
     command: &Command,
@@ -89,6 +90,10 @@ pub fn plan(
             put.as_slice(),
             view,
         ),
+        Command::InsertText(put) => insert_text(alloc, view, put.as_slice()),
+        Command::ReplaceRange { lo, hi, put } => {
+            replace_range(alloc, view, *lo, *hi, put.as_slice())
+        }
         Command::FillParagraph => fill_paragraph(alloc, view, fill),
     }
 }

@@ -1,9 +1,9 @@
-//! Replacements of matches.
+//! Replacements of matches, and of a range.
 ghost use Rattle.std.specs.Prelude.{◌≡◌, ◌≤◌, ◌<◌, length, true, Ok, IfOk};
 ghost use Rattle.mg_plain.specs.Answer.{IsEffectAnswer};
 ghost use Rattle.mg_plain.specs.Replacement as spec;
 
-use crate::edit::{carry_over, edit, edit_once};
+use crate::edit::{carry_over, change, edit, edit_once};
 use crate::matching::{first_match, stands_at};
 use crate::outcome::{Notice, Plan};
 use crate::view::View;
@@ -96,4 +96,22 @@ pub(crate) fn replace_one(
     }
     let begin = view.point.saturating_sub(pattern.len());
     edit_once(alloc, view, begin, view.point, put)
+}
+
+pub(crate) fn replace_range(
+    alloc: Global,
+    view: &View<'_>,
+    lo: usize,
+    hi: usize,
+    put: &[char],
+) -> Result<Plan, Notice>
+    ensures { IsEffectAnswer result (spec.replace_range lo hi put.now view.now) }
+{
+    if lo > hi {
+        return Err(Notice::EndOfBuffer);
+    }
+    if hi > view.text.len() {
+        return Err(Notice::EndOfBuffer);
+    }
+    change(alloc, view, lo, hi, Vec::from_slice(alloc, put)?)
 }

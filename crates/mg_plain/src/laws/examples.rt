@@ -1,6 +1,6 @@
 //! Worked examples of commands, computed.
 ghost use Rattle.std.specs.Prelude.{◌≡◌, [], ◌∷◌, ◌++◌, Some, Ok, Err, codes};
-ghost use Rattle.mg_plain.specs.declared.command.Command.TheVariants.{ForwardWord, BackwardWord, ForwardChar, NextLine, TransposeChars, CapitalizeWord, NewlineAndIndent, KillRegion, CopyRegionAsKill, KillLine, Yank, ScrollUp};
+ghost use Rattle.mg_plain.specs.declared.command.Command.TheVariants.{ForwardWord, BackwardWord, ForwardChar, NextLine, TransposeChars, CapitalizeWord, NewlineAndIndent, KillRegion, CopyRegionAsKill, KillLine, Yank, ScrollUp, InsertText, ReplaceRange};
 ghost use Rattle.mg_plain.specs.declared.outcome.Notice.TheVariants.{BeginningOfBuffer, EndOfBuffer, SearchFailed};
 ghost use Rattle.mg_plain.specs.declared.view.Kind.TheVariants.{Vertical};
 ghost use Rattle.mg_text.specs.Characters.{newline_character};
@@ -58,6 +58,28 @@ pub fn edits_of_a_line()
     ensures indented_at_point { let s = plain_view (codes "  ab") 1 in
         outcome s (effect NewlineAndIndent 1 s 70)
         ≡ Ok (text_and_point (codes " " ++ newline_character ∷ codes "  ab") 3) }
+{}
+
+/// A text goes in at point, which then stands behind it. A range is replaced, and point is carried:
+/// it stays before the range, moves with what stands behind, and else goes behind what is put.
+pub fn texts_put_at_point_and_in_a_range()
+    ensures inserted { let s = plain_view (codes "ad") 1 in
+        outcome s (effect (InsertText (codes "bc")) 4 s 70) ≡ Ok (text_and_point (codes "abcd") 3) }
+    ensures before_the_range { let s = plain_view (codes "abcd") 1 in
+        outcome s (effect (ReplaceRange 1 4 (codes "x")) 1 s 70)
+        ≡ Ok (text_and_point (codes "ax") 1) }
+    ensures within_the_range { let s = plain_view (codes "abcd") 2 in
+        outcome s (effect (ReplaceRange 1 3 (codes "xyz")) 1 s 70)
+        ≡ Ok (text_and_point (codes "axyzd") 4) }
+    ensures behind_the_range { let s = plain_view (codes "abcd") 3 in
+        outcome s (effect (ReplaceRange 0 2 (codes "x")) 1 s 70)
+        ≡ Ok (text_and_point (codes "xcd") 2) }
+    ensures nothing { let s = plain_view (codes "abcd") 3 in
+        effect (ReplaceRange 4 4 []) 1 s 70 ≡ Ok (motion s 3) }
+    ensures beyond_the_text { let s = plain_view (codes "abcd") 3 in
+        effect (ReplaceRange 3 5 (codes "x")) 1 s 70 ≡ Err EndOfBuffer }
+    ensures ends_before_it_begins { let s = plain_view (codes "abcd") 3 in
+        effect (ReplaceRange 3 2 (codes "x")) 1 s 70 ≡ Err EndOfBuffer }
 {}
 
 /// Kills, one behind the other, a copy that takes their place, and a yank of both.
