@@ -3,7 +3,7 @@ use Rattle.std.proofs.Common.{◌≡◌, ℕ, ◌+◌, ◌-◌, ◌≤◌, ◌<�
 use Rattle.std.proofs.lemmas.List.{drop_more}
 use Rattle.std.proofs.lemmas.Bool.{cases_Bool}
 use Rattle.std.proofs.lemmas.Bool.Decides.{nat_tests}
-use Rattle.mg_screen.specs.Cells.{Cell, cell_of, cells, cells_from, width_of, width_if, cells_within, IsLongest}
+use Rattle.mg_screen.specs.Cells.{Cell, cell_of, cells_from, width_of, width_if, cells_within, IsLongest}
 
 -- one character more, of those that are left
 pub times_more : (row : List ℕ) (c k left : ℕ) → k ≡ suc left → (row ++ encode_utf8 c) ++ encode_utf8_all (replicate left c) ≡ row ++ encode_utf8_all (replicate k c)
@@ -38,9 +38,9 @@ beginning_ends line most column i d w inside met is over =
     ap (cells_within (most - column)) (cells_left line column i d inside met) ∙ rw none refl
 
 -- the width of the longest beginning, whose rest begins at a column
-pub beginning_width_on : (line : List ℕ) (most column i d w : ℕ) → i < length line → d ≡ get_or line i d → w ≡ (cell_of column d).width → w ≤ most - column → column ≤ most
-    → column + width_of (cells_within (most - column) (cells_from column (drop i line))) ≡ width_of (cells_within most (cells line))
-    → (column + w) + width_of (cells_within (most - (column + w)) (cells_from (column + w) (drop (i + 1) line))) ≡ width_of (cells_within most (cells line))
+pub beginning_width_on : (line : List ℕ) (most column i d w : ℕ) {all : ℕ} → i < length line → d ≡ get_or line i d → w ≡ (cell_of column d).width → w ≤ most - column → column ≤ most
+    → column + width_of (cells_within (most - column) (cells_from column (drop i line))) ≡ all
+    → (column + w) + width_of (cells_within (most - (column + w)) (cells_from (column + w) (drop (i + 1) line))) ≡ all
 beginning_width_on line most column i d w inside met is room fits sofar =
     let more = ap width_of (beginning_on line most column i d w inside met is room fits) in
     omega (arith, more, is, sofar)

@@ -17,16 +17,16 @@ use Rattle.mg_screen.specs.Cursor.{position, row_cells, last_column, column_behi
 use Rattle.mg_screen.proofs.CellLaws.{is_longest}
 use Rattle.mg_screen.proofs.ScreenLaws.{length-text_rows, length-frame_rows, length-panes_rows}
 
-some_same : {X : Type 0} (x y : X) → Some x ≡ Some y → x ≡ y
+pub some_same : {X : Type 0} (x y : X) → Some x ≡ Some y → x ≡ y
 some_same x y is = cc
 
 -- cells up to one of them
-cells_taken : (column : ℕ) (line : List ℕ) (k : ℕ) → cells_from column (take k line) ≡ take k (cells_from column line)
+pub cells_taken : (column : ℕ) (line : List ℕ) (k : ℕ) → cells_from column (take k line) ≡ take k (cells_from column line)
 cells_taken column line zero = refl
 cells_taken column [] (suc k) = refl
 cells_taken column (x ∷ xs) (suc k) = ap (λ t. cell_of column x ∷ t) (cells_taken (column + (cell_of column x).width) xs k)
 
-width_of-take : (cs : List Cell) (k : ℕ) → width_of (take k cs) ≤ width_of cs
+pub width_of-take : (cs : List Cell) (k : ℕ) → width_of (take k cs) ≤ width_of cs
 width_of-take cs zero = omega arith
 width_of-take [] (suc k) = omega arith
 width_of-take (x ∷ cs) (suc k) = let rest = width_of-take cs k in omega (arith, rest)
@@ -117,12 +117,12 @@ text_row_at columns (suc n) ls (suc i) inside =
     let next : 1 + i ≡ suc i = omega arith in
     text_row_at columns n (drop 1 ls) i (omega (arith, inside)) ∙ ap (first_row columns) (drop-drop i 1 ls ∙ ap (λ k. drop k ls) next)
 
-length-pane_rows : (columns : ℕ) (p : Pane) → length (pane_rows columns p) ≡ p.height + 1
+pub length-pane_rows : (columns : ℕ) (p : Pane) → length (pane_rows columns p) ≡ p.height + 1
 length-pane_rows columns p =
     length-append (text_rows columns p.height (drop p.first (lines p.text))) (filled_row columns (chars (mode_text p)) ∷ [])
     ∙ ap (λ n. n + 1) (length-text_rows columns p.height (drop p.first (lines p.text)))
 
-pane_row_at : (columns : ℕ) (p : Pane) (i : ℕ) → i < p.height → get_or (pane_rows columns p) i [] ≡ first_row columns (drop (p.first + i) (lines p.text))
+pub pane_row_at : (columns : ℕ) (p : Pane) (i : ℕ) → i < p.height → get_or (pane_rows columns p) i [] ≡ first_row columns (drop (p.first + i) (lines p.text))
 pane_row_at columns p i inside =
     let rows = text_rows columns p.height (drop p.first (lines p.text)) in
     let long = length-text_rows columns p.height (drop p.first (lines p.text)) in
@@ -146,7 +146,7 @@ panes_row_at columns (q ∷ ps) (suc index) p i is inside =
     get_or-append_right (pane_rows columns q) (panes_rows columns ps) (q.height + 1) (rows_above (suc index) (q ∷ ps) + i) [] long (omega (arith, above))
     ∙ ap (λ k. get_or (panes_rows columns ps) k []) behind ∙ panes_row_at columns ps index p i is inside
 
-rows_within : (ps : List Pane) (index : ℕ) (p : Pane) → slice_get ps index ≡ Some p → rows_above index ps + (p.height + 1) ≤ sum_by (λ z. z.height + 1) ps
+pub rows_within : (ps : List Pane) (index : ℕ) (p : Pane) → slice_get ps index ≡ Some p → rows_above index ps + (p.height + 1) ≤ sum_by (λ z. z.height + 1) ps
 rows_within ps index p is =
     let within = slice_get_within ps index p is in
     let more = sum_by_more_le (λ (z : Pane). z.height + 1) ps index p within in
@@ -160,7 +160,7 @@ line_inside text place =
     let less = sum_by-take-le (λ c. cond (ends_line c) 1 0) text place in
     omega (arith, count, less)
 
-lines_at : (text : List ℕ) (place : ℕ) → drop (line_index text place) (lines text) ≡ place_line text place ∷ drop (line_index text place + 1) (lines text)
+pub lines_at : (text : List ℕ) (place : ℕ) → drop (line_index text place) (lines text) ≡ place_line text place ∷ drop (line_index text place + 1) (lines text)
 lines_at text place = drop_more (lines text) (line_index text place) [] (line_inside text place)
 
 -- what a cursor in a window says
@@ -170,7 +170,7 @@ pub record StandsIn (columns above : ℕ) (p : Pane) (at : Position) : Type 0 wh
   pub row : at.row ≡ above + (line_index p.text p.point - p.first)
   pub column : at.column ≡ place_column columns p.text p.point
 
-both_true : (a b : Bool) → (a && b) ≡ true → (a ≡ true) × (b ≡ true)
+pub both_true : (a b : Bool) → (a && b) ≡ true → (a ≡ true) × (b ≡ true)
 both_true true true is = (refl, refl)
 both_true true false is = absurd cc
 both_true false true is = absurd cc

@@ -5,6 +5,10 @@ pub mod RowLaws
 pub mod ScreenLaws
 pub mod PlaceLaws
 pub mod CursorLaws
+pub mod SidewaysLaws
+pub mod SidewaysFrameLaws
+pub mod SidewaysCursorLaws
+pub mod SidewaysCellLaws
 pub mod LayoutLaws
 pub mod HeightLaws
 pub mod ResizeLaws

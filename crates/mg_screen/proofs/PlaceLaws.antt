@@ -1,8 +1,8 @@
 -- The line of a place.
-use Rattle.std.proofs.Common.{◌≡◌, ℕ, zero, suc, ◌+◌, ◌-◌, ◌≤◌, ◌<◌, List, [], ◌∷◌, length, take, drop, get_or, arith, refl, sym, ◌∙◌, ap, subst, Bool, true, false, not, nat_lt, nat_le, length-drop}
+use Rattle.std.proofs.Common.{◌≡◌, ℕ, zero, suc, ◌+◌, ◌-◌, ◌≤◌, ◌<◌, List, [], ◌∷◌, length, take, drop, get_or, arith, refl, sym, ◌∙◌, ap, subst, Bool, true, false, not, nat_lt, nat_le, length-drop, ◌++◌, count_by, cond, take-take}
 use Rattle.std.specs.List.{position_or_len}
-use Rattle.std.proofs.lemmas.List.{get_or-drop, length-take}
-use Rattle.std.proofs.lemmas.List.Sums.{position_or_len_is, suffix_len-take_no, suffix_len-take_yes, suffix_len-le-length, count_by_more_yes, count_by_more_no, prefix_len_stops}
+use Rattle.std.proofs.lemmas.List.{get_or-drop, length-take, take-append-drop, drop-take}
+use Rattle.std.proofs.lemmas.List.Sums.{position_or_len_is, suffix_len-take_no, suffix_len-take_yes, suffix_len-le-length, count_by_more_yes, count_by_more_no, prefix_len_stops, sum_by-append}
 use Rattle.std.proofs.lemmas.Bool.Decides.{nat_tests}
 use Rattle.std.proofs.Math.Nat.{min-le_left, min-eq_left}
 use Rattle.mg_screen.specs.Lines.{ends_line, lines, lines_on, line_index, column_of}
@@ -163,3 +163,13 @@ pub lines_at_begin : (text : List ℕ) (begin line : ℕ) → begin ≤ length t
 lines_at_begin text begin line within first is =
     let start : begin - column_of text begin ≡ begin = omega (arith, first) in
     ap (lines_on text) (sym start) ∙ (line_begin text begin within).begins ∙ ap (λ k. drop k (lines text)) is
+
+-- the line of a place behind another one
+pub line_split : (text : List ℕ) (a b : ℕ) → a ≤ b → line_index text b ≡ line_index text a + count_by ends_line (take (b - a) (drop a text))
+line_split text a b before =
+    let on : a + (b - a) ≡ b = omega (arith, before) in
+    let front : take a (take b text) ≡ take a text = take-take a b text before in
+    let back : drop a (take b text) ≡ take (b - a) (drop a text) = ap (λ k. drop a (take k text)) (sym on) ∙ drop-take a (b - a) text in
+    let parts : take b text ≡ take a text ++ take (b - a) (drop a text) =
+    sym (take-append-drop a (take b text)) ∙ ap (λ xs. xs ++ drop a (take b text)) front ∙ ap (λ xs. take a text ++ xs) back in
+    ap (count_by ends_line) parts ∙ sum_by-append (λ c. cond (ends_line c) 1 0) (take a text) (take (b - a) (drop a text))

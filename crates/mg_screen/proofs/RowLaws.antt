@@ -5,7 +5,7 @@ use Rattle.mg_screen.specs.Cells.{cells, width_of, width_if, shown_cells, cells_
 use Rattle.mg_screen.specs.Rows.{text_row, filled_row, cut_row}
 use Rattle.mg_screen.proofs.CellLaws.{has_width, beginning_whole, encode_utf8_all-append}
 
-one_char : (c : ℕ) → encode_utf8 c ≡ encode_utf8_all (c ∷ [])
+pub one_char : (c : ℕ) → encode_utf8 c ≡ encode_utf8_all (c ∷ [])
 one_char c = sym (append-nil (encode_utf8 c))
 
 -- a row that was empty

@@ -6,5 +6,6 @@ pub mod Lines
 pub mod Screen
 pub mod Frame
 pub mod Cursor
+pub mod Sideways
 pub mod Layout
 pub mod Inside

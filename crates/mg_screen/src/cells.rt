@@ -1,5 +1,5 @@
 //! What a character shows in a row, and how wide it is.
-ghost use Rattle.std.specs.Prelude.{◌≡◌, ◌≤◌, chars, replicate, OnOk};
+ghost use Rattle.std.specs.Prelude.{◌≡◌, ◌≤◌, ◌-◌, chars, replicate, OnOk};
 ghost use Rattle.mg_screen.specs.Written.{AddsCharacters};
 ghost use Rattle.mg_screen.specs.Cells as spec;
 
@@ -10,7 +10,7 @@ use unicode_width::UnicodeWidthChar;
 pub(crate) const TAB_STOP: usize = 8;
 
 /// How wide the cell of a character is that begins at this column.
-fn cell_width(column: usize, c: char) -> usize
+pub(crate) fn cell_width(column: usize, c: char) -> usize
     ensures width { result ≡ (spec.cell_of column c).width }
     ensures bound { result ≤ spec.tab_stop }
 {
@@ -48,34 +48,53 @@ fn push_cell(row: &mut String, column: usize, c: char) -> Result<(), AllocError>
     }
 }
 
-/// The width of a line where it is at most `most`.
-pub(crate) fn width_within(line: &[char], most: usize) -> Option<usize>
-    ensures { result ≡ spec.width_if (spec.cells line.now) most }
+/// The width of a line that begins at a column, where it ends at `end` at the latest.
+pub(crate) fn width_between(line: &[char], start: usize, end: usize) -> Option<usize>
+    requires { start ≤ end }
+    ensures { result ≡ spec.width_if (spec.cells_from start line.now) (end - start) }
 {
-    let mut column = 0;
+    let mut column = start;
     for c in line {
         let width = cell_width(column, *c);
-        if width > most - column {
+        if width > end - column {
             return None;
         }
         column += width;
     }
-    Some(column)
+    Some(column - start)
+}
+
+/// The width of a line where it is at most `most`.
+pub(crate) fn width_within(line: &[char], most: usize) -> Option<usize>
+    ensures { result ≡ spec.width_if (spec.cells line.now) most }
+{
+    width_between(line, 0, most)
+}
+
+/// The width of the longest beginning of whole cells of a line that begins at a column, where that
+/// is not to end behind `end`.
+pub(crate) fn beginning_between(line: &[char], start: usize, end: usize) -> usize
+    requires { start ≤ end }
+    ensures exact { let cells = spec.cells_within (end - start) (spec.cells_from start line.now) in
+        result ≡ spec.width_of cells }
+    ensures fits { result ≤ end - start }
+{
+    let mut column = start;
+    for c in line {
+        let width = cell_width(column, *c);
+        if width > end - column {
+            return column - start;
+        }
+        column += width;
+    }
+    column - start
 }
 
 /// The width of the longest beginning of whole cells of a line whose width is at most `most`.
 pub(crate) fn beginning_width(line: &[char], most: usize) -> usize
     ensures { result ≡ spec.width_of (spec.cells_within most (spec.cells line.now)) }
 {
-    let mut column = 0;
-    for c in line {
-        let width = cell_width(column, *c);
-        if width > most - column {
-            return column;
-        }
-        column += width;
-    }
-    column
+    beginning_between(line, 0, most)
 }
 
 /// The same of a text.
@@ -93,19 +112,34 @@ pub(crate) fn text_width(text: &str, most: usize) -> usize
     column
 }
 
-/// Writes the longest beginning of whole cells of a line whose width is at most `most`.
-pub(crate) fn push_beginning(row: &mut String, line: &[char], most: usize) -> Result<(), AllocError>
-    ensures { let cells = spec.cells_within most (spec.cells line.now) in
+/// Writes the longest beginning of whole cells of a line that begins at a column, where that is not
+/// to end behind `end`.
+pub(crate) fn push_between(
+    row: &mut String,
+    line: &[char],
+    start: usize,
+    end: usize,
+) -> Result<(), AllocError>
+    requires { start ≤ end }
+    ensures { let cells = spec.cells_within (end - start) (spec.cells_from start line.now) in
         OnOk result (AddsCharacters (spec.shown_cells cells) row.old row.new) }
 {
-    let mut column = 0;
+    let mut column = start;
     for c in line {
         let width = cell_width(column, *c);
-        if width > most - column {
+        if width > end - column {
             return Ok(());
         }
         push_cell(row, column, *c)?;
         column += width;
     }
     Ok(())
+}
+
+/// Writes the longest beginning of whole cells of a line whose width is at most `most`.
+pub(crate) fn push_beginning(row: &mut String, line: &[char], most: usize) -> Result<(), AllocError>
+    ensures { let cells = spec.cells_within most (spec.cells line.now) in
+        OnOk result (AddsCharacters (spec.shown_cells cells) row.old row.new) }
+{
+    push_between(row, line, 0, most)
 }

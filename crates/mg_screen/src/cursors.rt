@@ -6,7 +6,7 @@ ghost use Rattle.mg_screen.specs.Frame.{screen_rows};
 ghost use Rattle.mg_screen.specs.Cursor as spec;
 
 use crate::cells::{beginning_width, text_width, width_within};
-use crate::lines::{column_of, line_end};
+use crate::lines::{column_of, line_at};
 use crate::screen::{Pane, Position, Screen};
 
 /// How many columns the cells of a line take that its row shows.
@@ -40,13 +40,11 @@ fn place_column(columns: usize, text: &[char], place: usize) -> usize
     ensures { result ≡ spec.place_column columns text.now place }
 {
     let count = column_of(text, place);
-    let start = place - count;
-    let end = line_end(text, start);
-    column_behind(columns, &text[start..end], count)
+    column_behind(columns, line_at(text, place, count), count)
 }
 
 /// The cursor of a window that stands below so many rows.
-fn pane_cursor(columns: usize, above: usize, pane: &Pane) -> Option<Position>
+pub(crate) fn pane_cursor(columns: usize, above: usize, pane: &Pane) -> Option<Position>
     requires some { 0 < columns }
     requires above { above ≤ most_rows }
     ensures { result ≡ spec.pane_cursor columns above pane.now }
@@ -62,7 +60,7 @@ fn pane_cursor(columns: usize, above: usize, pane: &Pane) -> Option<Position>
 }
 
 /// The rows of windows, each with its mode line.
-fn rows_of_panes(panes: &[Pane]) -> usize
+pub(crate) fn rows_of_panes(panes: &[Pane]) -> usize
     requires { sum_by (λ p. p.height + 1) panes.now ≤ most_rows }
     ensures { result ≡ sum_by (λ p. p.height + 1) panes.now }
 {

@@ -13,7 +13,7 @@ use crate::screen::{FrameFault, Pane, Screen};
 use crate::text_rows::push_text_rows;
 use std::alloc::{AllocError, Global};
 
-fn push_pane(
+pub(crate) fn push_pane(
     alloc: Global,
     columns: usize,
     pane: &Pane,
@@ -28,7 +28,7 @@ fn push_pane(
     push_row(rows, mode_row(alloc, columns, pane)?)
 }
 
-fn echo_row(alloc: Global, columns: usize, echo: &str) -> Result<String, AllocError>
+pub(crate) fn echo_row(alloc: Global, columns: usize, echo: &str) -> Result<String, AllocError>
     ensures { IfOk result (λ row. Spells (cut_row columns (chars echo.now)) row) }
 {
     cut_row(alloc, columns, &characters(alloc, echo)?)

@@ -2,6 +2,7 @@
 ghost use Rattle.std.specs.Prelude.{◌≡◌, ℕ, ◌≤◌, ◌+◌, ◌-◌, List, length, drop, count_by};
 ghost use Rattle.std.specs.List.{position_or_len};
 ghost use Rattle.mg_screen.specs.declared.lines.TheConstants.{BLOCK};
+ghost use Rattle.mg_screen.specs.Cursor.{place_line};
 ghost use Rattle.mg_screen.specs.Lines as spec;
 
 /// How many characters are looked at together, where newlines are counted or looked for: so many
@@ -37,8 +38,8 @@ fn blocks_before(text: &[char], place: usize) -> usize
     begin
 }
 
-/// How many characters stand between the begin of its line and a place.
-pub(crate) fn column_of(text: &[char], place: usize) -> usize
+/// How many characters stand between the begin of its line and a place. Takes no memory.
+pub fn column_of(text: &[char], place: usize) -> usize
     requires { place ≤ length text.now }
     ensures exact { result ≡ spec.column_of text.now place }
 {
@@ -106,6 +107,31 @@ pub(crate) fn line_end(text: &[char], start: usize) -> usize
 {
     let near = blocks_behind(text, start);
     near + front_len(&text[near..])
+}
+
+/// The line in which a place stands, with so many characters of it before that.
+pub(crate) fn line_at(text: &[char], place: usize, count: usize) -> &[char]
+    requires within { place ≤ length text.now }
+    requires column { count ≡ spec.column_of text.now place }
+    ensures exact { result.now ≡ place_line text.now place }
+    ensures within { count ≤ length result.now }
+{
+    let start = place - count;
+    let end = line_end(text, start);
+    &text[start..end]
+}
+
+/// How many newlines a text has.
+pub(crate) fn newlines_of(text: &[char]) -> usize
+    ensures { result ≡ count_by spec.ends_line text.now }
+{
+    let mut count = 0;
+    for c in text {
+        if *c == '\n' {
+            count += 1;
+        }
+    }
+    count
 }
 
 /// Where the line begins in which a place stands.
