@@ -1,0 +1,6 @@
+mod RunLemmas
+mod ReportLemmas
+mod PlaceLemmas
+mod WrittenLaws
+mod MemoryLaws
+mod FaultLaws

@@ -1,0 +1,132 @@
+-- How a report stands to the line of operations with the same bytes.
+use Rattle.std.proofs.Common.{◌≡◌, ◌≢◌, ℕ, ◌≤◌, Bool, true, false, List, length, Option, Some, None, Ok, Err, if◌then◌else◌, refl, sym, ap, ◌∙◌, codes, nat_lt, le-ltb}
+use Rattle.std.specs.Prelude.{option_and_then}
+use Rattle.std.specs.Str.{IsUtf8, is_utf8, bytes_eq}
+use Rattle.std.proofs.lemmas.Bool.{ltb-false}
+use Rattle.std.proofs.lemmas.Str.{is_utf8-from_IsUtf8, IsUtf8-from_is_utf8}
+use Rattle.std.proofs.lemmas.Slice.Eq.{bytes_eq-Decides}
+use Rattle.serde_json.specs.Data.{Data, null, boolean, number, string, array, object}
+use Rattle.serde_json.specs.Events.{members_len}
+use Rattle.serde_json.specs.Read.{read}
+use Rattle.serde_json.specs.Find.{get_member, as_str}
+use Rattle.rga_table.specs.declared.line.Line.{Line}
+use Rattle.rga_table.specs.declared.fault.LineFault.{LineFault}
+use Rattle.rga_table.specs.declared.fault.LineFault.TheVariants as fault
+use Rattle.rga_table.specs.Table as table
+use Rattle.rga_table.specs.Table.{AnyReading, value_line, text_line, any_line_at}
+use Rattle.mg_events.specs.Reports.{ReportReading, member_count, paste, splice, size, places, rest, operations_report, of_kind, with_name, value_report, text_report, report_at}
+
+abbrev of_other_kind : AnyReading
+of_other_kind = Err fault.Kind
+
+-- ---- by value
+
+unless_named : (name word : List ℕ) (said : AnyReading) (first others : ReportReading) → (name ≡ word → said ≡ of_other_kind) → said ≢ of_other_kind
+    → others ≡ operations_report said → (if bytes_eq name word then first else others) ≡ operations_report said
+unless_named name word said first others unknown other same = by (bytes_eq name word) refl
+  where
+    by : (b : Bool) → bytes_eq name word ≡ b → (if b then first else others) ≡ operations_report said
+    by true e = absurd (other (unknown ((bytes_eq-Decides name word).0 e)))
+    by false e = same
+
+named_other : (said : AnyReading) (n : ℕ) (d : Data) (name : List ℕ) → said ≡ table.of_kind n d name → said ≢ of_other_kind
+    → of_kind said d name ≡ operations_report said
+named_other said n d name is other =
+    let m : ℕ = member_count d in
+    let last : ReportReading = operations_report said in
+    let rests : ReportReading = (if bytes_eq name (codes "rest") then rest m else last) in
+    let placed : ReportReading = (if bytes_eq name (codes "places") then places m d else rests) in
+    let sized : ReportReading = (if bytes_eq name (codes "size") then size m d else placed) in
+    let spliced : ReportReading = (if bytes_eq name (codes "splice") then splice m d else sized) in
+    unless_named name (codes "paste") said (paste m d) spliced (λ e. is ∙ ap (table.of_kind n d) e) other
+    (unless_named name (codes "splice") said (splice m d) sized (λ e. is ∙ ap (table.of_kind n d) e) other
+    (unless_named name (codes "size") said (size m d) placed (λ e. is ∙ ap (table.of_kind n d) e) other
+    (unless_named name (codes "places") said (places m d) rests (λ e. is ∙ ap (table.of_kind n d) e) other
+    (unless_named name (codes "rest") said (rest m) last (λ e. is ∙ ap (table.of_kind n d) e) other refl))))
+
+op_other : (said : AnyReading) (n : ℕ) (d : Data) (op : Option Data) → said ≡ table.with_op n d op → said ≢ of_other_kind
+    → with_name said d (option_and_then as_str op) ≡ operations_report said
+op_other said n d None is other = refl
+op_other said n d (Some op) is other = by (as_str op) is
+  where
+    by : (name : Option (List ℕ)) → said ≡ table.with_name n d name → with_name said d name ≡ operations_report said
+    by None said_is = refl
+    by (Some name) said_is = named_other said n d name said_is other
+
+value_other : (d : Data) → value_line d ≢ of_other_kind → value_report d ≡ operations_report (value_line d)
+unfolding value_report value_line
+value_other null other = refl
+value_other (boolean b) other = refl
+value_other (number n) other = refl
+value_other (string s) other = refl
+value_other (array ds) other = refl
+value_other (object ms) other =
+    op_other (value_line (object ms)) (members_len ms) (object ms) (get_member (codes "op") ms) refl other
+
+-- ---- by bytes
+
+abbrev line_by : Bool → Bool → Option Data → AnyReading
+line_by long utf8 d = if long then Err fault.Long else text_line utf8 d
+
+abbrev report_by : Bool → Bool → Option Data → ReportReading
+report_by long utf8 d = if long then Err fault.Long else text_report utf8 d
+
+parts_other : (long utf8 : Bool) (d : Option Data) → line_by long utf8 d ≢ of_other_kind → report_by long utf8 d ≡ operations_report (line_by long utf8 d)
+parts_other true utf8 d other = refl
+parts_other false true (Some d) other = value_other d other
+parts_other false true None other = refl
+parts_other false false d other = refl
+
+pub line_other : (bytes : List ℕ) → any_line_at bytes ≢ of_other_kind → report_at bytes ≡ operations_report (any_line_at bytes)
+unfolding any_line_at report_at
+line_other bytes other = parts_other (nat_lt 65536 (length bytes)) (is_utf8 bytes) (read bytes) other
+
+-- ---- what was said of the bytes as a line of operations
+
+pub operations_said : (bytes : List ℕ) (said : Line) (r : ReportReading) → (Ok said ≢ Err fault.Memory → Ok said ≡ any_line_at bytes)
+    → r ≡ operations_report (Ok said) → r ≡ report_at bytes
+operations_said bytes said r exact is =
+    let known : Ok said ≡ any_line_at bytes = exact (λ e. cc) in
+    is ∙ (ap operations_report known ∙ sym (line_other bytes (λ e. ok_is_no_fault said (known ∙ e))))
+  where
+    ok_is_no_fault : (x : Line) → Ok x ≡ of_other_kind → ⊥
+    ok_is_no_fault x e = cc
+
+abbrev fault_of : AnyReading → LineFault
+fault_of (Ok said) = fault.Memory
+fault_of (Err e) = e
+
+pub fault_said : (bytes : List ℕ) (e : LineFault) (r : ReportReading) → (e ≢ fault.Memory → any_line_at bytes ≡ Err e) → e ≢ fault.Kind
+    → r ≡ Err e → r ≢ Err fault.Memory → r ≡ report_at bytes
+fault_said bytes e r known other is no_memory =
+    let said : any_line_at bytes ≡ Err e = known (λ m. no_memory (is ∙ ap (λ f. Err f) m)) in
+    is ∙ (ap operations_report (sym said) ∙ sym (line_other bytes (λ k. other (ap fault_of (sym said ∙ k)))))
+
+-- ---- what the value says
+
+pub is_short : (bytes : List ℕ) → any_line_at bytes ≡ Err fault.Kind → length bytes ≤ 65536
+unfolding any_line_at
+is_short bytes e = by (nat_lt 65536 (length bytes)) refl e
+  where
+    by : (b : Bool) → nat_lt 65536 (length bytes) ≡ b → line_by b (is_utf8 bytes) (read bytes) ≡ Err fault.Kind → length bytes ≤ 65536
+    by true long said = absurd cc
+    by false short said = ltb-false 65536 (length bytes) short
+
+is_refused : (utf8 : Bool) (value : Option Data) → (utf8 ≡ true → value ≡ None) → text_report utf8 value ≡ Err fault.Json
+is_refused true value h = rw (h refl)
+is_refused false value h = refl
+
+pub refused : (bytes : List ℕ) → length bytes ≤ 65536 → (IsUtf8 bytes → read bytes ≡ None) → report_at bytes ≡ Err fault.Json
+unfolding report_at
+refused bytes h none = rw (le-ltb _ _ h) (is_refused (is_utf8 bytes) (read bytes) (λ e. none (IsUtf8-from_is_utf8 bytes e)))
+
+pub accepted : (bytes : List ℕ) (d : Data) → length bytes ≤ 65536 → IsUtf8 bytes → read bytes ≡ Some d → report_at bytes ≡ value_report d
+unfolding report_at
+accepted bytes d h text e =
+    rw (le-ltb _ _ h) (ap (λ (b : Bool). text_report b (read bytes)) (is_utf8-from_IsUtf8 bytes text) ∙ ap (text_report true) e)
+
+pub kind_said : (bytes : List ℕ) (e : LineFault) → (e ≢ fault.Memory → any_line_at bytes ≡ Err e) → e ≡ fault.Kind → any_line_at bytes ≡ Err fault.Kind
+kind_said bytes e known is = known (λ m. kind_is_other (sym is ∙ m)) ∙ ap (λ f. Err f) is
+  where
+    kind_is_other : fault.Kind ≡ fault.Memory → ⊥
+    kind_is_other k = cc

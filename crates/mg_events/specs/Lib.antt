@@ -1,0 +1,4 @@
+pub mod Reports
+pub mod Reading
+pub mod Written
+pub mod Faults

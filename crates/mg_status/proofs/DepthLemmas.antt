@@ -1,0 +1,131 @@
+-- A status nests no deeper than a reader of JSON goes, and so it is read back.
+use Rattle.std.proofs.Common.{◌≡◌, ℕ, ◌≤◌, List, [], ◌∷◌, ◌++◌, map, Option, Some, None, option_and_then, sym, ap, subst, ◌∙◌, arith, append-nil, lit≤}
+use Rattle.std.specs.Borrow.{Bor}
+use Rattle.json.specs.Json.{Json, value, if_last, document, max_depth}
+use Rattle.json.specs.Token.{Token}
+use Rattle.json.specs.Lex.{tokens}
+use Rattle.json.specs.Print.{print}
+use Rattle.json.specs.Tree.{json_tokens, depth, items_depth, members_depth}
+use Rattle.json.proofs.Printed.Trees.{value-json_tokens}
+use Rattle.rga_ops.specs.Splice.{Splice}
+use Rattle.mg_screen.specs.declared.screen.Position.{Position}
+use Rattle.mg_status.specs.Objects.{Member, items_of, members_of, value_or_null}
+use Rattle.mg_status.specs.StatusText.{
+  buffer_parts,
+  buffer_json,
+  splice_parts,
+  splice_json,
+  prompt_parts,
+  prompt_json,
+  position_json,
+  place_json,
+  point_json,
+  count_and_text,
+  refused_json,
+  window_json,
+  changes_members,
+  buffer_members,
+  live_members,
+  echo_members,
+  point_members,
+  report_members,
+  status_members,
+  status_json,
+}
+use Rattle.mg_status.specs.declared.status.BufferStatus.{BufferStatus}
+use Rattle.mg_status.specs.declared.status.PlaceStatus.{PlaceStatus}
+use Rattle.mg_status.specs.declared.status.PointStatus.{PointStatus}
+use Rattle.mg_status.specs.declared.status.PromptStatus.{PromptStatus}
+use Rattle.mg_status.specs.declared.status.RefusedReport.{RefusedReport}
+use Rattle.mg_status.specs.declared.status.WindowStatus.{WindowStatus}
+use Rattle.mg_status.specs.declared.status.Status.{Status}
+
+-- what was written of a value, and is read as the tokens that were written, is that value
+pub read_back : (j : Json) (ts : List Token) → ts ≡ json_tokens j → tokens (print ts) ≡ ts → depth j ≤ max_depth → document (print (json_tokens j)) ≡ Some j
+read_back j ts written read shallow =
+    let same : tokens (print (json_tokens j)) ≡ json_tokens j = subst (λ (us : List Token). tokens (print us) ≡ us) written read in
+    ap (option_and_then (λ p. if_last p.0 p.1)) (ap (value max_depth) (same ∙ sym (append-nil (json_tokens j))) ∙ value-json_tokens j max_depth [] shallow)
+
+-- ---- how deep lists and members nest
+
+items_shallow : {A : Type 0} (f : A → Json) (n : ℕ) → ((x : A) → depth (f x) ≤ n) → (xs : List A) → items_depth (items_of (map f xs)) ≤ n
+items_shallow f n h [] = omega arith
+items_shallow f n h (x ∷ xs) = omega (arith, h x, items_shallow f n h xs)
+
+or_null_shallow : {A : Type 0} (f : A → Json) (n : ℕ) → ((x : A) → depth (f x) ≤ n) → (o : Option A) → depth (value_or_null f o) ≤ n
+or_null_shallow f n h None = omega arith
+or_null_shallow f n h (Some x) = h x
+
+appended : (ms ns : List Member) (n : ℕ) → members_depth (members_of ms) ≤ n → members_depth (members_of ns) ≤ n → members_depth (members_of (ms ++ ns)) ≤ n
+appended [] ns n h k = k
+appended (m ∷ ms) ns n h k = omega (arith, appended ms ns n (omega arith) k)
+
+-- ---- the values of members
+
+buffer_depth : (b : BufferStatus) → depth (buffer_json b) ≤ 2
+unfolding buffer_parts
+buffer_depth b = lit≤ tt
+
+splice_depth : (s : Splice) → depth (splice_json s) ≤ 1
+unfolding splice_parts
+splice_depth s = lit≤ tt
+
+prompt_depth : (p : PromptStatus) → depth (prompt_json p) ≤ 2
+unfolding prompt_parts
+prompt_depth p = lit≤ tt
+
+position_depth : (p : Position) → depth (position_json p) ≤ 2
+unfolding position_json
+position_depth p = lit≤ tt
+
+place_depth : (p : PlaceStatus) → depth (place_json p) ≤ 1
+unfolding place_json
+place_depth p = lit≤ tt
+
+point_depth : (p : PointStatus) → depth (point_json p) ≤ 2
+unfolding point_json
+point_depth p = lit≤ tt
+
+refused_depth : (r : RefusedReport) → depth (refused_json r) ≤ 1
+unfolding count_and_text
+refused_depth r = lit≤ tt
+
+window_depth : (w : WindowStatus) → depth (window_json w) ≤ 1
+unfolding count_and_text
+window_depth w = lit≤ tt
+
+-- ---- the members
+
+changes_depth : (o : Option (Bor (List Splice))) → members_depth (members_of (changes_members o)) ≤ 2
+changes_depth None = omega arith
+changes_depth (Some splices) = omega (arith, items_shallow splice_json 1 splice_depth splices.now)
+
+buffer_members_depth : (s : Status) → members_depth (members_of (buffer_members s)) ≤ 2
+unfolding buffer_members
+buffer_members_depth s = omega (arith, buffer_depth s.buffer, changes_depth s.changes)
+
+live_members_depth : (s : Status) → members_depth (members_of (live_members s)) ≤ 2
+unfolding live_members
+live_members_depth s = omega (arith, or_null_shallow position_json 2 position_depth s.cursor, or_null_shallow buffer_json 2 buffer_depth s.live)
+
+echo_members_depth : (s : Status) → members_depth (members_of (echo_members s)) ≤ 2
+unfolding echo_members
+echo_members_depth s = omega arith
+
+point_members_depth : (s : Status) → members_depth (members_of (point_members s)) ≤ 2
+unfolding point_members
+point_members_depth s = omega (arith, items_shallow place_json 1 place_depth s.places.now, point_depth s.point, or_null_shallow prompt_json 2 prompt_depth s.prompt)
+
+report_members_depth : (s : Status) → members_depth (members_of (report_members s)) ≤ 2
+unfolding report_members
+report_members_depth s = omega (arith, items_shallow refused_json 1 refused_depth s.refused.now, items_shallow window_json 1 window_depth s.windows.now)
+
+members_depth_of : (s : Status) → members_depth (members_of (status_members s)) ≤ 2
+unfolding status_members
+members_depth_of s =
+    appended (buffer_members s) _ 2 (buffer_members_depth s)
+    (appended (live_members s) _ 2 (live_members_depth s)
+    (appended (echo_members s) _ 2 (echo_members_depth s) (appended (point_members s) _ 2 (point_members_depth s) (report_members_depth s))))
+
+pub status_depth : (s : Status) → depth (status_json s) ≤ max_depth
+status_depth s = omega (arith, members_depth_of s)

@@ -1,0 +1,2 @@
+pub mod AddedLemmas
+pub mod DepthLemmas

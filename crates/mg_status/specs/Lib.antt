@@ -1,0 +1,3 @@
+pub mod Objects
+pub mod StatusText
+pub mod Added
