@@ -8,4 +8,5 @@ pub mod StandInLaws
 pub mod OldLaws
 pub mod HistoryLaws
 pub mod TakingLaws
+pub mod ElementLaws
 pub mod KeptLaws

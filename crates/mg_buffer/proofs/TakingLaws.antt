@@ -10,7 +10,7 @@ use Rattle.rga_ops.proofs.ContentLaws.{join_nothing}
 use Rattle.rga_ops.proofs.NewLaws.{new_if_new, none_if_known}
 use Rattle.rga_ops.proofs.TakenLaws.{held_adds_nothing}
 use Rattle.rga_store.proofs.TakingLaws.{joined_taken}
-use Rattle.mg_buffer.specs.Following.{TakesUnsaved}
+use Rattle.mg_buffer.specs.Following.{TakesUnsaved, with_operations}
 use Rattle.mg_buffer.specs.Ran.{Edited, operations_of_splices}
 use Rattle.mg_buffer.specs.Undid.{Reverted, undo_operations}
 
@@ -31,6 +31,13 @@ all_are_added b d ops is = subst (TakesOperations b ops) (sym is) (record { cont
 pub new_is_added : (b d : State) (op : Op) → answer b.limit b.content op ≡ Ok New → d ≡ record b { content = join b.content (single op); unsaved = b.unsaved ++ op ∷ [] } → TakesOperations b (op ∷ []) d
 new_is_added b d op new is =
     all_are_added b d (op ∷ []) (is ∙ (λ k. record b { content = join b.content (sym (join_nothing (single op)) k); unsaved = b.unsaved ++ sym (new_if_new b.limit b.content op new) k }))
+
+-- what was taken is all that changed
+pub as_stated : {b d : State} {ops : List Op} → TakesOperations b ops d → d ≡ with_operations ops b
+as_stated {b} {d} {ops} t = t.rest ∙ (λ k. record b { content = t.content k; unsaved = t.unsaved k })
+
+pub nothing_stated : {b d : State} → TakesOperations b [] d → d ≡ b
+nothing_stated {b} {d} t = as_stated t ∙ sym (as_stated (takes_no_operations b))
 
 -- ---- own operations
 

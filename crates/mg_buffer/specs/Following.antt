@@ -21,6 +21,10 @@ pub record TakesOperations (b : State) (ops : List Op) (d : State) : Type 0 wher
   pub unsaved : d.unsaved ≡ b.unsaved ++ new_operations b.content ops
   pub rest : d ≡ record b { content = d.content; unsaved = d.unsaved }
 
+-- the buffer that has taken them
+abbrev pub with_operations : List Op → State → State
+with_operations ops b = record b { content = join b.content (content_of ops); unsaved = b.unsaved ++ new_operations b.content ops }
+
 -- to take nothing changes nothing
 pub takes_no_operations : (b : State) → TakesOperations b [] b
 takes_no_operations b = record { content = sym (join_nothing b.content); unsaved = sym (append-nil b.unsaved); rest = refl }

@@ -10,3 +10,4 @@ pub mod Faults
 pub mod Ran
 pub mod Undid
 pub mod Following
+pub mod Carried

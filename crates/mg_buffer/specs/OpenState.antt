@@ -1,7 +1,8 @@
 -- A buffer that is open, as its callers see it.
-use Rattle.std.specs.Prelude.{Bool, true, false, ◌||◌, List, [], ◌∷◌, refl}
+use Rattle.std.specs.Prelude.{ℕ, Bool, true, false, not, ◌||◌, ◌&&◌, ◌==◌, nat_lt, List, [], ◌∷◌, length, refl}
 use Rattle.std.specs.Coded.{Coded, code_by, coded×, coded_bool}
 use Rattle.rga_ops.specs.declared.op.Op.{Op}
+use Rattle.rga_ops.specs.declared.op.Op.TheVariants.{Insert, Delete}
 use Rattle.mg_buffer.specs.State.{State, state_code}
 
 -- the buffer; whether the next writing of its log is a whole one; whether the log has operations that were written since
@@ -42,3 +43,23 @@ has_unsaved b = are_any b.buffer.unsaved
 -- there is something to save
 abbrev pub is_changed : OpenState → Bool
 is_changed b = has_unsaved b || b.text_waits
+
+-- ---- what became of it since its load
+
+-- a command or an undo made something since then: a load leaves no undo group, and each that made operations leaves one
+abbrev pub has_made : OpenState → Bool
+has_made b = nat_lt 0 (length b.buffer.groups)
+
+-- the insertion of the first character of a text that a replica loaded without a log
+abbrev pub is_first_loaded : ℕ → Op → Bool
+is_first_loaded replica (Insert id parent ch) = (id.counter == 1) && (id.replica == replica)
+is_first_loaded replica (Delete id) = false
+
+-- operations that are unsaved since such a load begin with it
+abbrev pub begin_as_loaded : ℕ → List Op → Bool
+begin_as_loaded replica [] = false
+begin_as_loaded replica (op ∷ ops) = is_first_loaded replica op
+
+-- something was made in it since its load, or it is no longer as it was loaded
+abbrev pub is_touched : OpenState → Bool
+is_touched b = has_made b || b.whole || b.text_waits || not (begin_as_loaded b.buffer.replica b.buffer.unsaved)

@@ -1,5 +1,5 @@
 //! Buffers: a document with a name, point, mark, undo groups and unsaved operations.
-ghost use Rattle.std.specs.Prelude.{◌≡◌, [], true, false, Some, None, encode_utf8_all, IfOk, IfErr, IfSome};
+ghost use Rattle.std.specs.Prelude.{◌≡◌, ◌≤◌, [], true, false, Some, None, length, encode_utf8_all, IfOk, IfErr, IfSome};
 ghost use Rattle.std.specs.Option.{option_map};
 ghost use Rattle.std.specs.String.{string_bytes};
 ghost use Rattle.rga_ops.specs.Prelude.{place, text};
@@ -177,6 +177,38 @@ impl<S: TextStore> Buffer<S> {
     {
         if self.listed {
             Some(self.line.number)
+        } else {
+            None
+        }
+    }
+
+    /// The element that point stands after. Takes no memory.
+    pub fn point(&self) -> Id
+        ensures { result ≡ self.now.point }
+    {
+        self.point.element
+    }
+
+    /// The text, lent. `None` if the buffer is not listed. Takes no memory.
+    pub fn text(&self) -> Option<&[char]>
+        ensures { IfSome result (λ characters. characters.now ≡ text self.now.content) }
+    {
+        if self.listed {
+            Some(self.doc.characters())
+        } else {
+            None
+        }
+    }
+
+    /// How many characters stand before point. `None` if the buffer is not listed. Takes no memory.
+    #[tactic(auto, using(crate::proofs::PlaceLaws::placed_within))]
+    pub fn place(&self) -> Option<usize>
+        ensures exact { let b = self.now in
+            IfSome result (λ place. place ≡ place_of b.content b.point) }
+        ensures within { IfSome result (λ place. place ≤ length (text self.now.content)) }
+    {
+        if self.listed {
+            Some(self.point.place)
         } else {
             None
         }

@@ -7,12 +7,14 @@
 //! for the document, on mg_plain for what commands do, and on rga_store for what is found before
 //! anything is changed; it is generic over any `TextStore`. The layer above may rest on three
 //! records of facts, one for each way in which a buffer changes: `Ran` of a command, `Undid` of an
-//! undo, `TakesOperations` of operations that were taken. A refusal changes nothing.
+//! undo, `TakesOperations` of operations that were taken. A refusal changes nothing. Other places
+//! than point and mark can be kept by the elements before them: `carried` says where they go.
 #![tactic(auto)]
 
 mod buffer;
 mod change;
 mod characters;
+mod elements;
 mod fault;
 mod group;
 mod history;

@@ -1,8 +1,10 @@
 //! Buffers that visit files, with what is still to be written of them.
 ghost use Rattle.std.specs.Prelude.{◌≡◌, [], true, false};
-ghost use Rattle.mg_buffer.specs.OpenState.{is_changed, with_brief, with_runs};
+ghost use Rattle.mg_buffer.specs.OpenState as spec;
+ghost use Rattle.mg_buffer.specs.OpenState.{has_made, is_changed, is_touched, with_brief, with_runs};
 
 use crate::buffer::Buffer;
+use rga_ops::Op;
 use rga_store::TextStore;
 use std::marker::Model;
 
@@ -96,6 +98,25 @@ impl<S: TextStore> VisitedBuffer<S> {
         !self.buffer.unsaved().is_empty() || self.text_waits
     }
 
+    /// Whether a command or an undo made something in it since it was loaded. Takes no memory.
+    pub fn has_made(&self) -> bool
+        ensures { result ≡ has_made self.now }
+    {
+        self.buffer.history.count() > 0
+    }
+
+    /// Whether something was made in it since it was loaded, or it is no longer as it was loaded: its
+    /// log is to be written whole, its text waits, or what is unsaved does not begin with the first
+    /// character of a text that was loaded without a log. Takes no memory.
+    pub fn is_touched(&self) -> bool
+        ensures { result ≡ is_touched self.now }
+    {
+        self.has_made()
+            || self.whole
+            || self.text_waits
+            || !begin_as_loaded(self.buffer.doc.replica(), self.buffer.unsaved())
+    }
+
     /// Whether the next writing of the log is a whole one. Takes no memory.
     pub fn writes_whole(&self) -> bool
         ensures { result ≡ self.now.whole }
@@ -128,5 +149,25 @@ impl<S: TextStore> VisitedBuffer<S> {
         ensures { self.new ≡ record self.old { text_waits = false } }
     {
         self.text_waits = false;
+    }
+}
+
+/// Whether it inserts the first character of a text that the replica loaded without a log.
+fn is_first_loaded(replica: u16, op: &Op) -> bool
+    ensures { result ≡ spec.is_first_loaded replica op.now }
+{
+    match op {
+        Op::Insert { id, .. } => id.counter() == 1 && id.replica() == replica,
+        Op::Delete { .. } => false,
+    }
+}
+
+/// Whether operations begin with that.
+fn begin_as_loaded(replica: u16, ops: &[Op]) -> bool
+    ensures { result ≡ spec.begin_as_loaded replica ops.now }
+{
+    match ops.first() {
+        Some(op) => is_first_loaded(replica, op),
+        None => false,
     }
 }

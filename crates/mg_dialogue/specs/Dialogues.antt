@@ -1,5 +1,5 @@
 -- What is talked with the user.
-use Rattle.std.specs.Prelude.{◌≡◌, ℕ, List, [], ◌∷◌, ◌++◌, Option, Some, None}
+use Rattle.std.specs.Prelude.{◌≡◌, ℕ, Bool, true, false, List, [], ◌∷◌, ◌++◌, Option, Some, None}
 use Rattle.std.specs.Option.{option_map_or}
 use Rattle.mg_keys.specs.Begun.{KeyState, HasBegun, Answers, fresh}
 use Rattle.mg_keys.specs.Meaning.{meaning}
@@ -12,7 +12,7 @@ use Rattle.mg_minibuffer.specs.declared.ending.Next.TheVariants.{Same, Closed, O
 use Rattle.mg_minibuffer.specs.declared.message.Message.{Message}
 use Rattle.mg_minibuffer.specs.declared.message.Message.TheVariants as message
 use Rattle.mg_minibuffer.specs.declared.prompt.Prompt.{Prompt}
-use Rattle.mg_minibuffer.specs.declared.prompt.Prompt.TheVariants.{Searching}
+use Rattle.mg_minibuffer.specs.declared.prompt.Prompt.TheVariants.{Line, Replacement, Searching}
 use Rattle.mg_minibuffer.specs.declared.prompt.Search.{Search}
 pub use Rattle.mg_minibuffer.specs.SearchStep.{or_last}
 
@@ -61,6 +61,21 @@ forgotten d = at_prompt d.prompt d
 abbrev pub search_of : Option Prompt → Option Search
 search_of (Some (Searching s)) = Some s
 search_of prompt = None
+
+-- an open search with another origin and another match
+abbrev pub prompt_with_places : ℕ → Option ℕ → Option Prompt → Option Prompt
+prompt_with_places origin found (Some (Searching s)) = Some (Searching (record s { origin = origin; found = found }))
+prompt_with_places origin found prompt = prompt
+
+abbrev pub with_places : ℕ → Option ℕ → Dialogue → Dialogue
+with_places origin found d = record d { prompt = prompt_with_places origin found d.prompt }
+
+-- what is typed goes into an answer, or into a pattern
+abbrev pub takes_text : Option Prompt → Bool
+takes_text (Some (Line asked answer)) = true
+takes_text (Some (Replacement pattern answer)) = true
+takes_text (Some (Searching s)) = true
+takes_text prompt = false
 
 -- without the search that is open, if one is
 abbrev pub without_search : Dialogue → Dialogue

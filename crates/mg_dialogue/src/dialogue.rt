@@ -1,5 +1,6 @@
 //! What is talked with the user: the keys, the open prompt, the message.
 ghost use Rattle.std.specs.Prelude.{◌≡◌, ◌↔◌, [], false, IfOk, Some, is_some};
+ghost use Rattle.std.specs.Option.{option_copied};
 ghost use Rattle.mg_keys.specs.Begun.{HasBegun};
 ghost use Rattle.mg_minibuffer.specs.PromptStep.{prompt_step};
 ghost use Rattle.mg_minibuffer.specs.declared.prompt.Prompt.{Prompt};
@@ -88,6 +89,27 @@ impl Dialogue {
         self.keys.enter(mode);
     }
 
+    /// The search that is open, lent. Takes no memory.
+    pub fn search(&self) -> Option<&Search>
+        ensures { option_copied result ≡ spec.search_of self.now.prompt }
+    {
+        match &self.prompt {
+            Some(Prompt::Searching(search)) => Some(search),
+            _ => None,
+        }
+    }
+
+    /// An open search has another origin and another match: where they are now that the text
+    /// changed. Takes no memory.
+    pub fn move_search(&mut self, origin: usize, found: Option<usize>)
+        ensures { self.new ≡ spec.with_places origin found self.old }
+    {
+        if let Some(Prompt::Searching(search)) = &mut self.prompt {
+            search.origin = origin;
+            search.found = found;
+        }
+    }
+
     /// An open search is closed, and given back. Takes no memory.
     pub fn take_search(&mut self) -> Option<Search>
         ensures found { result ≡ spec.search_of self.old.prompt }
@@ -132,7 +154,10 @@ impl Dialogue {
 
     /// Whether some bytes of a key sequence were read, and it is not whole yet. Takes no memory.
     pub fn is_amid_keys(&self) -> bool
-        ensures { (result ≡ false) ↔ HasBegun self.now.keys [] }
+        ensures begun { (result ≡ false) ↔ HasBegun self.now.keys [] }
+        // Where no prompt is open there is then nothing to forget.
+        ensures fresh { result ≡ false → self.now.prompt ≡ None →
+            spec.forgotten self.now ≡ self.now }
     {
         self.keys.has_begun()
     }
@@ -147,11 +172,37 @@ impl Dialogue {
         self.show(Next::Closed, Message::Nothing);
     }
 
+    /// The open prompt, lent. Takes no memory.
+    pub fn prompt(&self) -> Option<&Prompt>
+        ensures { option_copied result ≡ self.now.prompt }
+    {
+        self.prompt.as_ref()
+    }
+
+    /// What is said. Takes no memory.
+    pub fn message(&self) -> Message
+        ensures { result ≡ self.now.message }
+    {
+        self.message
+    }
+
     /// Whether a prompt is open. Takes no memory.
     pub fn has_prompt(&self) -> bool
         ensures { result ≡ is_some self.now.prompt }
     {
         self.prompt.is_some()
+    }
+
+    /// Whether what is typed goes into an answer, or into a pattern. Takes no memory.
+    pub fn takes_text(&self) -> bool
+        ensures { result ≡ spec.takes_text self.now.prompt }
+    {
+        match &self.prompt {
+            Some(Prompt::Line { .. }) | Some(Prompt::Replacement { .. }) => true,
+            Some(Prompt::Searching(_)) => true,
+            Some(Prompt::Replacing { .. }) | Some(Prompt::Quitting) => false,
+            None => false,
+        }
     }
 
     /// What a step leads to at the open prompt; `Accepts` where none is open. `AllocError` alone.

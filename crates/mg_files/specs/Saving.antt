@@ -91,3 +91,15 @@ pub record IsSaved (changed : Bool) (old new : Option (List Call)) (b d : OpenSt
 abbrev pub SavesTo : Result Bool PortFault → Option (List Call) → Option (List Call) → OpenState → OpenState → Type 0
 SavesTo (Ok changed) old new b d = IsSaved changed old new b d
 SavesTo (Err fault) old new b d = (step : SaveStep) × SaveFailed step fault old new b d
+
+-- ---- the log alone
+
+-- it has all operations, or it had them before
+pub record IsLogged (old new : Option (List Call)) (b d : OpenState) : Type 0 where
+  pub calls : Adds old new (log_calls b)
+  pub left : d ≡ logged b
+
+-- what bringing the log up to date leaves, by what it answers: the text is not put
+abbrev pub LogsTo : Result (Unit {0}) PortFault → Option (List Call) → Option (List Call) → OpenState → OpenState → Type 0
+LogsTo (Ok done) old new b d = IsLogged old new b d
+LogsTo (Err fault) old new b d = SaveFailed AtLog fault old new b d

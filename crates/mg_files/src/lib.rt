@@ -6,7 +6,8 @@
 //! and is generic over any `TextStore` and any port. The layer above may rest on three functions of
 //! `specs/`: what is found under a name decides, by `load_outcome`, what is loaded and why not; and
 //! what is to be written decides, by `save_calls` and `saved`, which calls a save makes and what it
-//! leaves. Where a call fails, `SaveFailed` says what was done before it.
+//! leaves. Where a call fails, `SaveFailed` says what was done before it. `log` is the first half of a
+//! save, and `LogsTo` says what it leaves.
 #![tactic(auto)]
 
 mod fault;
@@ -19,4 +20,4 @@ pub use fault::LoadFault;
 pub use lines::{LogLines, MAX_SINGLE};
 pub use loading::load;
 pub use port::{CallKind, Found, LinkFault, Port, PortFault};
-pub use saving::save;
+pub use saving::{log, save};

@@ -1,7 +1,7 @@
 //! How a buffer is saved.
-ghost use Rattle.std.specs.Prelude.{◌≡◌, false, IfErr, OnOk, OnErr};
+ghost use Rattle.std.specs.Prelude.{◌≡◌, false, OnOk, OnErr};
 ghost use Rattle.mg_files.specs.Calls.{Adds, told, failures_after};
-ghost use Rattle.mg_files.specs.Saving.{log_call, log_calls, text_call, logged, AtLog, SaveFailed, SavesTo};
+ghost use Rattle.mg_files.specs.Saving.{log_call, text_call, LogsTo, SavesTo};
 
 use crate::lines::LogLines;
 use crate::port::{Port, PortFault};
@@ -30,22 +30,23 @@ pub fn save<S: TextStore, P: Port>(
     if !opened.is_changed() {
         return Ok(false);
     }
-    save_log(alloc, opened, port)?;
+    log(alloc, opened, port)?;
     save_text(opened, port)?;
     Ok(true)
 }
 
-/// Writes the log where operations are unsaved. It then has all of them, or has to be written whole.
-fn save_log<S: TextStore, P: Port>(
+/// Brings the log up to date: where operations are unsaved it is appended to, or written whole, as
+/// by a save. The text stays, and waits then. Where nothing is unsaved, no call of the port is made.
+///
+/// `File` where the port refused the call, and `Memory`. After both the operations stay unsaved, and
+/// the next writing of the log is a whole one. In no case does it change the text, point, mark or
+/// groups.
+pub fn log<S: TextStore, P: Port>(
     alloc: Global,
     opened: &mut VisitedBuffer<S>,
     port: &mut P,
 ) -> Result<(), PortFault>
-    ensures calls { OnOk result
-        (Adds (P.calls port.old) (P.calls port.new) (log_calls opened.old)) }
-    ensures logged { OnOk result (opened.new ≡ logged opened.old) }
-    ensures failed { IfErr result (λ fault.
-        SaveFailed AtLog fault (P.calls port.old) (P.calls port.new) opened.old opened.new) }
+    ensures logs { LogsTo result (P.calls port.old) (P.calls port.new) opened.old opened.new }
     ensures links { P.links port.new ≡ P.links port.old }
     ensures device { P.failures port.new ≡ failures_after result (P.failures port.old) }
 {

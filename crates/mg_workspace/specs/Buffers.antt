@@ -46,6 +46,10 @@ buffer_at i bs = get_or bs.all i no_buffer
 abbrev pub current_buffer : Buffers → OpenState
 current_buffer bs = buffer_at bs.current bs
 
+-- with another at an index
+abbrev pub with_at : ℕ → Buffers → OpenState → Buffers
+with_at i bs b = record bs { all = slice_set bs.all i b }
+
 -- with another as the current one
 abbrev pub with_current : Buffers → OpenState → Buffers
 with_current bs b = record bs { all = slice_set bs.all bs.current b }

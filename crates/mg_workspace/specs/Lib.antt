@@ -4,5 +4,6 @@ pub mod Failures
 pub mod Viewports
 pub mod Workspaces
 pub mod Actions
+pub mod AtIndex
 pub mod Opening
 pub mod Showing

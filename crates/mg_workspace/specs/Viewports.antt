@@ -33,6 +33,10 @@ window_without gone w = window w.height (viewport (moved gone w.shown.buffer) w.
 abbrev pub layout_without : ℕ → Layout Viewport → Layout Viewport
 layout_without gone l = layout (map (window_without gone) l.windows) l.current
 
+-- the index of the buffer that each window shows
+abbrev pub shown_buffers : List (Window Viewport) → List ℕ
+shown_buffers ws = map (λ (w : Window Viewport). w.shown.buffer) ws
+
 -- each window shows one of so many buffers
 abbrev pub ShowThese : ℕ → List (Window Viewport) → Type 0
 ShowThese count ws = AllByRecursion (λ w. w.shown.buffer < count) ws

@@ -36,9 +36,17 @@ workspace_buffer w = buffers.current_buffer w.buffers
 abbrev pub with_workspace_buffer : Workspace → OpenState → Workspace
 with_workspace_buffer w b = record w { buffers = buffers.with_current w.buffers b }
 
--- a task of the current buffer was done, or failed for that
+-- with another as the buffer at an index
+abbrev pub with_buffer_at : ℕ → Workspace → OpenState → Workspace
+with_buffer_at i w b = record w { buffers = buffers.with_at i w.buffers b }
+
+-- a task of the buffer at an index was done, or failed for that
+abbrev pub with_task_at : ℕ → Task → Option Failure → Workspace → Workspace
+with_task_at i task why w = record w { failures = noted i task why w.failures }
+
+-- the same of the current buffer
 abbrev pub with_task : Task → Option Failure → Workspace → Workspace
-with_task task why w = record w { failures = noted w.buffers.current task why w.failures }
+with_task task why w = with_task_at w.buffers.current task why w
 
 -- what a step is decided from
 abbrev pub scene_of : Workspace → scenes.Scene

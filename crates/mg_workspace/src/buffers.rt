@@ -86,6 +86,16 @@ impl<S: TextStore> Buffers<S> {
         &self.all[index]
     }
 
+    /// The buffer at an index, to be changed. Takes no memory.
+    pub fn at_mut(&mut self, index: usize) -> &mut VisitedBuffer<S>
+        requires { index < length self.old.all }
+        ensures* writes_back { sem 𝓛 (Lends (the_row S.row S.Taker) (of_buffer S.row S.Taker)
+            self.entry result (spec.with_at index self.old)) }
+        ensures value { result.now ≡ spec.buffer_at index self.old }
+    {
+        &mut self.all[index]
+    }
+
     /// The index of the buffer of a name. Takes no memory.
     pub fn named(&self, name: &[char]) -> Option<usize>
         ensures exact { result ≡ names.buffer_named name.now self.now.all }

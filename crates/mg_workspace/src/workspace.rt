@@ -1,6 +1,7 @@
 //! What is worked on: the buffers, what commands leave for the next one, and the windows.
-ghost use Rattle.std.specs.Prelude.{◌≡◌, ◌≤◌, IfOk, IfErr, IfSome};
+ghost use Rattle.std.specs.Prelude.{◌≡◌, ◌<◌, ◌≤◌, IfOk, IfErr, IfSome, length};
 ghost use Rattle.mg_screen.specs.Size.{least_columns, most_columns};
+ghost use Rattle.mg_workspace.specs.Buffers.{buffer_at};
 ghost use Rattle.mg_workspace.specs.Failures.{first_standing};
 ghost use Rattle.mg_workspace.specs.Opening.{workspace};
 ghost use Rattle.mg_workspace.specs.Workspaces as spec;
@@ -127,11 +128,44 @@ impl<S: TextStore> Workspace<S> {
         self.buffers.current_mut()
     }
 
+    /// How many buffers are open. Takes no memory.
+    pub fn count(&self) -> usize
+        ensures { result ≡ length self.now.buffers.all }
+    {
+        self.buffers.count()
+    }
+
+    /// The buffer at an index. Takes no memory.
+    #[tactic(auto, using(std::proofs::lemmas::Option::get_or_from_slice_get))]
+    pub fn at(&self, index: usize) -> &VisitedBuffer<S>
+        requires { index < length self.now.buffers.all }
+        ensures { result.now ≡ buffer_at index self.now.buffers }
+    {
+        self.buffers.at(index)
+    }
+
+    /// The buffer at an index, to be changed: the windows go on showing it. Takes no memory.
+    pub fn at_mut(&mut self, index: usize) -> &mut VisitedBuffer<S>
+        requires { index < length self.old.buffers.all }
+        ensures* writes_back { sem 𝓛 (Lends (the_row S.row S.Taker) (of_buffer S.row S.Taker)
+            self.entry result (spec.with_buffer_at index self.old)) }
+        ensures value { result.now ≡ buffer_at index self.old.buffers }
+    {
+        self.buffers.at_mut(index)
+    }
+
     /// A task of the current buffer was done, or failed for that. Takes no memory.
     pub fn note(&mut self, task: Task, why: Option<Failure>)
         ensures { self.new ≡ spec.with_task task why self.old }
     {
         let index = self.buffers.current_index();
+        self.note_at(index, task, why);
+    }
+
+    /// A task of the buffer at an index was done, or failed for that. Takes no memory.
+    pub fn note_at(&mut self, index: usize, task: Task, why: Option<Failure>)
+        ensures { self.new ≡ spec.with_task_at index task why self.old }
+    {
         self.failures.note(index, task, why);
     }
 
