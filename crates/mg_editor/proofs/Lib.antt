@@ -1,5 +1,8 @@
 pub mod Steps
 pub mod FrameLaws
+pub mod LiveFrameLaws
+pub mod PlaceCellLaws
+pub mod ShowingLaws
 pub mod SetLaws
 pub mod PressCases
 pub mod ActionCases
@@ -11,3 +14,8 @@ pub mod RequestLaws
 pub mod MeetingLaws
 pub mod LoggedLaws
 pub mod NamesLaws
+pub mod SweepLaws
+pub mod LiveLaws
+pub mod TypingLaws
+pub mod LineCuts
+pub mod SweepSteps

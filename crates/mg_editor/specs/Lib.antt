@@ -7,4 +7,9 @@ pub mod Finding
 pub mod Meeting
 pub mod Carrying
 pub mod Frames
+pub mod LiveStatus
+pub mod LiveShowing
 pub mod Holding
+pub mod LiveSaving
+pub mod LiveTaking
+pub mod Pasting

@@ -14,7 +14,7 @@ use mg_workspace::{Failure, Task};
 use rga_exchange::{ReceiveFault, SendFault};
 use rga_store::TextStore;
 
-fn port_failure(fault: PortFault) -> Failure
+pub(crate) fn port_failure(fault: PortFault) -> Failure
     ensures { result ≡ spec.port_failure fault }
 {
     match fault {

@@ -34,7 +34,7 @@ fn window_cursor(columns: usize, screen: &Screen<'_>, index: usize) -> Position
 
 impl<S: TextStore> Editor<S> {
     /// The screen, once the windows are placed.
-    fn screen<'a>(&'a self) -> Result<Screen<'a>, FrameFault>
+    pub(crate) fn screen<'a>(&'a self) -> Result<Screen<'a>, FrameFault>
         requires { (rows : ℕ) × FillsRows rows self.now.work.windows × (rows ≤ most_rows) }
         ensures { IfOk result (λ screen. screen ≡ spec.screen_of (spec.placed_editor self.now)) }
     {

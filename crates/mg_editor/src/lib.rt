@@ -11,7 +11,13 @@
 //! that a key sequence begun is forgotten; where the search behind a replacement finds none, the
 //! replacement stays and query-replace ends. It may rest on `Carried` too: which calls a request
 //! makes of a port, and what that leaves; on the theorems of `laws`; and on those of `held`, which
-//! tie presses and requests to the steps of mg_held. `frame` shows the editor's own windows.
+//! tie presses and requests to the steps of mg_held. `log_made` and `save_touched` write, of each
+//! buffer in turn, what a live session made: `Sweeps` says what that leaves, and `live_laws` what
+//! stays. `frame` shows the editor's own windows. Any open buffer takes operations of others, and splices that are undo groups: `taking` and
+//! `with_changed` say what that leaves, and where an open search goes then. A text that is pasted
+//! is one command, or is typed at the open prompt: `Pasted`. `live_frame` shows the windows so that
+//! point is in sight, with the cells of elements beside: `live_rows`, `live_cursor`, `place_cells`.
+//! What a status of a live session says of the editor, `specs/LiveStatus.antt` has.
 #![tactic(auto)]
 
 mod carrying;
@@ -21,11 +27,21 @@ mod fault;
 mod framing;
 pub mod held;
 pub mod laws;
+pub mod live_laws;
+mod live_places;
+mod live_saving;
+mod live_showing;
+mod live_status;
+mod live_taking;
 mod meeting;
 mod opening;
+mod pasting;
 mod pressing;
 mod telling;
 
 pub use editor::Editor;
 pub use fault::{CarryFault, Fault};
 pub use framing::Frame;
+pub use live_saving::Writing;
+pub use live_showing::LiveFrame;
+pub use pasting::PasteFault;

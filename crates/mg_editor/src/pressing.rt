@@ -47,7 +47,7 @@ impl<S: TextStore> Editor<S> {
     }
 
     /// Does the action of an ending, and tells what came of it.
-    fn end(&mut self, ending: Ending) -> Result<Request, Fault>
+    pub(crate) fn end(&mut self, ending: Ending) -> Result<Request, Fault>
         ensures ended { IfOk result (spec.Ended ending self.old self.new) }
         ensures refused { OnErr result (self.new ≡ spec.ran_out self.old) }
     {
@@ -193,7 +193,7 @@ impl<S: TextStore> Editor<S> {
     }
 
     /// A step that does not wait for more bytes.
-    fn do_step(&mut self, step: Step) -> Result<Request, Fault>
+    pub(crate) fn do_step(&mut self, step: Step) -> Result<Request, Fault>
         ensures stepped { IfOk result
             (spec.FollowsReaction (spec.editor_reaction step self.old) self.old self.new) }
         ensures refused { OnErr result (self.new ≡ spec.ran_out self.old) }

@@ -1,0 +1,5 @@
+use Rattle.mg_editor.proofs.ShowingLaws.{told_on}
+use Rattle.mg_editor.proofs.live_status.window_statuses.Goals as goal
+
+pub loop-window-preserved : goal.loop-window-preserved
+loop-window-preserved g c = told_on _ _ _ _ c.window_status.result c.window_status.ensures c.loop-window.invariant c.in_ok-push_status.ensures

@@ -1,0 +1,66 @@
+-- What a text leads to that is pasted.
+use Rattle.std.specs.Prelude.{◌≡◌, ◌⊎◌, ℕ, Bool, List, [], ◌∷◌, Option, Some, None, Result, Ok, Err, MatchResult, nat_eq}
+use Rattle.std.specs.List.{before_first}
+use Rattle.mg_plain.specs.declared.command.Command.{Command}
+use Rattle.mg_plain.specs.declared.command.Command.TheVariants.{InsertText}
+use Rattle.mg_keys.specs.Begun.{HasBegun}
+use Rattle.mg_keys.specs.declared.step.Step.TheVariants.{Text}
+use Rattle.mg_minibuffer.specs.declared.ending.Action.TheVariants.{Run}
+use Rattle.mg_minibuffer.specs.declared.ending.Ending.{Ending}
+use Rattle.mg_minibuffer.specs.declared.ending.Next.TheVariants.{Same}
+use Rattle.mg_minibuffer.specs.declared.ending.Request.TheVariants.{Idle}
+use Rattle.mg_minibuffer.specs.declared.message.Message.TheVariants as message
+use Rattle.mg_minibuffer.specs.declared.prompt.Prompt.{Prompt}
+use Rattle.mg_minibuffer.specs.declared.prompt.Prompt.TheVariants.{Line, Replacement, Searching, Replacing, Quitting}
+use Rattle.mg_minibuffer.specs.Endings.{ending_of}
+use Rattle.mg_editor.specs.Editors.{Editor}
+use Rattle.mg_editor.specs.Presses.{Ended, StepTaken}
+use Rattle.mg_editor.specs.declared.fault.Fault.TheVariants as fault
+use Rattle.mg_editor.specs.declared.pasting.PasteFault.{PasteFault}
+use Rattle.mg_editor.specs.declared.pasting.PasteFault.TheVariants.{Busy, Memory}
+
+abbrev pub PasteAnswer : Type 0
+PasteAnswer = Result (Unit {0}) PasteFault
+
+-- the text is not taken, and nothing changes
+abbrev pub IsBusy : Editor → Editor → PasteAnswer → Type 0
+IsBusy old new r = (new ≡ old) × (r ≡ Err Busy)
+
+-- a command is run with the argument 1, and nothing is said
+abbrev pub running : Command → Ending
+running command = ending_of (Run command 1) Same message.Nothing
+
+-- One command inserts the text in the current buffer, as that of a key does: where the buffer refuses it, why is said. Want of
+-- memory changes nothing.
+abbrev pub Inserts : List ℕ → Editor → Editor → PasteAnswer → Type 0
+Inserts put old new r =
+    MatchResult r (λ _. Ended (running (InsertText put)) old new Idle) (λ f. (new ≡ old) × (f ≡ Memory))
+
+-- Each character is typed, one after the other. Want of memory at one of them leaves those before it typed.
+abbrev pub Types : List ℕ → Editor → Editor → PasteAnswer → Type 0
+Types [] old new r = (new ≡ old) × (r ≡ Ok tt)
+Types (c ∷ cs) old new r =
+    ((mid : Editor) × StepTaken (Text c) old old mid (Ok Idle) × Types cs mid new r)
+    ⊎ (StepTaken (Text c) old old new (Err fault.Memory) × (r ≡ Err Memory))
+
+abbrev pub is_newline : ℕ → Bool
+is_newline c = nat_eq c 10
+
+-- an answer, or a pattern, is of one line
+abbrev pub first_line : List ℕ → List ℕ
+first_line put = before_first is_newline put
+
+-- at an open prompt, or without one
+abbrev pub PastedAt : Option Prompt → List ℕ → Editor → Editor → PasteAnswer → Type 0
+PastedAt None put old new r = Inserts put old new r
+PastedAt (Some (Line asked answer)) put old new r = Types (first_line put) old new r
+PastedAt (Some (Replacement pattern answer)) put old new r = Types (first_line put) old new r
+PastedAt (Some (Searching s)) put old new r = Types (first_line put) old new r
+PastedAt (Some (Replacing pattern instead count)) put old new r = IsBusy old new r
+PastedAt (Some Quitting) put old new r = IsBusy old new r
+
+-- a key sequence that has begun is not broken off
+abbrev pub Pasted : List ℕ → Editor → Editor → PasteAnswer → Type 0
+Pasted put old new r =
+    ((HasBegun old.talk.keys [] → ⊥) × IsBusy old new r)
+    ⊎ (HasBegun old.talk.keys [] × PastedAt old.talk.prompt put old new r)

@@ -1,0 +1,190 @@
+//! What a status of a live session says: of the dialogue, of buffers and of windows.
+ghost use Rattle.std.specs.Prelude.{◌≡◌, ◌<◌, [], ◌∷◌, ◌++◌, Some, length, map, slice_get};
+ghost use Rattle.std.specs.Prelude.{IfOk, OnOk, IfErr, IfSome, string_bytes};
+ghost use Rattle.rga_ops.specs.Content.{clock_of};
+ghost use Rattle.rga_ops.specs.Order.{text};
+ghost use Rattle.mg_minibuffer.specs.Messages.{message_text};
+ghost use Rattle.mg_workspace.specs.AtIndex.{state_at};
+ghost use Rattle.mg_workspace.specs.Buffers.{buffer_at};
+ghost use Rattle.mg_workspace.specs.Workspaces.{workspace_buffer};
+ghost use Rattle.mg_editor.specs.LiveStatus as spec;
+
+use crate::editor::Editor;
+use crate::fault::Fault;
+use mg_minibuffer::Prompt;
+use mg_screen::column_of;
+use mg_status::{Asking, BufferStatus, PointStatus, PromptStatus, WindowStatus};
+use mg_workspace::Workspace;
+use rga_store::TextStore;
+use std::alloc::{AllocError, Global};
+
+/// What an open prompt asks.
+fn asked_by(prompt: &Prompt) -> Asking
+    ensures { result ≡ spec.mode_status (Some prompt.now) }
+{
+    match prompt {
+        Prompt::Line { .. } | Prompt::Replacement { .. } | Prompt::Quitting => Asking::Prompt,
+        Prompt::Searching(_) => Asking::Search,
+        Prompt::Replacing { .. } => Asking::Query,
+    }
+}
+
+/// The window at an index from the top.
+fn window_status<'a, S: TextStore>(work: &'a Workspace<S>, window: usize) -> WindowStatus<'a>
+    requires { window < length work.now.windows.windows }
+    ensures { let shown = map (spec.rows_and_name work.now.buffers) work.now.windows.windows in
+        slice_get shown window ≡ Some (spec.told_rows_and_name result) }
+{
+    WindowStatus {
+        rows: work.heights()[window],
+        name: work.at(work.buffer_shown(window)).buffer.name(),
+    }
+}
+
+fn push_status<'a>(
+    statuses: &mut Vec<WindowStatus<'a>>,
+    status: WindowStatus<'a>,
+) -> Result<(), AllocError>
+    ensures { OnOk result (statuses.new.items ≡ statuses.old.items ++ status.entry ∷ []) }
+{
+    statuses.push(status)?;
+    Ok(())
+}
+
+fn window_statuses<'a, S: TextStore>(
+    alloc: Global,
+    work: &'a Workspace<S>,
+) -> Result<Vec<WindowStatus<'a>>, AllocError>
+    ensures { IfOk result (λ statuses. spec.AreWindowStatuses work.now statuses.items) }
+{
+    let mut statuses = Vec::new(alloc);
+    for window in 0..work.heights().len() {
+        push_status(&mut statuses, window_status(work, window))?;
+    }
+    Ok(statuses)
+}
+
+impl<S: TextStore> Editor<S> {
+    /// Lists all buffers: their texts, and the places of their points and marks, are then at hand.
+    /// `Memory` alone.
+    pub fn list(&mut self) -> Result<(), Fault>
+        ensures same { self.new ≡ self.old }
+        ensures memory { IfErr result (λ fault. fault ≡ Fault.Memory) }
+    {
+        match self.work.list_all() {
+            Ok(()) => Ok(()),
+            Err(_) => Err(Fault::Memory),
+        }
+    }
+
+    /// Lists the buffer at an index. `Memory` alone.
+    pub fn list_at(&mut self, index: usize) -> Result<(), Fault>
+        requires { index < length self.old.work.buffers.all }
+        ensures same { self.new ≡ self.old }
+        ensures memory { IfErr result (λ fault. fault ≡ Fault.Memory) }
+    {
+        match self.work.list_at(index) {
+            Ok(()) => Ok(()),
+            Err(_) => Err(Fault::Memory),
+        }
+    }
+
+    /// What is asked. Takes no memory.
+    pub fn mode(&self) -> Asking
+        ensures { result ≡ spec.mode_status self.now.talk.prompt }
+    {
+        match self.talk.prompt() {
+            None => Asking::Plain,
+            Some(prompt) => asked_by(prompt),
+        }
+    }
+
+    /// The open prompt with the answer so far. `None` if no prompt is open. Takes no memory.
+    pub fn prompt_status(&self) -> Option<PromptStatus<'_>>
+        ensures { spec.IsPromptStatus self.now.talk.prompt result }
+    {
+        match self.talk.prompt() {
+            None => None,
+            Some(prompt) => Some(PromptStatus {
+                label: prompt.label(),
+                answer: prompt.answer(),
+            }),
+        }
+    }
+
+    /// The message, of the current buffer, whether or not a prompt is open; empty if nothing is
+    /// said. `AllocError` alone.
+    pub fn message_text(&self, alloc: Global) -> Result<String, AllocError>
+        ensures { let name = (workspace_buffer self.now.work).buffer.name in IfOk result
+            (λ text. string_bytes text ≡ message_text self.now.talk.message name) }
+    {
+        self.talk.message().text(alloc, self.work.name())
+    }
+
+    /// The buffer at an index: its name, whether it is changed, how many insertions wait, and how
+    /// many operations are not saved. `AllocError` alone.
+    pub fn buffer_status(&self, index: usize) -> Result<BufferStatus<'_>, AllocError>
+        requires { index < length self.now.work.buffers.all }
+        ensures { let opened = buffer_at index self.now.work.buffers in
+            IfOk result (λ status. spec.IsBufferStatus opened status) }
+    {
+        let opened = self.work.at(index);
+        let Ok(waiting) = opened.buffer.store().waiting_count() else {
+            return Err(AllocError);
+        };
+        Ok(BufferStatus {
+            name: opened.buffer.name(),
+            changed: opened.is_changed(),
+            waiting,
+            unsaved: opened.buffer.unsaved().len(),
+        })
+    }
+
+    /// Where point stands in the current buffer. `None` if that is not listed. Takes no memory.
+    pub fn point_status(&self) -> Option<PointStatus>
+        ensures { let buffer = (workspace_buffer self.now.work).buffer in
+            IfSome result (λ status. spec.IsPointStatus buffer status) }
+    {
+        let buffer = &self.work.current().buffer;
+        let Some(line) = buffer.line() else {
+            return None;
+        };
+        let Some(text) = buffer.text() else {
+            return None;
+        };
+        let Some(place) = buffer.place() else {
+            return None;
+        };
+        Some(PointStatus {
+            line,
+            column: column_of(text, place),
+            element: buffer.point(),
+        })
+    }
+
+    /// The windows from the top: the text rows of each, and the name of the buffer that it shows.
+    /// `AllocError` alone.
+    pub fn window_statuses(&self, alloc: Global) -> Result<Vec<WindowStatus<'_>>, AllocError>
+        ensures { IfOk result
+            (λ statuses. spec.AreWindowStatuses self.now.work statuses.items) }
+    {
+        window_statuses(alloc, &self.work)
+    }
+
+    /// The greatest counter that the buffer at an index knows; 0 if it knows none. Takes no memory.
+    pub fn clock_at(&self, index: usize) -> u64
+        requires { index < length self.now.work.buffers.all }
+        ensures { result ≡ clock_of (state_at index self.now.work).content }
+    {
+        self.work.at(index).buffer.store().clock()
+    }
+
+    /// The text of the buffer at an index, lent. `None` if it is not listed. Takes no memory.
+    pub fn text_at(&self, index: usize) -> Option<&[char]>
+        requires { index < length self.now.work.buffers.all }
+        ensures { let content = (state_at index self.now.work).content in
+            IfSome result (λ characters. characters.now ≡ text content) }
+    {
+        self.work.at(index).buffer.text()
+    }
+}
