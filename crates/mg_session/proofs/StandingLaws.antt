@@ -1,23 +1,22 @@
 -- What a session is answered by tells of its devices.
-use Rattle.std.proofs.Common.{◌≡◌, ◌≢◌, rules, not, Bool, true, false, List, [], ◌∷◌, Option, Some, None, Ok, Err, is_ok, refl, sym, ap, subst, ◌∙◌, true≢false, if◌then◌else◌}
+use Rattle.std.proofs.Common.{◌≡◌, ◌≢◌, rules, ℕ, not, Bool, true, false, List, [], ◌∷◌, Option, Some, None, Ok, Err, is_ok, refl, sym, ap, subst, ◌∙◌, true≢false, if◌then◌else◌}
 use Rattle.std.proofs.lemmas.Bool.{and_parts}
 use Rattle.std.specs.Bool.{MatchBool}
+use Rattle.std.specs.List.{concat}
 use Rattle.std.specs.Result.{result_and}
 use Rattle.rga_devices.specs.Counting.{Calls, CountsAs, StaysFlushed, one_more}
 use Rattle.mg_minibuffer.specs.declared.ending.Request.{Request}
 use Rattle.mg_minibuffer.specs.declared.ending.Request.TheVariants as request
 use Rattle.mg_workspace.specs.declared.failures.Failure.{Failure}
-use Rattle.mg_reports.specs.Reports.{Event, key, size, block_end, Reports, fresh, read_events, all_events}
 use Rattle.mg_session.specs.Courses.{is_on, SessionAnswer, course_answer, failure_answer, session_answer}
 use Rattle.mg_session.specs.Display.{Displays, whole, begun, unmade, follows_session}
 use Rattle.mg_session.specs.Keys.{course_behind, request_of}
 use Rattle.mg_session.specs.Moments.{Known, Moment, seen, StepIf}
-use Rattle.mg_session.specs.Running.{TakesEvent, TakesEvents, ReadsKeys, through, broken_off, Runs}
+use Rattle.mg_session.specs.Running.{ShowsKey, TakesKeys, ReadsKeys, through, broken_off, Runs}
 use Rattle.mg_session.specs.declared.course.Course.{Course}
 use Rattle.mg_session.specs.declared.course.Course.TheVariants.{On}
 use Rattle.mg_session.specs.declared.fault.SessionFault.{SessionFault}
 use Rattle.mg_session.specs.declared.fault.SessionFault.TheVariants.{File, Keys, Screen, Failed}
-use Rattle.mg_session.specs.declared.manner.Manner.{Manner}
 use Rattle.mg_session.proofs.TakenLaws.{behind_step}
 
 answer_on : (course : Course) → is_on course ≡ true → course_answer course ≡ Ok tt
@@ -55,64 +54,60 @@ module _ (keys rest old : Calls Known) where
   fine_tells : {m : Moment} → IsFine m → Tells m
   fine_tells f = search rules
 
-  shown_tells : {has_cursor : Bool} {a b : Moment} → IsFine a → Displays has_cursor a b → Tells b
-  shown_tells f (whole text screen is written failures flushed same) =
+  shown_tells : {a b : Moment} → IsFine a → Displays a b → Tells b
+  shown_tells f (whole screen written failures flushed same) =
       subst Tells (sym same) (fine_tells (record { answer = f.answer; read = f.read; written = failures ∙ f.written; flushed = λ _. flushed }))
   shown_tells f (begun front rest screen is written failed same) =
       let more = failed ∙ ap one_more f.written in
       subst Tells (sym same) (search rules)
   shown_tells f (unmade new left same) = subst Tells (sym same) (search rules)
 
-  step_tells : (has_cursor asked : Bool) (a b : Moment) → IsFine a → StepIf asked (Displays has_cursor) a b → Tells b
-  step_tells has_cursor asked a b f = behind_step Tells (Displays has_cursor) asked a b (fine_tells f) (λ _. shown_tells f)
+  step_tells : (asked : Bool) (a b : Moment) → IsFine a → StepIf asked Displays a b → Tells b
+  step_tells asked a b f = behind_step Tells Displays asked a b (fine_tells f) (λ _. shown_tells f)
 
-  event_tells : (how : Manner) (event : Event) (a b : Moment) → IsFine a → TakesEvent how event a b → Tells b
-  event_tells how (key byte) a b f (pressed, amid, taken, is_amid, step) =
+  key_tells : (trace : Bool) (byte : ℕ) (a b : Moment) → IsFine a → ShowsKey trace byte a b → Tells b
+  key_tells trace byte a b f (pressed, amid, taken, is_amid, step) =
       let answer = ap course_answer taken.course ∙ request_answer (request_of taken.answer) in
-      step_tells how.cursor _ pressed b (record { answer = answer; read = f.read; written = rw taken.screen f.written; flushed = rw taken.screen f.flushed }) step
-  event_tells how (size rows columns) a b f step =
-      step_tells how.cursor _ _ b (record { answer = f.answer; read = f.read; written = f.written; flushed = f.flushed }) step
-  event_tells how block_end a b f step = step_tells how.cursor _ a b f step
+      step_tells _ pressed b (record { answer = answer; read = f.read; written = rw taken.screen f.written; flushed = rw taken.screen f.flushed }) step
 
-  events_tell : (how : Manner) (events : List Event) (a b : Moment) → Tells a → TakesEvents how events a b → Tells b
-  events_tell how [] a b t same = subst Tells (sym same) t
-  events_tell how (x ∷ xs) a b t (mid, step, next) =
-      let event : is_on a.course ≡ true → TakesEvent how x a mid → Tells mid = λ on. event_tells how x a mid (fine_at t (answer_on a.course on)) in
-      events_tell how xs mid b (behind_step Tells (TakesEvent how x) (is_on a.course) a mid t event step) next
+  keys_tell : (trace : Bool) (bytes : List ℕ) (a b : Moment) → Tells a → TakesKeys trace bytes a b → Tells b
+  keys_tell trace [] a b t same = subst Tells (sym same) t
+  keys_tell trace (x ∷ xs) a b t (mid, step, next) =
+      let one : is_on a.course ≡ true → ShowsKey trace x a mid → Tells mid = λ on. key_tells trace x a mid (fine_at t (answer_on a.course on)) in
+      keys_tell trace xs mid b (behind_step Tells (ShowsKey trace x) (is_on a.course) a mid t one step) next
 
   -- behind the frame at the end
-  last_tells : (how : Manner) (a b : Moment) → Tells a → StepIf (follows_session how a.course) (Displays how.cursor) a b → Tells b
-  last_tells how a b t =
-      behind_step Tells (Displays how.cursor) (follows_session how a.course) a b t
-      (λ is. shown_tells (fine_at t (ok_answer (course_answer a.course) (and_parts (not how.trace) _ is).1)))
+  last_tells : (trace : Bool) (a b : Moment) → Tells a → StepIf (follows_session trace a.course) Displays a b → Tells b
+  last_tells trace a b t =
+      behind_step Tells Displays (follows_session trace a.course) a b t
+      (λ is. shown_tells (fine_at t (ok_answer (course_answer a.course) (and_parts (not trace) _ is).1)))
 
 -- ---- behind a whole session
 
-reads_tell : {how : Manner} {held : Reports} {keys rest old : Calls Known} {a b : Moment}
-    → IsFine keys keys old a → ReadsKeys how held a b keys rest → Tells keys rest old b
-reads_tell {how} {held} {keys} {rest} {old} {a} {b} f (through blocks read least most unfailed end taken) =
+reads_tell : {trace : Bool} {keys rest old : Calls Known} {a b : Moment} → IsFine keys keys old a → ReadsKeys trace a b keys rest → Tells keys rest old b
+reads_tell {trace} {keys} {rest} {old} {a} {b} f (through blocks read least most unfailed end taken) =
     let before : IsFine keys rest old a = record { answer = f.answer; read = unfailed; written = f.written; flushed = f.flushed } in
-    events_tell keys rest old how (all_events held blocks) a b (fine_tells keys rest old before) taken
-reads_tell {how} {held} {keys} {rest} {old} {a} {b} f (broken_off blocks read failed ends taken) =
-    let before = events_tell keys keys old how (read_events held blocks) a (record b { course = On }) (fine_tells keys keys old f) taken in
+    keys_tell keys rest old trace (concat blocks) a b (fine_tells keys rest old before) taken
+reads_tell {trace} {keys} {rest} {old} {a} {b} f (broken_off blocks read failed ends taken) =
+    let before = keys_tell keys keys old trace (concat blocks) a (record b { course = On }) (fine_tells keys keys old f) taken in
     let still = fine_at keys keys old before refl in
     let answer : course_answer b.course ≡ Err Keys = ap course_answer ends in
     search rules
 
-module _ {R : Type 0} (remaining : R → Known) (how : Manner) (keys rest : Calls R) where
+module _ {R : Type 0} (remaining : R → Known) (trace : Bool) (keys rest : Calls R) where
   taken_tells : (go : Bool) (old : Calls Known) (a b : Moment) → is_on a.course ≡ go → Tells (seen remaining keys) (seen remaining keys) old a
-      → MatchBool go (ReadsKeys how (fresh how.resizable) a b (seen remaining keys) (seen remaining rest)) ((b ≡ a) × (rest ≡ keys))
+      → MatchBool go (ReadsKeys trace a b (seen remaining keys) (seen remaining rest)) ((b ≡ a) × (rest ≡ keys))
       → Tells (seen remaining keys) (seen remaining rest) old b
   taken_tells true old a b on t reads = reads_tell (fine_at (seen remaining keys) (seen remaining keys) old t (answer_on a.course on)) reads
   taken_tells false old a b off t (same, unread) = rw (unread, same) t
 
-  pub run_tells : {a b : Moment} → a.course ≡ On → Runs remaining how a b keys rest → Tells (seen remaining keys) (seen remaining rest) a.screen b
+  pub run_tells : {a b : Moment} → a.course ≡ On → Runs remaining trace a b keys rest → Tells (seen remaining keys) (seen remaining rest) a.screen b
   run_tells {a} {b} on ran =
       let k = seen remaining keys in
       let start : IsFine k k a.screen a = record { answer = ap course_answer on; read = refl; written = refl; flushed = λ was. was } in
-      let first = step_tells k k a.screen how.cursor how.trace a ran.begun start ran.starts in
+      let first = step_tells k k a.screen trace a ran.begun start ran.starts in
       let taken = taken_tells (is_on ran.begun.course) a.screen ran.begun ran.ended refl first ran.taken in
-      last_tells k (seen remaining rest) a.screen how ran.ended b taken ran.finishes
+      last_tells k (seen remaining rest) a.screen trace ran.ended b taken ran.finishes
 
 -- ---- a session that may be strict
 

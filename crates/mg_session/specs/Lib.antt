@@ -3,4 +3,5 @@ pub mod Courses
 pub mod Moments
 pub mod Display
 pub mod Keys
+pub mod Opening
 pub mod Running

@@ -5,9 +5,9 @@ ghost use Rattle.mg_session.specs.Courses as spec;
 use crate::fault::SessionFault;
 use mg_workspace::Failure;
 
-/// How a session stands behind what it took.
+/// How a session stands after what it took.
 #[derive(Clone, Copy)]
-pub(crate) enum Course {
+pub enum Course {
     /// It goes on.
     On,
     /// A key quit.
@@ -16,12 +16,12 @@ pub(crate) enum Course {
     NoKeys,
     /// A frame could not be written.
     NoScreen,
-    /// Memory was wanting for a frame.
+    /// Memory was refused for a frame.
     NoMemory,
 }
 
 /// Whether a session that stands so goes on.
-pub(crate) fn is_on(course: Course) -> bool
+pub fn is_on(course: Course) -> bool
     ensures { result ≡ spec.is_on course }
 {
     match course {
@@ -31,7 +31,7 @@ pub(crate) fn is_on(course: Course) -> bool
 }
 
 /// What a session that stands so is answered by.
-pub(crate) fn answer(course: Course) -> Result<(), SessionFault>
+pub fn course_answer(course: Course) -> Result<(), SessionFault>
     ensures { result ≡ spec.course_answer course }
 {
     match course {
@@ -53,14 +53,14 @@ fn failure_answer(first: Option<Failure>) -> Result<(), SessionFault>
 }
 
 /// What a session is answered by in the end, which may be strict. Its own fault comes first.
-pub(crate) fn session_answer(
+pub fn session_answer(
     strict: bool,
     first: Option<Failure>,
     course: Course,
 ) -> Result<(), SessionFault>
     ensures { result ≡ spec.session_answer strict first course }
 {
-    match answer(course) {
+    match course_answer(course) {
         Ok(()) if strict => failure_answer(first),
         other => other,
     }

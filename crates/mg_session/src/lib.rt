@@ -2,19 +2,23 @@
 //!
 //! `run_keys` loads a buffer, presses each byte of the keys, carries each request to a port, and
 //! writes frames to a screen, be these files or memory. The crate stands on mg_editor for the
-//! editor, on mg_reports for reports of the screen's size among the keys, on mg_files for ports,
-//! and on rga_devices for devices whose calls are counted. The program above may rest on its
-//! contract: which keys a session takes, in turn, and exactly what they show, for any reader and
-//! screen that tell their bytes and any port that tells its calls; that each session ends; and on
-//! its faults, a device's being answered exactly where a call of it failed.
+//! editor, on mg_files for ports, and on rga_devices for devices whose calls are counted. The
+//! program above may rest on its contract: which keys a session takes, in turn, and exactly what
+//! they show, for any reader and screen that tell their bytes and any port that tells its calls;
+//! that each session ends; and on its faults, a device's being answered exactly where a call of it
+//! failed. A session of another kind is begun by `open`, presses a key by `press`, and is answered
+//! by `session_answer`.
 #![tactic(auto)]
 
 mod course;
 mod display;
 mod fault;
 mod keys;
-mod manner;
+mod opening;
 mod session;
 
+pub use course::{Course, course_answer, is_on, session_answer};
 pub use fault::SessionFault;
+pub use keys::{course_behind, press};
+pub use opening::open;
 pub use session::run_keys;

@@ -1,5 +1,5 @@
 -- What an editing session is given.
-use Rattle.std.specs.Prelude.{ℕ, ◌≤◌, Bool, List, length, Option}
+use Rattle.std.specs.Prelude.{◌≡◌, ℕ, ◌≤◌, Bool, true, false, List, length, Option}
 use Rattle.std.specs.Option.{ForSome}
 use Rattle.rga_store.specs.declared.text_store.TheConstants.{MAX_LIMIT}
 use Rattle.mg_screen.specs.Size.{least_rows, most_rows, least_columns, most_columns}
@@ -12,9 +12,8 @@ pub record Values : Type 0 where
   pub fill : ℕ
   pub port : Option ℕ
   pub trace : Bool
-  pub newest : Bool
-  pub cursor : Bool
-  pub resizable : Bool
+  pub live : Bool
+  pub changes : Bool
   pub runs : Bool
   pub brief : Bool
   pub strict : Bool
@@ -44,3 +43,6 @@ pub record AreAllowed (v : Values) : Type 0 where
   pub fill_to : v.fill ≤ greatest_fill
   pub limit_from : 1 ≤ v.limit
   pub limit_to : v.limit ≤ MAX_LIMIT
+  -- a live session is not traced, and only a live one tells changes
+  pub untraced : v.live ≡ true → v.trace ≡ false
+  pub changes : v.changes ≡ true → v.live ≡ true

@@ -25,12 +25,10 @@ pub struct Values {
     pub port: Option<u16>,
     /// Whether a frame follows each step.
     pub trace: bool,
-    /// Whether of the steps that one read of the keys leads to the last alone is followed by one.
-    pub newest: bool,
-    /// Whether the row and the column of the cursor follow each frame.
-    pub cursor: bool,
-    /// Whether the screen follows the reports of its size among the keys.
-    pub resizable: bool,
+    /// Whether the session is a live one.
+    pub live: bool,
+    /// Whether a live session tells changes of the text in place of frames.
+    pub changes: bool,
     /// Whether a save of many operations appends them in runs.
     pub runs: bool,
     /// Whether an exchange tells first what is known, and sends only what the peer lacks.
@@ -55,9 +53,8 @@ impl Model for Values {
       fill = v.fill;
       port = v.port;
       trace = v.trace;
-      newest = v.newest;
-      cursor = v.cursor;
-      resizable = v.resizable;
+      live = v.live;
+      changes = v.changes;
       runs = v.runs;
       brief = v.brief;
       strict = v.strict;
@@ -84,7 +81,8 @@ impl Model for Settings {
 impl Settings {
     /// The settings of these values, where each is within its limits: a name that is not empty, a
     /// replica from 1 on, the rows and columns that a screen may have, a fill column from 1 to
-    /// `MAX_FILL`, a port from 1 on, and a limit that a store may have. Takes no memory.
+    /// `MAX_FILL`, a port from 1 on, and a limit that a store may have. A live session is not traced,
+    /// and only a live one tells changes. Takes no memory.
     pub fn new(values: Values) -> Option<Settings>
         ensures exact { IsSome result ↔ spec.AreAllowed values }
         ensures values { IfSome result (λ settings. settings ≡ values) }
@@ -102,6 +100,12 @@ impl Settings {
             return None;
         }
         if values.limit == 0 || values.limit > MAX_LIMIT {
+            return None;
+        }
+        if values.live && values.trace {
+            return None;
+        }
+        if values.changes && !values.live {
             return None;
         }
         Some(Settings { values })

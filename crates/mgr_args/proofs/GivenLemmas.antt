@@ -1,8 +1,8 @@
 -- What clap's rows give.
-use Rattle.std.proofs.Common.{◌≡◌, ◌∙◌, ◌<◌, ◌≤◌, ◌^◌, ℕ, ap, refl, sym, subst, List, Bool, Option, Some, None, codes, false, true, length}
+use Rattle.std.proofs.Common.{◌≡◌, ◌∙◌, ◌<◌, ◌≤◌, ◌^◌, ℕ, ap, refl, sym, subst, List, Bool, Option, Some, None, codes, false, true, true≢false, length}
 use Rattle.std.specs.Option.{ForSome}
-use Rattle.std.specs.Str.Parse.{IsNumeral, ParsesUnsigned, digits_value, without_leading_plus}
-use Rattle.std.specs.Prelude.{◌↔◌, Result, Ok, Err, IsSome, IfSome}
+use Rattle.std.specs.Str.Parse.{IsNumeral, ParsesBool, ParsesUnsigned, digits_value, without_leading_plus}
+use Rattle.std.specs.Prelude.{◌↔◌, Result, Ok, Err, IsSome, IfSome, unwrap_or}
 use Rattle.clap.specs.Matches.{ReadsOne, one_text}
 use Rattle.clap.specs.Walk.{Row, first_of, one_of, rows_of}
 use Rattle.clap.specs.declared.parser.matches.Found.{Found}
@@ -47,13 +47,26 @@ number_read bits gives f id o parses none reads = at (one_text f id) refl o none
         }
 
 -- and so it is of a flag
-pub flag_read : (f : Found) (id : List ℕ) (is : Bool) → (one_text f id ≡ None → is ≡ false) → (one_text f id ≡ Some (codes "true") → is ≡ true)
-    → (one_text f id ≡ Some (codes "false") → is ≡ false) → GivesFlag (rows_of f) id is
-flag_read f id is none up down = record {
-  up = λ at. up (one_text-rows f id ∙ at);
-  down = λ at. down (one_text-rows f id ∙ at);
-  none = λ at. none (one_text-rows f id ∙ at);
-}
+pub flag_read : {E : Type 0} (gives : List ℕ → Result Bool E → Type 0) (f : Found) (id : List ℕ) (o : Option Bool)
+    → ((t : List ℕ) (r : Result Bool E) → gives t r → ParsesBool t r) → (one_text f id ≡ None → o ≡ None)
+    → ((t : List ℕ) → one_text f id ≡ Some t → ReadsOne gives t o) → GivesFlag (rows_of f) id (unwrap_or o false)
+flag_read gives f id o parses none reads = record { exact = at (one_text f id) refl o none reads }
+  where
+    at : (t : Option (List ℕ)) → one_text f id ≡ t → (p : Option Bool) → (one_text f id ≡ None → p ≡ None)
+        → ((t : List ℕ) → one_text f id ≡ Some t → ReadsOne gives t p) → unwrap_or p false ≡ true ↔ one_of id (rows_of f) ≡ Some (codes "true")
+    at None is p none reads =
+        let off : p ≡ None = none is in
+        (λ up. absurd (true≢false (sym up ∙ ap (λ p. unwrap_or p false) off)), λ given. absurd (let clash : None ≡ Some (codes "true") = sym is ∙ one_text-rows f id ∙ given in cc))
+    at (Some t) is None none reads =
+        let failed = reads t is in
+        let other = parses t (Err failed.0) failed.1 in
+        (λ up. absurd (true≢false (sym up)), λ given. absurd (other.0 (same_some (one_text f id) t (codes "true") is (one_text-rows f id ∙ given))))
+    at (Some t) is (Some true) none reads =
+        let text : t ≡ codes "true" = parses t (Ok true) (reads t is) in
+        (λ up. sym (one_text-rows f id) ∙ is ∙ ap Some text, λ given. refl)
+    at (Some t) is (Some false) none reads =
+        let text : t ≡ codes "false" = parses t (Ok false) (reads t is) in
+        (λ up. absurd (true≢false (sym up)), λ given. absurd (let clash : codes "false" ≡ codes "true" = sym text ∙ same_some (one_text f id) t (codes "true") is (one_text-rows f id ∙ given) in cc))
 
 -- one number stands under an id
 pub one_number : (bits : ℕ) (rows : List Row) (id : List ℕ) (n m : ℕ) → GivesNumber bits rows id n → GivesNumber bits rows id m → n ≡ m
@@ -67,6 +80,12 @@ port_too P rows id None (Some m) g h allowed = absurd (g m h)
 port_too P rows id (Some n) (Some m) g h allowed = λ x is.
     subst P (one_number 16 rows id n m g h ∙ same_some (Some m) m x refl is) (allowed n refl)
 
+-- one flag stands under an id
+one_flag : (rows : List Row) (id : List ℕ) (a b : Bool) → GivesFlag rows id a → GivesFlag rows id b → a ≡ b
+one_flag rows id true b g h = sym (h.exact.1 (g.exact.0 refl))
+one_flag rows id false true g h = g.exact.1 (h.exact.0 refl)
+one_flag rows id false false g h = refl
+
 -- values of the same rows are allowed together
 pub allowed_too : (rows : List Row) (v w : Values) → GivesValues rows v → GivesValues rows w → AreAllowed v → AreAllowed w
 allowed_too rows v w g h a =
@@ -76,6 +95,9 @@ allowed_too rows v w g h a =
     let columns : v.columns ≡ w.columns = one_number 16 rows _ _ _ g.options.columns h.options.columns in
     let fill : v.fill ≡ w.fill = one_number 16 rows _ _ _ g.options.fill h.options.fill in
     let limit : v.limit ≡ w.limit = g.options.limit ∙ sym h.options.limit in
+    let trace : v.trace ≡ w.trace = one_flag rows _ _ _ g.options.trace h.options.trace in
+    let live : v.live ≡ w.live = one_flag rows _ _ _ g.options.live h.options.live in
+    let changes : v.changes ≡ w.changes = one_flag rows _ _ _ g.options.changes h.options.changes in
     record {
       named = subst (λ n. 1 ≤ length n) name a.named;
       replica_from = subst (λ n. 1 ≤ n) replica a.replica_from;
@@ -89,6 +111,8 @@ allowed_too rows v w g h a =
       fill_to = subst (λ n. n ≤ greatest_fill) fill a.fill_to;
       limit_from = subst (λ n. 1 ≤ n) limit a.limit_from;
       limit_to = subst (λ n. n ≤ MAX_LIMIT) limit a.limit_to;
+      untraced = λ is. sym trace ∙ a.untraced (live ∙ is);
+      changes = λ is. sym live ∙ a.changes (changes ∙ is);
     }
 
 -- settings of what was given are there where it is allowed

@@ -27,16 +27,16 @@ number_rules =
     ∷ with_default (codes "70") (number_rule (codes "fill") 1 greatest_fill)
     ∷ port_rule ∷ []
 
--- what frames there are
-abbrev pub trace_rules : List Rule
-trace_rules = flag (codes "trace") ∷ flag (codes "newest") ∷ []
+-- what a session shows
+abbrev pub showing_rules : List Rule
+showing_rules = flag (codes "trace") ∷ flag (codes "live") ∷ flag (codes "changes") ∷ []
 
--- what stands in them, in the log and in exchanges, and whether what failed is answered
+-- what stands in the log and in exchanges, and whether what failed is answered
 abbrev pub content_rules : List Rule
-content_rules = flag (codes "cursor") ∷ flag (codes "resizable") ∷ flag (codes "runs") ∷ flag (codes "brief") ∷ flag (codes "strict") ∷ []
+content_rules = flag (codes "runs") ∷ flag (codes "brief") ∷ flag (codes "strict") ∷ []
 
 abbrev pub edit_rules : List Rule
-edit_rules = name_rule ∷ replica_rule ∷ number_rules ++ trace_rules ++ content_rules
+edit_rules = name_rule ∷ replica_rule ∷ number_rules ++ showing_rules ++ content_rules
 
 abbrev pub edit_app : App
 edit_app = with_rules (new_app (codes "edit")) edit_rules
@@ -58,9 +58,8 @@ pub record GivesOptions (rows : List Row) (v : Values) : Type 0 where
   pub fill : GivesNumber 16 rows (codes "fill") v.fill
   pub port : GivesNumberIf 16 rows (codes "port") v.port
   pub trace : GivesFlag rows (codes "trace") v.trace
-  pub newest : GivesFlag rows (codes "newest") v.newest
-  pub cursor : GivesFlag rows (codes "cursor") v.cursor
-  pub resizable : GivesFlag rows (codes "resizable") v.resizable
+  pub live : GivesFlag rows (codes "live") v.live
+  pub changes : GivesFlag rows (codes "changes") v.changes
   pub runs : GivesFlag rows (codes "runs") v.runs
   pub brief : GivesFlag rows (codes "brief") v.brief
   pub strict : GivesFlag rows (codes "strict") v.strict

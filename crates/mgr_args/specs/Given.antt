@@ -1,5 +1,5 @@
 -- What jobs were given, by the rows of what clap found.
-use Rattle.std.specs.Prelude.{◌≡◌, ◌≢◌, ◌≤◌, ◌<◌, ◌^◌, ◌⊎◌, ℕ, Bool, true, false, List, [], codes, length, map, Option, Some, None, string_bytes, unwrap_or}
+use Rattle.std.specs.Prelude.{◌≡◌, ◌≢◌, ◌↔◌, ◌≤◌, ◌<◌, ◌^◌, ◌⊎◌, ℕ, Bool, true, List, [], codes, length, map, Option, Some, None, string_bytes, unwrap_or}
 use Rattle.std.specs.Str.Parse.{IsNumeral, digits_value, without_leading_plus}
 use Rattle.std.specs.declared.alloc.Global.{Global}
 use Rattle.std.specs.declared.string.String.{String}
@@ -23,9 +23,7 @@ GivesNumberIf bits rows id (Some n) = GivesNumber bits rows id n
 
 -- whether a flag stands there
 pub record GivesFlag (rows : List Row) (id : List ℕ) (is : Bool) : Type 0 where
-  pub up : one_of id rows ≡ Some (codes "true") → is ≡ true
-  pub down : one_of id rows ≡ Some (codes "false") → is ≡ false
-  pub none : one_of id rows ≡ None → is ≡ false
+  pub exact : is ≡ true ↔ one_of id rows ≡ Some (codes "true")
 
 -- this name, which has a character
 pub record GivesName (rows : List Row) (name : String Global) : Type 0 where

@@ -43,21 +43,19 @@ fn add_numbers<'a>(alloc: Global, args: &mut Vec<Arg<'a>>) -> Result<(), AllocEr
     push(args, port.help("The port of exchanges"))
 }
 
-/// What frames there are, what stands in them, in the log and in exchanges, and what is answered.
+/// What is written of a session, in the log and in exchanges, and what is answered.
 fn add_flags<'a>(alloc: Global, args: &mut Vec<Arg<'a>>) -> Result<(), AllocError>
     ensures { OnOk result
-        (AddsArguments args.old.items args.new.items (spec.trace_rules ++ spec.content_rules)) }
+        (AddsArguments args.old.items args.new.items (spec.showing_rules ++ spec.content_rules)) }
 {
-    let newest = "With --trace, write one behind all keys that are at hand";
-    let cursor = "Write the cursor's row and column behind each frame";
-    let resizable = "Take reports of the screen's size among the keys";
+    let live = "A session for a front: reports among the keys, statuses and frames out";
+    let changes = "With --live, tell changes of the text in place of frames";
     let runs = "Append more than 32 operations to the log in runs";
     let brief = "Exchange with a peer that does so too only what either lacks";
     let strict = "Fail where the last save or exchange of a buffer failed";
     add_flag(alloc, args, "trace", "Write a frame behind each step")?;
-    add_flag(alloc, args, "newest", newest)?;
-    add_flag(alloc, args, "cursor", cursor)?;
-    add_flag(alloc, args, "resizable", resizable)?;
+    add_flag(alloc, args, "live", live)?;
+    add_flag(alloc, args, "changes", changes)?;
     add_flag(alloc, args, "runs", runs)?;
     add_flag(alloc, args, "brief", brief)?;
     add_flag(alloc, args, "strict", strict)

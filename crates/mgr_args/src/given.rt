@@ -4,7 +4,7 @@ ghost use Rattle.clap.specs.Matches.{found_of};
 ghost use Rattle.clap.specs.Walk.{rows_of, texts};
 ghost use Rattle.mg_settings.specs.Settings.{Values};
 ghost use Rattle.mgr_args.specs.Edit.{GivesNumbers, GivesOptions, GivesSettings};
-ghost use Rattle.mgr_args.specs.Given.{GivesLogs, GivesMerging, GivesNameIf, GivesNote};
+ghost use Rattle.mgr_args.specs.Given.{GivesFlag, GivesLogs, GivesMerging, GivesNameIf, GivesNote};
 ghost use Rattle.mgr_args.specs.Given.{GivesNoteNameIf, GivesNumberIf, GivesShown};
 
 use clap::ArgMatches;
@@ -12,7 +12,8 @@ use mg_settings::{Settings, Values};
 use rga_store::MAX_LIMIT;
 use std::alloc::{AllocError, Global};
 
-/// The settings that clap's matches give; none where they are not allowed, as with no name.
+/// The settings that clap's matches give; none if they are not allowed, as with no name, or with
+/// flags of which one excludes the other.
 pub(crate) fn settings_of(
     alloc: Global,
     found: &ArgMatches<'_>,
@@ -78,7 +79,7 @@ pub(crate) fn note_of(
     };
     Ok(Some(Note {
         name,
-        flag: found.get_flag(flag),
+        flag: has_flag(found, flag),
     }))
 }
 
@@ -103,7 +104,7 @@ pub(crate) fn merging_of(
     Ok(Some(Merging {
         name,
         logs: logs_of(alloc, found)?,
-        adopt: found.get_flag("adopt"),
+        adopt: has_flag(found, "adopt"),
     }))
 }
 
@@ -176,13 +177,12 @@ fn values_of(name: String, found: &ArgMatches<'_>) -> Option<Values>
         columns: usize::from(columns),
         fill,
         port: number(found, "port"),
-        trace: found.get_flag("trace"),
-        newest: found.get_flag("newest"),
-        cursor: found.get_flag("cursor"),
-        resizable: found.get_flag("resizable"),
-        runs: found.get_flag("runs"),
-        brief: found.get_flag("brief"),
-        strict: found.get_flag("strict"),
+        trace: has_flag(found, "trace"),
+        live: has_flag(found, "live"),
+        changes: has_flag(found, "changes"),
+        runs: has_flag(found, "runs"),
+        brief: has_flag(found, "brief"),
+        strict: has_flag(found, "strict"),
         limit: MAX_LIMIT,
         name,
     })
@@ -200,6 +200,13 @@ fn numbers_of(found: &ArgMatches<'_>) -> Option<(u16, u16, u16, u16)>
         number(found, "cols")?,
         number(found, "fill")?,
     ))
+}
+
+/// Whether the flag of an id stands there.
+pub(crate) fn has_flag(found: &ArgMatches<'_>, id: &str) -> bool
+    ensures { GivesFlag (rows_of (found_of found.now)) id.now result }
+{
+    found.get_one::<bool>(id).unwrap_or(false)
 }
 
 /// The number under an id.

@@ -10,8 +10,8 @@ ghost use Rattle.mgr_args.specs.declared.job.JobFault.TheVariants.{Memory};
 
 use crate::command::command;
 use crate::given::{
-    Merging, Note, Shown, logs_of, merging_of, name_of, note_name_of, note_of, settings_of,
-    shown_of,
+    Merging, Note, Shown, has_flag, logs_of, merging_of, name_of, note_name_of, note_of,
+    settings_of, shown_of,
 };
 use clap::error::ErrorKind;
 use clap::{ArgMatches, Error};
@@ -103,6 +103,7 @@ pub fn job_status(fault: &JobFault) -> u8
 /// `--lines N` or not, `edit` a name, `--replica N` and the other options, `compact`, `log` and
 /// `who` a name and a flag or not, `join` paths, `claims`, `missing` and `mend` a name, and `merge`
 /// a name, paths or none, and `--adopt` or not. No name may be empty, and that of `missing` not `-`.
+/// `--trace` does not go with `--live`, and `--changes` goes with it alone.
 /// `Help` is on the program if the first word is `--help`, or `-h` with anything after it, and on a
 /// job if clap finds it after its word.
 /// `Version` if the first word is `--version`, or `-V` with anything after it. `help` in front is
@@ -133,16 +134,29 @@ fn chosen(alloc: Global, topic: Topic, matches: &ArgMatches<'_>) -> Result<Job, 
     };
     match job_given(alloc, topic, found)? {
         Some(job) => Ok(job),
-        None => Err(mistake(alloc, reason_of(topic))),
+        None => Err(mistake(alloc, reason_of(topic, found))),
     }
 }
 
 /// Why clap's matches give no job of a topic.
-fn reason_of(topic: Topic) -> &'static str {
+fn reason_of(topic: Topic, found: &ArgMatches<'_>) -> &'static str {
     match topic {
+        Topic::Edit => edit_reason(found),
         Topic::Missing => "the name is empty or -: standard input has the claims",
         _ => "the name is missing or empty",
     }
+}
+
+/// Why they give no settings of a session.
+fn edit_reason(found: &ArgMatches<'_>) -> &'static str {
+    let is_live = has_flag(found, "live");
+    if is_live && has_flag(found, "trace") {
+        return "the argument '--trace' cannot be used with '--live'";
+    }
+    if !is_live && has_flag(found, "changes") {
+        return "the argument '--changes' cannot be used without '--live'";
+    }
+    "the name is missing or empty"
 }
 
 /// The job of a topic that clap's matches give; none if the name is missing or empty, or is `-` for

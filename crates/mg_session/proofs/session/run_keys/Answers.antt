@@ -10,7 +10,7 @@ returns-in-Ok g c =
     let course = c.run-course.result in
     let strict = c.is_strict.result in
     let first = c.failure.result in
-    let told = run_tells g.R.Read.remaining c.session_of.result.manner c.args.keys.now c.run-course.new.keys refl c.run-course.ensures in
+    let told = run_tells g.R.Read.remaining c.session_of.result.trace c.args.keys.now c.run-course.new.keys refl c.run-course.ensures in
     let reads = counts_strictly strict first Keys no_keys course (record { failed = told.reads.failed; unfailed = told.reads.unfailed }) in
     let writes = counts_strictly strict first Screen no_screen course (record { failed = told.writes.failed; unfailed = told.writes.unfailed }) in
     let last = c.run-course.new.editor in

@@ -8,5 +8,4 @@ returns c =
     let three = both _ _ _ _ _ two c.in_ok-add_flag-3.ensures in
     let four = both _ _ _ _ _ three c.in_ok-add_flag-4.ensures in
     let five = both _ _ _ _ _ four c.in_ok-add_flag-5.ensures in
-    let six = both _ _ _ _ _ five c.in_ok-add_flag-6.ensures in
-    on_ok_weaker c.add_flag-7.result (λ is. both _ _ _ _ _ six is) c.add_flag-7.ensures
+    on_ok_weaker c.add_flag-6.result (λ is. both _ _ _ _ _ five is) c.add_flag-6.ensures

@@ -15,3 +15,8 @@ returns c =
     let name = sym (first_value-rows (found_of c.args.found.now) (codes "name")) ∙ sym c.in-Some.ensures
     ∙ ap Some (sym (c.in-Some-values_of.ensures.name ∙ c.in_ok-from_str.ensures.ok)) in
     settled _ _ c.new.result (record { name = name; options = c.in-Some-values_of.ensures.options }) c.new.ensures.exact c.new.ensures.values
+
+pub returns-in_default-values_of : goal.returns-in_default-values_of
+returns-in_default-values_of c = λ v given allowed.
+    let none : c.values_of.result ≡ None = search rules in
+    c.values_of.ensures.none none v given.options

@@ -2,7 +2,6 @@ use Rattle.std.proofs.Common.{rules, ◌≡◌, List, None, refl, subst, sym, co
 use Rattle.clap.specs.Matches.{found_of}
 use Rattle.clap.specs.Walk.{Row, rows_of}
 use Rattle.mgr_args.specs.Given.{GivesNumber}
-use Rattle.mgr_args.proofs.GivenLemmas.{flag_read}
 use Rattle.mgr_args.proofs.given.values_of.Goals as goal
 
 pub returns-in_err-replica-clause-none : goal.returns-in_err-replica-clause-none
@@ -20,12 +19,11 @@ returns-clause-options c =
       columns = subst (GivesNumber 16 found (codes "cols")) (sym c.from-2.ensures) numbers.columns;
       fill = numbers.fill;
       port = c.number.ensures;
-      trace = flag_read (found_of c.args.found.now) (codes "trace") _ c.get_flag.ensures.none c.get_flag.ensures.value c.get_flag.ensures.other;
-      newest = flag_read (found_of c.args.found.now) (codes "newest") _ c.get_flag-2.ensures.none c.get_flag-2.ensures.value c.get_flag-2.ensures.other;
-      cursor = flag_read (found_of c.args.found.now) (codes "cursor") _ c.get_flag-3.ensures.none c.get_flag-3.ensures.value c.get_flag-3.ensures.other;
-      resizable = flag_read (found_of c.args.found.now) (codes "resizable") _ c.get_flag-4.ensures.none c.get_flag-4.ensures.value c.get_flag-4.ensures.other;
-      runs = flag_read (found_of c.args.found.now) (codes "runs") _ c.get_flag-5.ensures.none c.get_flag-5.ensures.value c.get_flag-5.ensures.other;
-      brief = flag_read (found_of c.args.found.now) (codes "brief") _ c.get_flag-6.ensures.none c.get_flag-6.ensures.value c.get_flag-6.ensures.other;
-      strict = flag_read (found_of c.args.found.now) (codes "strict") _ c.get_flag-7.ensures.none c.get_flag-7.ensures.value c.get_flag-7.ensures.other;
+      trace = c.has_flag.ensures;
+      live = c.has_flag-2.ensures;
+      changes = c.has_flag-3.ensures;
+      runs = c.has_flag-4.ensures;
+      brief = c.has_flag-5.ensures;
+      strict = c.has_flag-6.ensures;
       limit = refl;
     }

@@ -1,5 +1,4 @@
 use Rattle.rga_devices.specs.Counting.{Calls}
-use Rattle.mg_reports.specs.Reports.{fresh}
 use Rattle.mg_session.specs.Moments.{Known, Moment, seen, moment}
 use Rattle.mg_session.specs.Running.{ReadsKeys}
 use Rattle.mg_session.specs.declared.course.Course.TheVariants.{On}
@@ -7,9 +6,9 @@ use Rattle.mg_session.proofs.session.Session.take_keys.Given as goal
 
 abbrev pub invariant-reads : goal.invariant-reads
 invariant-reads g l = (behind : Moment) (rest : Calls Known)
-    → ReadsKeys l.self.manner l.reports
+    → ReadsKeys l.self.trace
     (moment l.editor (g.P.Port.calls l.port) (seen g.W.Write.contents l.screen) On) behind (seen g.R.Read.remaining l.keys) rest
-    → ReadsKeys l.self.manner (fresh l.self.manner.resizable)
+    → ReadsKeys l.self.trace
     (moment l.fn.editor (g.P.Port.calls l.fn.port) (seen g.W.Write.contents l.fn.screen) On) behind (seen g.R.Read.remaining l.fn.keys) rest
 
 abbrev pub decreases-reads : goal.decreases-reads

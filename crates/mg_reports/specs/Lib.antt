@@ -1,2 +1,0 @@
-pub mod Reports
-pub mod Written

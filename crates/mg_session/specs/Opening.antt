@@ -1,0 +1,23 @@
+-- How a session begins.
+use Rattle.std.specs.Prelude.{◌≡◌, ◌≢◌, ◌⊎◌, [], ◌∷◌, Result, Ok, Err}
+use Rattle.mg_files.specs.Calls.{Adds, load_call, found_call, refused}
+use Rattle.mg_files.specs.Files.{Files}
+use Rattle.mg_files.specs.Loading.{MayWantMemory}
+use Rattle.mg_files.specs.declared.fault.LoadFault.TheVariants as load
+use Rattle.mg_settings.specs.Settings.{Values}
+use Rattle.mg_editor.specs.Editors.{Editor}
+use Rattle.mg_editor.specs.Opening.{opened_editor}
+use Rattle.mg_session.specs.Moments.{ToldCalls}
+use Rattle.mg_session.specs.declared.fault.SessionFault.{SessionFault}
+use Rattle.mg_session.specs.declared.fault.SessionFault.TheVariants.{Load, File, Memory}
+
+-- This editor opens by what the first call answered, or none does, for this fault, or the call was refused. Where memory is
+-- wanting, it was for that call, or after it: then what was found is refused for nothing that is found without memory.
+abbrev pub LoadsTo : Values → ToldCalls → ToldCalls → Result Editor SessionFault → Type 0
+LoadsTo v calls told (Ok first) = (found : Files) × Adds calls told (found_call v.name found ∷ []) × (opened_editor v found ≡ Ok first)
+LoadsTo v calls told (Err (Load e)) =
+    (found : Files) × Adds calls told (found_call v.name found ∷ []) × (opened_editor v found ≡ Err e) × (e ≢ load.Memory)
+LoadsTo v calls told (Err File) = Adds calls told (refused (load_call v.name) ∷ [])
+LoadsTo v calls told (Err Memory) =
+    Adds calls told [] ⊎ ((found : Files) × Adds calls told (found_call v.name found ∷ []) × MayWantMemory v.replica v.limit found)
+LoadsTo v calls told (Err fault) = ⊥
