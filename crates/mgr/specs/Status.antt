@@ -1,5 +1,6 @@
 -- The exit status of the program.
 use Rattle.std.specs.Prelude.{◌≡◌, ◌≢◌, ◌⊎◌, ℕ, Bool, true, List, [], ◌∷◌, Option, None, Some, Result, Err, IfSome, codes, length, map, OnOk, OnErr, IfOk, IfErr, string_bytes}
+use Rattle.std.specs.Bool.{MatchBool}
 use Rattle.std.specs.Io.KnownBytes.{Appends}
 use Rattle.rga_ops.specs.Content.{Content, nothing as no_content}
 use Rattle.rga_store.specs.declared.text_store.TheConstants.{MAX_LIMIT}
@@ -15,7 +16,8 @@ use Rattle.mgr.specs.Telling.{KnownTelling, TellsMore, line, text, edited_tellin
 use Rattle.mg_session.specs.declared.fault.SessionFault.{SessionFault}
 use Rattle.mg_session.specs.declared.fault.SessionFault.TheVariants as session
 use Rattle.mg_files.specs.Calls.{Call}
-use Rattle.mg_session.specs.Running.{devices, IsSession}
+use Rattle.mg_session.specs.Running.{Devices, devices, IsSession}
+use Rattle.mg_live.specs.Running.{IsLiveSession}
 use Rattle.mg_settings.specs.Settings.{Values}
 use Rattle.mgr_args.specs.declared.given.Note.{Note}
 use Rattle.mgr_args.specs.declared.given.Shown.TheVariants.{Input, Front}
@@ -317,13 +319,18 @@ module _ {P W : Type 0} (calls : P → Option (List Call)) (standing : P → Lis
     pub others : SameElsewhere name (standing before.port) (standing between) × SameElsewhere name (refused before.port) (refused between)
     pub device : log_failures between ≡ failures_after_compaction answer (log_failures before.port)
 
+-- a live session, or one of keys, as the settings say
+abbrev pub IsEdited : {R W : Type 0} → (R → Option (List ℕ)) → (W → Option (List ℕ)) → Values → Result (Unit {0}) SessionFault → Devices R W → Devices R W → Type 0
+IsEdited remaining contents settings answer before after =
+    MatchBool settings.live (IsLiveSession remaining contents settings answer before after) (IsSession remaining contents settings answer before after)
+
 module _ {R W P : Type 0} (k : Knowledge R W P) where
   -- That of an answer of a session, which says what became of the keys, which device failed and what is told.
   pub record IsStatusOfEdit (settings : Values) (status : ℕ) (before after : Surroundings R W P) : Type 0 where
     pub answer : Result (Unit {0}) SessionFault
     pub exact : status ≡ edited_status answer
     pub told_line : TellsMore before.told after.told (edited_telling answer)
-    pub ran : IsSession k.remaining k.contents settings answer (devices before.input before.output (k.calls before.port)) (devices after.input after.output (k.calls after.port))
+    pub ran : IsEdited k.remaining k.contents settings answer (devices before.input before.output (k.calls before.port)) (devices after.input after.output (k.calls after.port))
     pub flushed : StaysFlushed session.Screen answer before.output after.output
     pub keys : CountsAs session.Keys answer before.input after.input
     pub screen : CountsAs session.Screen answer before.output after.output

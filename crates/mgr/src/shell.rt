@@ -1,6 +1,9 @@
 //! The job of the command line, done, and what the shell is told of it.
 ghost use Rattle.std.specs.Prelude.{◌≡◌, ◌≤◌, [], ◌∷◌, ◌++◌, codes, map, slice_get, string_bytes};
-ghost use Rattle.std.specs.Prelude.{IfErr, MatchResult, option_map};
+ghost use Rattle.std.specs.Prelude.{Err, IfErr, MatchResult, option_map};
+ghost use Rattle.rga_devices.specs.Counting.{CountsAs, StaysFlushed, one_more};
+ghost use Rattle.mg_session.specs.Running.{devices};
+ghost use Rattle.mg_session.specs.declared.fault.SessionFault.TheVariants as session;
 ghost use Rattle.mgr.specs.Report.{join_message, join_status, merge_message, merge_status, missing_message};
 ghost use Rattle.mgr.specs.Report.{missing_status, named_text, report_text, show_status, source_message, torn_message};
 ghost use Rattle.mgr_claims.specs.Notes.{log_source};
@@ -15,7 +18,8 @@ use crate::sources::PathFiles;
 use crate::streams::hold_closed;
 use crate::tell::{StandardError, Tell};
 use mg_files::Port;
-use mg_session::run_keys;
+use mg_live::run_live;
+use mg_session::{SessionFault, run_keys};
 use mg_settings::Settings;
 use mgr_args::{Job, JobFault, Merging, Note, Shown, job_of, job_status, words};
 use mgr_claims::{MissingFault, write_claims, write_missing};
@@ -182,9 +186,32 @@ fn edit<R: Read, W: Write, P: Port + Logs, T: Tell>(
         (status.surroundings reader.new writer.new port.new (T.told errors.new)) }
     ensures bound { result ≤ 4 }
 {
-    match run_keys::<FlatStore, _, _, _>(alloc, reader, writer, port, settings) {
+    match run_session(alloc, settings, reader, writer, port) {
         Ok(()) => 0,
         Err(fault) => told(errors, Report::of_session(&fault)),
+    }
+}
+
+/// Runs a session of keys, or a live one.
+fn run_session<R: Read, W: Write, P: Port>(
+    alloc: Global,
+    settings: &Settings,
+    reader: &mut Counted<R>,
+    writer: &mut Counted<W>,
+    port: &mut P,
+) -> Result<(), SessionFault>
+    ensures ran { status.IsEdited R.remaining W.contents settings.now result
+        (devices reader.old writer.old (P.calls port.old))
+        (devices reader.new writer.new (P.calls port.new)) }
+    ensures flushed { StaysFlushed session.Screen result writer.old writer.new }
+    ensures keys { CountsAs session.Keys result reader.old reader.new }
+    ensures screen { CountsAs session.Screen result writer.old writer.new }
+    ensures file { result ≡ Err session.File → P.failures port.new ≡ one_more (P.failures port.old) }
+{
+    if settings.values().live {
+        run_live::<FlatStore, _, _, _>(alloc, reader, writer, port, settings)
+    } else {
+        run_keys::<FlatStore, _, _, _>(alloc, reader, writer, port, settings)
     }
 }
 

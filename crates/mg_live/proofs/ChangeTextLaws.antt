@@ -1,0 +1,150 @@
+-- A change makes the text.
+use Rattle.std.proofs.Common.{◌≡◌, ◌≤◌, ◌+◌, ◌-◌, ℕ, suc, Bool, true, false, List, [], ◌∷◌, ◌++◌, length, take, drop, reverse, nat_eq, if◌then◌else◌, arith, refl, ap, sym, subst, ◌∙◌, true≢false}
+use Rattle.std.specs.Prelude.{Some, None, slice_range}
+use Rattle.std.proofs.Math.Seq.{drop-append_seam}
+use Rattle.std.proofs.lemmas.Bool.{eq-eqb, eqb-true}
+use Rattle.std.proofs.lemmas.List.{append_assoc, reverse-reverse, reverse-append, length-reverse, length-drop, length-take, take-append-drop, drop-drop, nil_from_length}
+use Rattle.std.proofs.lemmas.List.Folds.{drop_split}
+use Rattle.std.proofs.lemmas.Option.{none-some, same_Some}
+use Rattle.rga_ops.specs.Splice.{Splice, spliced}
+use Rattle.mg_live.specs.Changes.{common_front, common_end, splice_between, change_between}
+
+-- ---- what two texts have in common
+
+take_step : (b : Bool) (n x y : ℕ) (xs ys : List ℕ) → (b ≡ true → x ≡ y) → take n xs ≡ take n ys
+    → take (if b then suc n else 0) (x ∷ xs) ≡ take (if b then suc n else 0) (y ∷ ys)
+take_step true n x y xs ys alike rest = λ k. alike refl k ∷ rest k
+take_step false n x y xs ys alike rest = refl
+
+pub front_is_same : (xs ys : List ℕ) → take (common_front xs ys) xs ≡ take (common_front xs ys) ys
+front_is_same [] [] = refl
+front_is_same [] (y ∷ ys) = refl
+front_is_same (x ∷ xs) [] = refl
+front_is_same (x ∷ xs) (y ∷ ys) = take_step (nat_eq x y) (common_front xs ys) x y xs ys (eqb-true x y) (front_is_same xs ys)
+
+bound_step : (b : Bool) (n m : ℕ) → n ≤ m → (if b then suc n else 0) ≤ m + 1
+bound_step true n m within = omega (arith, within)
+bound_step false n m within = omega arith
+
+length_more : (x : ℕ) (xs : List ℕ) → length (x ∷ xs) ≡ length xs + 1
+length_more x xs = omega arith
+
+pub front_in_old : (xs ys : List ℕ) → common_front xs ys ≤ length xs
+front_in_old [] ys = omega arith
+front_in_old (x ∷ xs) [] = omega arith
+front_in_old (x ∷ xs) (y ∷ ys) =
+    let step = bound_step (nat_eq x y) (common_front xs ys) (length xs) (front_in_old xs ys) in
+    omega (arith, step, length_more x xs)
+
+pub front_in_new : (xs ys : List ℕ) → common_front xs ys ≤ length ys
+front_in_new [] ys = omega arith
+front_in_new (x ∷ xs) [] = omega arith
+front_in_new (x ∷ xs) (y ∷ ys) =
+    let step = bound_step (nat_eq x y) (common_front xs ys) (length ys) (front_in_new xs ys) in
+    omega (arith, step, length_more y ys)
+
+tail_reversed : (xs : List ℕ) (n : ℕ) → drop (length xs - n) xs ≡ reverse (take n (reverse xs))
+tail_reversed xs n =
+    let front = reverse (drop n (reverse xs)) in
+    let back = reverse (take n (reverse xs)) in
+    let whole : front ++ back ≡ xs =
+    sym (reverse-append (take n (reverse xs)) (drop n (reverse xs))) ∙ ap reverse (take-append-drop n (reverse xs)) ∙ reverse-reverse xs in
+    let size : length front ≡ length xs - n =
+    length-reverse (drop n (reverse xs)) ∙ length-drop n (reverse xs) ∙ ap (λ m. m - n) (length-reverse xs) in
+    (λ k. drop (sym size k) (sym whole k)) ∙ drop-append_seam front back
+
+end_is_same : (xs ys : List ℕ) → drop (length xs - common_end xs ys) xs ≡ drop (length ys - common_end xs ys) ys
+end_is_same xs ys =
+    tail_reversed xs (common_end xs ys) ∙ ap reverse (front_is_same (reverse xs) (reverse ys)) ∙ sym (tail_reversed ys (common_end xs ys))
+
+-- ---- the splice between two texts
+
+module _ (old new : List ℕ) where
+  abbrev lo : ℕ
+  lo = common_front old new
+
+  abbrev same : ℕ
+  same = common_end (drop lo old) (drop lo new)
+
+  same_in_old : lo + same ≤ length old
+  same_in_old = omega (arith, front_in_old old new, front_in_old (reverse (drop lo old)) (reverse (drop lo new)), length-reverse (drop lo old), length-drop lo old)
+
+  same_in_new : lo + same ≤ length new
+  same_in_new = omega (arith, front_in_new old new, front_in_new (reverse (drop lo old)) (reverse (drop lo new)), length-reverse (drop lo new), length-drop lo new)
+
+  at_end : (xs : List ℕ) → lo + same ≤ length xs → drop (length xs - same) xs ≡ drop (length (drop lo xs) - same) (drop lo xs)
+  at_end xs within =
+      let place : length xs - same ≡ lo + (length (drop lo xs) - same) = omega (arith, within, length-drop lo xs) in
+      ap (λ n. drop n xs) place ∙ sym (drop-drop (length (drop lo xs) - same) lo xs)
+
+  rest : drop (length old - same) old ≡ drop (length new - same) new
+  rest = at_end old same_in_old ∙ end_is_same (drop lo old) (drop lo new) ∙ sym (at_end new same_in_new)
+
+  abbrev put : List ℕ
+  put = slice_range new lo (length new - same)
+
+  makes : spliced old lo (length old - same) put ≡ new
+  makes =
+      let split = drop_split new lo (length new - same) (omega (arith, same_in_new)) in
+      append_assoc (take lo old) put (drop (length old - same) old)
+      ∙ (λ k. front_is_same old new k ++ (put ++ rest k)) ∙ ap (λ t. take lo new ++ t) (sym split) ∙ take-append-drop lo new
+
+  nothing_between : lo ≡ length old - same → put ≡ [] → old ≡ new
+  nothing_between at empty =
+      sym (take-append-drop lo old) ∙ (λ k. take lo old ++ (sym empty k ++ drop (at k) old))
+      ∙ sym (append_assoc (take lo old) put (drop (length old - same) old)) ∙ makes
+
+-- ---- the change, if there is any
+
+picked : (a b : Bool) (s t : Splice) → (if a then (if b then None else Some s) else Some s) ≡ Some t → s ≡ t
+picked true true s t is = absurd (none-some t is)
+picked true false s t is = same_Some s t is
+picked false b s t is = same_Some s t is
+
+left_out : (a b : Bool) (s : Splice) → (if a then (if b then None else Some s) else Some s) ≡ None → (a ≡ true) × (b ≡ true)
+left_out true true s is = (refl, refl)
+left_out true false s is = absurd (none-some s (sym is))
+left_out false b s is = absurd (none-some s (sym is))
+
+is_between : (old new : List ℕ) (s : Splice) → change_between old new ≡ Some s → splice_between old new ≡ s
+is_between old new s is =
+    let t = splice_between old new in
+    picked (nat_eq t.lo t.hi) (nat_eq (length t.put) 0) t s is
+
+pub change_makes : (old new : List ℕ) (s : Splice) → change_between old new ≡ Some s → spliced old s.lo s.hi s.put ≡ new
+change_makes old new s is = sym (ap (λ (t : Splice). spliced old t.lo t.hi t.put) (is_between old new s is)) ∙ makes old new
+
+pub change_within : (old new : List ℕ) (s : Splice) → change_between old new ≡ Some s → (s.lo ≤ s.hi) × (s.hi ≤ length old)
+change_within old new s is =
+    let begins : lo old new ≤ length old - same old new = omega (arith, same_in_old old new) in
+    let ends : length old - same old new ≤ length old = omega arith in
+    subst (λ (t : Splice). (t.lo ≤ t.hi) × (t.hi ≤ length old)) (is_between old new s is) (begins, ends)
+
+pub no_change : (old new : List ℕ) → change_between old new ≡ None → old ≡ new
+no_change old new is =
+    let t = splice_between old new in
+    let (at, empty) = left_out (nat_eq t.lo t.hi) (nat_eq (length t.put) 0) t is in
+    nothing_between old new (eqb-true t.lo t.hi at) (nil_from_length t.put (eqb-true (length t.put) 0 empty))
+
+-- ---- no change of a text itself
+
+front_of_itself : (xs : List ℕ) → common_front xs xs ≡ length xs
+front_of_itself [] = refl
+front_of_itself (x ∷ xs) =
+    ap (λ b. if b then suc (common_front xs xs) else 0) (eq-eqb x x refl) ∙ ap suc (front_of_itself xs)
+
+left_out_if : (a b : Bool) (s : Splice) → a ≡ true → b ≡ true → (if a then (if b then None else Some s) else Some s) ≡ None
+left_out_if true true s at empty = refl
+left_out_if true false s at empty = absurd (true≢false (sym empty))
+left_out_if false b s at empty = absurd (true≢false (sym at))
+
+pub no_change_of_itself : (text : List ℕ) → change_between text text ≡ None
+no_change_of_itself text =
+    let t = splice_between text text in
+    let n = lo text text in
+    let whole : n ≡ length text = front_of_itself text in
+    let within : n + same text text ≤ length text = same_in_old text text in
+    let at : n ≡ length text - same text text = omega (arith, whole, within) in
+    let nothing : length (put text text) ≡ 0 =
+    omega (arith, length-take (length text - same text text - n) (drop n text), length-drop n text, whole) in
+    left_out_if (nat_eq t.lo t.hi) (nat_eq (length t.put) 0) t (eq-eqb t.lo t.hi at) (eq-eqb (length t.put) 0 nothing)

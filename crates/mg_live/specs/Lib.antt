@@ -1,0 +1,12 @@
+pub mod FaultNames
+pub mod Gathering
+pub mod Tallies
+pub mod Telling
+pub mod Changes
+pub mod States
+pub mod Made
+pub mod Keys
+pub mod Reports
+pub mod Statuses
+pub mod Blocks
+pub mod Running

@@ -1,0 +1,73 @@
+//! Keys of a live session.
+ghost use Rattle.std.specs.Prelude.{◌≡◌, ◌&&◌, is_some};
+ghost use Rattle.rga_devices.specs.Counting.{Calls};
+ghost use Rattle.mg_editor.specs.Editors as editors;
+ghost use Rattle.mg_session.specs.Moments.{Known};
+ghost use Rattle.mg_session.specs.declared.course.Course.TheVariants.{On};
+ghost use Rattle.mg_live.specs.Keys as spec;
+ghost use Rattle.mg_live.specs.Made.{if_memory, live_index};
+ghost use Rattle.mg_live.specs.States.{moment};
+
+use crate::live::Live;
+use crate::made::{mark_current, note_made};
+use mg_editor::Editor;
+use mg_files::Port;
+use mg_session::{Course, course_behind, press};
+use rga_store::{Teller, TextStore};
+
+/// Presses a byte, and carries what it requests. What the press made is to be told, and so is what
+/// the load of the live buffer made. The session ends where there is no memory to note it.
+pub(crate) fn take_key<S: Teller, P: Port>(
+    live: &mut Live,
+    editor: &mut Editor<S>,
+    byte: u8,
+    port: &mut P,
+) -> Course
+    ensures { (screen : Calls Known) → spec.TakesKey byte
+        (moment editor.old (P.calls port.old) screen On live.old)
+        (moment editor.new (P.calls port.new) screen result live.new) }
+{
+    live.tally.count_key();
+    let mark = mark_current(live, editor);
+    let request = press(editor, byte);
+    let noted = note_made(live, editor, mark);
+    let course = course_behind(&request);
+    let was_open = is_open(live, editor);
+    let _ = editor.carry(request, port);
+    let noted_opened = note_opened(live, editor, was_open);
+    go_on(noted, noted_opened, course)
+}
+
+/// The session goes on as that, if there was memory for both.
+fn go_on(noted: bool, noted_opened: bool, course: Course) -> Course
+    ensures { result ≡ if_memory (noted && noted_opened) course }
+{
+    if noted && noted_opened {
+        course
+    } else {
+        Course::NoMemory
+    }
+}
+
+/// Whether the live buffer is open.
+fn is_open<S: TextStore>(live: &Live, editor: &Editor<S>) -> bool
+    ensures { result ≡ is_some (live_index live.now.name editor.now) }
+{
+    editor.live_index(live.name.as_slice()).is_some()
+}
+
+/// Notes what the load of the live buffer made, if it was opened since. Answers whether there was
+/// memory for it.
+fn note_opened<S: TextStore>(live: &mut Live, editor: &Editor<S>, was_open: bool) -> bool
+    ensures { (old : editors.Editor) → was_open ≡ is_some (live_index live.old.name old) →
+        live.new ≡ spec.with_opened result old editor.now live.old }
+{
+    if was_open {
+        return true;
+    }
+    let Some(index) = editor.live_index(live.name.as_slice()) else {
+        return true;
+    };
+    live.telling.note_taken(false);
+    live.telling.add(editor.unsaved_at(index)).is_ok()
+}

@@ -1,0 +1,35 @@
+//! A live session: operations of others among the keys, own ones saved as they are typed and then
+//! told.
+//!
+//! `run_live` loads a buffer, takes keys and reports, block by block, and writes after each block a
+//! status and the frame. Then what was made is logged, and after a second status it is told. The
+//! crate stands on mg_events for keys and reports, on mg_editor for the editor, on mg_status for
+//! statuses, on mg_session for keys and courses, on mg_files for ports, and on rga_devices for
+//! devices whose calls are counted. The layer above may rest on `IsLiveSession`: which keys and
+//! reports are taken, in turn, what each leaves, what is written to the screen, and which calls of
+//! the port the ends of blocks add.
+#![tactic(auto)]
+
+mod blocks;
+mod changes;
+mod changing;
+mod fault;
+mod finishing;
+mod gathered;
+mod keys;
+pub mod laws;
+mod live;
+mod made;
+mod opening;
+mod others;
+mod picture;
+mod pieces;
+mod reports;
+mod session;
+mod shown;
+mod taking;
+mod tally;
+mod telling;
+
+pub use fault::ReportFault;
+pub use session::run_live;

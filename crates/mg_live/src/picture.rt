@@ -1,0 +1,253 @@
+//! Statuses, with what stands after them.
+ghost use Rattle.std.specs.Prelude.{◌≡◌, ◌∷◌, ◌++◌, [], IfOk, IfSome, OnOk, OnSome, None, true, false, string_bytes, map};
+ghost use Rattle.mg_live.specs.Made.{live_index};
+ghost use Rattle.mg_status.specs.StatusText.{status_text};
+ghost use Rattle.rga_devices.specs.Counting.{Counts, Writes, WritesFront};
+ghost use Rattle.rga_lines.specs.Stream.{bytes_of_lines, newline};
+ghost use Rattle.mg_editor.specs.Frames.{placed_editor};
+ghost use Rattle.mg_session.specs.Moments.{ToldCalls, seen};
+ghost use Rattle.mg_live.specs.States.{moment};
+ghost use Rattle.mg_live.specs.Statuses as spec;
+
+use crate::live::Live;
+use crate::shown::{Shown, are_same_rows};
+use mg_editor::Editor;
+use mg_files::PortFault;
+use mg_session::Course;
+use mg_status::{BufferStatus, Saved, Status, status_line};
+use rga_devices::Counted;
+use rga_ops::Splice;
+use rga_store::TextStore;
+use std::alloc::{AllocError, Global};
+use std::io;
+use std::io::Write;
+
+/// What is to be shown: a fresh frame or none, whether a second status follows, and lines of
+/// operations.
+#[derive(Clone, Copy)]
+pub(crate) struct Line<'a> {
+    pub(crate) fresh: bool,
+    pub(crate) more: bool,
+    pub(crate) told: &'a [u8],
+}
+
+/// How many rows and lines of operations stand after a status, and whether a second one follows.
+#[derive(Clone, Copy)]
+pub(crate) struct After {
+    pub(crate) rows: usize,
+    pub(crate) operations: usize,
+    pub(crate) more: bool,
+}
+
+/// How the last writing of a log ended.
+fn saved_status(saved: Option<Result<(), PortFault>>) -> Saved
+    ensures { result ≡ spec.saved_status saved }
+{
+    match saved {
+        None => Saved::Unsaved,
+        Some(Ok(())) => Saved::Done,
+        Some(Err(PortFault::File)) => Saved::File,
+        Some(Err(PortFault::Memory)) => Saved::Memory,
+    }
+}
+
+/// What is told of the live buffer, where it is open.
+fn live_status<'a, S: TextStore>(
+    live: &Live,
+    editor: &'a Editor<S>,
+) -> Result<Option<BufferStatus<'a>>, AllocError>
+    ensures { IfOk result
+        (spec.IsLiveStatus (live_index live.now.name editor.now) editor.now) }
+{
+    let Some(index) = editor.live_index(live.name.as_slice()) else {
+        return Ok(None);
+    };
+    Ok(Some(editor.buffer_status(index)?))
+}
+
+/// The changes of this block, where they are asked for.
+fn changes_status(live: &Live) -> Option<&[Splice]>
+    ensures { spec.AreChanges live.now.changes result }
+{
+    match &live.changes {
+        Some(changes) => Some(changes.list()),
+        None => None,
+    }
+}
+
+/// The line of a status.
+fn status_text<S: TextStore>(
+    live: &Live,
+    editor: &Editor<S>,
+    after: After,
+) -> Result<String, AllocError>
+    ensures { IfOk result (λ text. (status : Status)
+        × spec.IsStatus live.now editor.now after status
+        × (string_bytes text ≡ status_text status)) }
+{
+    let Some(point) = editor.point_status() else {
+        return Err(AllocError);
+    };
+    let message = editor.message_text(live.alloc)?;
+    let windows = editor.window_statuses(live.alloc)?;
+    status_line(
+        live.alloc,
+        &Status {
+            begun: editor.is_amid_keys(),
+            buffer: editor.buffer_status(editor.current_index())?,
+            changes: changes_status(live),
+            cursor: live.shown.cursor,
+            keys: live.tally.keys(),
+            live: live_status(live, editor)?,
+            loaded: live.loaded,
+            message: message.as_str(),
+            mode: editor.mode(),
+            more: after.more,
+            operations: after.operations,
+            places: live.shown.places.as_slice(),
+            point,
+            prompt: editor.prompt_status(),
+            refused: live.tally.refused(),
+            reports: live.tally.reports(),
+            rows: after.rows,
+            saved: saved_status(live.saved),
+            windows: windows.as_slice(),
+        },
+    )
+}
+
+/// Draws the frame, which is what was shown last then, and answers whether its rows are new. `None`
+/// where memory is wanting, and then nothing is shown anew.
+fn draw<S: TextStore>(live: &mut Live, editor: &mut Editor<S>) -> Option<bool>
+    ensures drawn { IfSome result (λ is_new. spec.Draws is_new live.old live.new editor.new) }
+    ensures placed { OnSome result (editor.new ≡ placed_editor editor.old) }
+    ensures same { result ≡ None → (live.new ≡ live.old) × (editor.new ≡ editor.old) }
+{
+    let index = editor.live_index(live.name.as_slice());
+    let Ok(frame) = editor.live_frame(index, live.places.as_slice()) else {
+        return None;
+    };
+    let is_same = are_same_rows(live.shown.rows.as_slice(), frame.rows.as_slice());
+    live.shown = Shown {
+        rows: frame.rows,
+        cursor: Some(frame.cursor),
+        places: frame.places,
+    };
+    Some(!is_same)
+}
+
+/// Sees to it that the text of each buffer is at hand. `None` where memory is wanting.
+fn list<S: TextStore>(editor: &mut Editor<S>) -> Option<bool>
+    ensures listed { IfSome result (λ is_new. is_new ≡ false) }
+    ensures same { editor.new ≡ editor.old }
+{
+    match editor.list() {
+        Ok(()) => Some(false),
+        Err(_) => None,
+    }
+}
+
+/// Draws the frame if it is to be fresh, unless changes are told in its place. Answers whether there
+/// are new rows. `None` where memory is wanting, and then nothing is shown anew.
+fn ready<S: TextStore>(live: &mut Live, editor: &mut Editor<S>, fresh: bool) -> Option<bool>
+    ensures drawn { IfSome result
+        (λ is_new. spec.Readies fresh is_new live.old editor.old live.new editor.new) }
+    ensures same { result ≡ None → (live.new ≡ live.old) × (editor.new ≡ editor.old) }
+{
+    if fresh && live.changes.is_none() {
+        return draw(live, editor);
+    }
+    list(editor)
+}
+
+/// How many lines these are.
+fn line_count(bytes: &[u8]) -> usize
+    ensures { result ≡ spec.line_count bytes.now }
+{
+    bytes.iter().filter(|byte| **byte == b'\n').count()
+}
+
+/// Adds a row, with a newline after it.
+fn push_row(bytes: &mut Vec<u8>, row: &str) -> Result<(), AllocError>
+    ensures { OnOk result (bytes.new.items ≡ bytes.old.items ++ (row.now ++ newline ∷ [])) }
+{
+    bytes.extend_from_slice(row.as_bytes())?;
+    bytes.push(b'\n')?;
+    Ok(())
+}
+
+/// Adds the rows, each with a newline after it.
+fn push_rows(bytes: &mut Vec<u8>, rows: &[String]) -> Result<(), AllocError>
+    ensures { OnOk result (bytes.new.items
+        ≡ bytes.old.items ++ bytes_of_lines (map string_bytes rows.now)) }
+{
+    for row in rows {
+        push_row(bytes, row.as_str())?;
+    }
+    Ok(())
+}
+
+/// The bytes of a status, with the rows that are shown after it if they are new, and then with lines
+/// of operations.
+fn picture<S: TextStore>(
+    live: &Live,
+    editor: &Editor<S>,
+    is_new: bool,
+    more: bool,
+    told: &[u8],
+) -> Result<Vec<u8>, AllocError>
+    ensures { IfOk result
+        (λ bytes. spec.IsPicture is_new more told.now live.now editor.now bytes.items) }
+{
+    let rows: &[String] = if is_new {
+        live.shown.rows.as_slice()
+    } else {
+        &[]
+    };
+    let after = After {
+        rows: rows.len(),
+        operations: line_count(told),
+        more,
+    };
+    let text = status_text(live, editor, after)?;
+    let mut bytes = Vec::from_slice(live.alloc, text.as_bytes())?;
+    push_rows(&mut bytes, rows)?;
+    bytes.extend_from_slice(told)?;
+    Ok(bytes)
+}
+
+/// Writes bytes, and flushes the device.
+fn write<W: Write>(bytes: &[u8], screen: &mut Counted<W>) -> io::Result<()>
+    ensures bytes { OnOk result (Writes W.contents screen.old screen.new bytes.now) }
+    ensures begun { WritesFront W.contents screen.old screen.new bytes.now }
+    ensures device { Counts result screen.old screen.new }
+    ensures flushed { OnOk result (screen.new.flushed ≡ true) }
+{
+    screen.write_all(bytes)?;
+    screen.flush()
+}
+
+/// Writes a status with what stands after it. The frame is drawn if it is to be fresh, unless changes
+/// are told in its place. The session then stands as it did, unless that fails.
+pub(crate) fn show<S: TextStore, W: Write>(
+    live: &mut Live,
+    editor: &mut Editor<S>,
+    screen: &mut Counted<W>,
+    line: Line<'_>,
+    course: Course,
+) -> Course
+    ensures { (calls : ToldCalls) → spec.Shows line.entry.fresh line.entry.more line.entry.told.now
+        (moment editor.old calls (seen W.contents screen.old) course live.old)
+        (moment editor.new calls (seen W.contents screen.new) result live.new) }
+{
+    let Some(is_new) = ready(live, editor, line.fresh) else {
+        return Course::NoMemory;
+    };
+    let Ok(bytes) = picture(live, editor, is_new, line.more, line.told) else {
+        return Course::NoMemory;
+    };
+    match write(&bytes, screen) {
+        Ok(()) => course,
+        Err(_) => Course::NoScreen,
+    }
+}

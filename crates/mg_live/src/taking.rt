@@ -1,0 +1,186 @@
+//! Keys and reports of a live session, block by block.
+ghost use Rattle.std.specs.Prelude.{◌≡◌, ◌<◌, ◌≤◌, ◌+◌, ◌||◌, length, take, IfOk, OnOk, OnErr, false};
+ghost use Rattle.std.specs.Io.KnownBytes.{Consumes, Keeps};
+ghost use Rattle.rga_devices.specs.Counting.{Calls, Counts, IsReadToEnd};
+ghost use Rattle.mg_events.specs.Reading.{Reading, key, report, told_by};
+ghost use Rattle.mg_live.specs.Running as spec;
+ghost use Rattle.mg_live.specs.States.{moment};
+ghost use Rattle.mg_session.specs.Moments.{Known, ToldCalls, seen};
+ghost use Rattle.mg_session.specs.declared.course.Course.TheVariants.{On};
+
+use crate::blocks::end_block;
+use crate::changing::note_changes;
+use crate::keys::take_key;
+use crate::live::Live;
+use crate::reports::{refuse_line, take_line};
+use mg_editor::Editor;
+use mg_events::{Event, Reader};
+use mg_files::Port;
+use mg_session::Course;
+use rga_devices::Counted;
+use rga_store::{Teller, TextStore};
+use std::io;
+use std::io::{Read, Write};
+
+/// How many bytes one read of the keys asks for.
+const BLOCK: usize = 65536;
+
+/// Takes a key, and notes how the text changed by it.
+fn take_noted_key<S: Teller, P: Port>(
+    live: &mut Live,
+    editor: &mut Editor<S>,
+    byte: u8,
+    port: &mut P,
+) -> Course
+    ensures { (screen : Calls Known) → spec.TakesEvent (key byte)
+        (moment editor.old (P.calls port.old) screen On live.old)
+        (moment editor.new (P.calls port.new) screen result live.new) }
+{
+    let course = take_key(live, editor, byte, port);
+    note_changes(live, editor, course)
+}
+
+/// Takes a report, and notes how the text changed by it.
+fn take_noted_line<S: TextStore>(live: &mut Live, editor: &mut Editor<S>, line: &[u8]) -> Course
+    ensures { (calls : ToldCalls) (screen : Calls Known) → spec.TakesEvent (report line.now)
+        (moment editor.old calls screen On live.old)
+        (moment editor.new calls screen result live.new) }
+{
+    let course = take_line(live, editor, line);
+    note_changes(live, editor, course)
+}
+
+/// Takes an event.
+fn take_event<S: Teller, P: Port>(
+    live: &mut Live,
+    editor: &mut Editor<S>,
+    event: Event,
+    line: &[u8],
+    port: &mut P,
+) -> Course
+    ensures { (screen : Calls Known) (left : Reading) → left.line ≡ line.now →
+        spec.TakesEvents (told_by event left)
+        (moment editor.old (P.calls port.old) screen On live.old)
+        (moment editor.new (P.calls port.new) screen result live.new) }
+{
+    match event {
+        Event::Nothing => Course::On,
+        Event::Refused(fault) => refuse_line(live, fault),
+        Event::Key(byte) => take_noted_key(live, editor, byte, port),
+        Event::Line => take_noted_line(live, editor, line),
+    }
+}
+
+/// Whether there was any event, once there was this one.
+fn count_event(event: Event, any: bool) -> bool
+    ensures { (left : Reading) → result ≡ (spec.is_any (told_by event left) || any) }
+{
+    match event {
+        Event::Nothing => any,
+        Event::Key(_) | Event::Line | Event::Refused(_) => true,
+    }
+}
+
+/// How a session stands after the bytes of a read, and whether there was any event.
+#[derive(Clone, Copy)]
+struct Taken {
+    course: Course,
+    any: bool,
+}
+
+/// Takes the bytes of a read, up to one behind which the session ends.
+fn take_bytes<S: Teller, P: Port>(
+    live: &mut Live,
+    editor: &mut Editor<S>,
+    reader: &mut Reader,
+    block: &[u8],
+    port: &mut P,
+) -> Taken
+    ensures { (screen : Calls Known) → spec.TakesBytes block.now reader.old false
+        (moment editor.old (P.calls port.old) screen On live.old) reader.new result.any
+        (moment editor.new (P.calls port.new) screen result.course live.new) }
+{
+    let mut any = false;
+    for byte in block {
+        let event = reader.read(*byte);
+        any = count_event(event, any);
+        match take_event(live, editor, event, reader.line(), port) {
+            Course::On => {}
+            ended => return Taken { course: ended, any },
+        }
+    }
+    Taken {
+        course: Course::On,
+        any,
+    }
+}
+
+/// Takes the bytes of a read, and ends the block if there was an event.
+fn take_block<S: Teller, W: Write, P: Port>(
+    live: &mut Live,
+    editor: &mut Editor<S>,
+    reader: &mut Reader,
+    block: &[u8],
+    screen: &mut Counted<W>,
+    port: &mut P,
+) -> Course
+    ensures { spec.TakesBlock block.now reader.old
+        (moment editor.old (P.calls port.old) (seen W.contents screen.old) On live.old) reader.new
+        (moment editor.new (P.calls port.new) (seen W.contents screen.new) result live.new) }
+{
+    let taken = take_bytes(live, editor, reader, block, port);
+    if taken.any {
+        end_block(live, editor, screen, port, taken.course)
+    } else {
+        taken.course
+    }
+}
+
+/// Reads bytes of the keys, and answers how many.
+fn read_block<R: Read>(keys: &mut Counted<R>, block: &mut [u8]) -> io::Result<usize>
+    requires { 0 < length block.old }
+    ensures length { length block.new ≡ length block.old }
+    ensures within { IfOk result (λ count. count ≤ length block.new) }
+    ensures bytes { IfOk result (λ count.
+        Consumes (R.remaining keys.old.inner) (R.remaining keys.new.inner) (take count block.new)) }
+    ensures kept { OnErr result (Keeps (R.remaining keys.old.inner) (R.remaining keys.new.inner)) }
+    ensures end { IfOk result (λ count. count ≡ 0 → IsReadToEnd R.remaining keys.new) }
+    ensures device { Counts result keys.old keys.new }
+    ensures call { OnOk result (keys.old.left ≡ keys.new.left + 1) }
+{
+    keys.read(block)
+}
+
+/// Takes what the keys mean, block by block, up to one behind which the session ends, or to their
+/// end.
+pub(crate) fn take_keys<S: Teller, R: Read, W: Write, P: Port>(
+    live: &mut Live,
+    editor: &mut Editor<S>,
+    reader: &mut Reader,
+    keys: &mut Counted<R>,
+    screen: &mut Counted<W>,
+    port: &mut P,
+    begun: Course,
+) -> Course
+    ensures { spec.ReadsKeys reader.old
+        (moment editor.old (P.calls port.old) (seen W.contents screen.old) begun live.old)
+        reader.new
+        (moment editor.new (P.calls port.new) (seen W.contents screen.new) result live.new)
+        (seen R.remaining keys.old) (seen R.remaining keys.new) }
+{
+    let mut course = begun;
+    let mut block = [0u8; BLOCK];
+    'reads: loop {
+        match course {
+            Course::On => {}
+            ended => return ended,
+        }
+        match read_block(keys, &mut block) {
+            Err(_) => return Course::NoKeys,
+            Ok(0) => return Course::On,
+            Ok(count) => {
+                course = take_block(live, editor, reader, &block[..count], screen, port);
+            }
+        }
+    }
+}

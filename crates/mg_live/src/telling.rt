@@ -1,0 +1,118 @@
+//! What of the own operations is still to be saved and told.
+ghost use Rattle.std.specs.Prelude.{◌≡◌, ◌++◌, ◌||◌, [], true, false, OnOk, OnErr};
+ghost use Rattle.mg_live.specs.Telling as spec;
+
+use rga_ops::Op;
+use std::alloc::{AllocError, Global};
+use std::marker::Model;
+
+/// What was made in the live buffer and is not told yet, and what is to be done at the end of the
+/// block.
+#[derive(Drop)]
+pub(crate) struct Telling {
+    untold: Vec<Op>,
+    /// In this block something was made, in whatever buffer.
+    made: bool,
+    /// In this block nobody was said to type.
+    resting: bool,
+    /// The live buffer took operations of others since its load.
+    took: bool,
+}
+
+impl Model for Telling {
+    ghost use Rattle.mg_live.specs.Telling as spec;
+
+    ghost Value = { spec.Telling };
+
+    ghost view = { λ t. record {
+      untold = t.untold.items;
+      made = t.made;
+      resting = t.resting;
+      took = t.took;
+    } };
+}
+
+impl Telling {
+    /// There is nothing to tell. Takes no memory.
+    pub(crate) fn new(alloc: Global) -> Telling
+        ensures { result ≡ spec.nothing_to_tell }
+    {
+        Telling {
+            untold: Vec::new(alloc),
+            made: false,
+            resting: false,
+            took: false,
+        }
+    }
+
+    /// More operations are to be told. `AllocError` alone, and nothing changes then.
+    pub(crate) fn add(&mut self, ops: &[Op]) -> Result<(), AllocError>
+        ensures added { OnOk result (self.new ≡ record self.old {
+          untold = self.old.untold ++ ops.now;
+        }) }
+        ensures same { OnErr result (self.new ≡ self.old) }
+    {
+        self.untold.extend_from_slice(ops)?;
+        Ok(())
+    }
+
+    /// Something was made in this block, or not. Takes no memory.
+    pub(crate) fn note_made(&mut self, is_any: bool)
+        ensures { self.new ≡ record self.old { made = self.old.made || is_any } }
+    {
+        self.made = self.made || is_any;
+    }
+
+    /// Nobody types. Takes no memory.
+    pub(crate) fn rest(&mut self)
+        ensures { self.new ≡ record self.old { resting = true } }
+    {
+        self.resting = true;
+    }
+
+    /// The live buffer took operations of others, or was opened anew. Takes no memory.
+    pub(crate) fn note_taken(&mut self, took: bool)
+        ensures { self.new ≡ record self.old { took = took } }
+    {
+        self.took = took;
+    }
+
+    /// All is told. Takes no memory.
+    pub(crate) fn mark_told(&mut self)
+        ensures { self.new ≡ record self.old { untold = [] } }
+    {
+        self.untold.clear();
+    }
+
+    /// The block ended. Takes no memory.
+    pub(crate) fn end_block(&mut self)
+        ensures { self.new ≡ record self.old { made = false; resting = false } }
+    {
+        self.made = false;
+        self.resting = false;
+    }
+
+    pub(crate) fn untold(&self) -> &[Op]
+        ensures { result.now ≡ self.now.untold }
+    {
+        &self.untold
+    }
+
+    pub(crate) fn has_made(&self) -> bool
+        ensures { result ≡ self.now.made }
+    {
+        self.made
+    }
+
+    pub(crate) fn is_resting(&self) -> bool
+        ensures { result ≡ self.now.resting }
+    {
+        self.resting
+    }
+
+    pub(crate) fn has_taken(&self) -> bool
+        ensures { result ≡ self.now.took }
+    {
+        self.took
+    }
+}
