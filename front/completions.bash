@@ -53,7 +53,7 @@ _mgr() {
             if ((COMP_CWORD == 1)); then
                 mapfile -t COMPREPLY < <(compgen -W "claims compact edit join log mend merge missing show who help --version --help" -- "$word")
             elif [[ ${COMP_WORDS[1]} == edit ]]; then
-                _mgr_word "$word" --replica --rows --cols --fill --port --trace --newest --cursor --resizable --runs --brief --strict --help
+                _mgr_word "$word" --replica --rows --cols --fill --port --trace --live --changes --runs --brief --strict --help
             elif [[ ${COMP_WORDS[1]} == compact ]]; then
                 _mgr_word "$word" --dels --help
             elif [[ ${COMP_WORDS[1]} == show ]]; then

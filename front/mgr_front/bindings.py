@@ -2,8 +2,8 @@
 
 import re
 
-from mgr_front.dialogue import ARGUMENT, ESCAPE, NO_KEY, QUOTE, RETURN, Mode
-from mgr_front.keys import Meta, Named, Pasted, Stroke
+from mgr_front.keys import ARGUMENT, ESCAPE, NO_KEY, QUOTE, RETURN, Meta, Named, Pasted, Stroke
+from mgr_front.statuses import PROMPT, QUERY
 
 NAMED = {
     "up": b"\x10",
@@ -21,14 +21,14 @@ NAMED = {
     "buffer-end": b"\x1b>",
 }
 
-LINE_MODES = (Mode.PROMPT, Mode.QUERY)
+LINE_MODES = (PROMPT, QUERY)
 
 # What is no character of a text by itself. TAB is one.
 CONTROL_SIGN = re.compile(rb"\r\n|[\x00-\x08\x0a-\x1f\x7f]")
 LINE_ENDS = (b"\r\n", b"\r", b"\n")
 
 
-def named_keys(name: str, mode: Mode, is_begun: bool) -> bytes:
+def named_keys(name: str, mode: str, is_begun: bool) -> bytes:
     """Returns the keys that do what a key of that name does.
 
     While a line is asked for the second of two would be taken for a part of it, and where a key was
@@ -38,9 +38,9 @@ def named_keys(name: str, mode: Mode, is_begun: bool) -> bytes:
     return keys if len(keys) == 1 or not is_begun and mode not in LINE_MODES else bytes([NO_KEY])
 
 
-def argument_keys(digit: int, begun: bytes) -> bytes:
+def argument_keys(digit: int, is_begun: bool) -> bytes:
     """Returns the keys that add a digit, with the meta key, to the argument that was begun."""
-    return bytes([digit]) if begun else bytes([ARGUMENT, digit])
+    return bytes([digit]) if is_begun else bytes([ARGUMENT, digit])
 
 
 def text_keys(data: bytes) -> bytes:

@@ -4,11 +4,20 @@ import os
 from collections.abc import Iterable
 
 from mgr_front.bindings import CONTROL_SIGN
-from mgr_front.cells import row_width
-from mgr_front.dialogue import COMMAND, DELETE, FIND, KILL, RETURN, SWITCH, label_of
 from mgr_front.errands import Errand
-from mgr_front.modelines import COLUMNS
-from mgr_front.names import COMMANDS
+from mgr_front.keys import DELETE, RETURN
+from mgr_front.statuses import COMMAND, FIND, KILL, SWITCH
+
+# The commands that M-x takes.
+COMMANDS = """
+    backward-char backward-word beginning-of-buffer beginning-of-line capitalize-word copy-region-as-kill
+    delete-backward-char delete-char delete-other-windows delete-window downcase-word end-of-buffer end-of-line
+    exchange-point-and-mark fill-paragraph find-file forward-char forward-word isearch-backward isearch-forward
+    kill-buffer kill-line kill-region kill-word mark-whole-buffer newline newline-and-indent next-line open-line
+    other-window previous-line query-replace recenter replica-exchange replica-serve save-buffer
+    save-buffers-kill-emacs scroll-down scroll-up set-mark-command split-window-vertically switch-to-buffer
+    transpose-chars undo upcase-word yank
+""".split()
 
 HOME = "~/"
 # Files that stand beside a note and are none.
@@ -51,17 +60,14 @@ def _can_be_typed(name: str) -> bool:
         return False
 
 
-def complete(prompt: str, buffers: Iterable[str]) -> Errand:
+def complete(label: str, answer: str, buffers: Iterable[str]) -> Errand:
     """Makes the answer of a prompt as long as all that it may become have in common.
 
     Says what that is, where it is several.
     """
-    label = label_of(prompt)
-    answer = prompt[len(label) :]
-    whole = expanded(answer)
-    found = candidates(label, whole, buffers)
+    found = candidates(label, expanded(answer), buffers)
     common = os.path.commonprefix(found)
-    if not found or row_width(prompt) >= COLUMNS - 1:
+    if not found:
         return "No match"
     if common != answer:
         yield _retyped(answer, common)
@@ -69,22 +75,20 @@ def complete(prompt: str, buffers: Iterable[str]) -> Errand:
     return "Sole completion" if len(found) == 1 else " ".join(os.path.basename(name) or name for name in found)
 
 
-def accept(prompt: str) -> Errand:
+def accept(answer: str) -> Errand:
     """Accepts the answer of a prompt, with the home folder in place of a leading `~/`."""
-    answer = prompt[len(label_of(prompt)) :]
     yield _retyped(answer, expanded(answer)) + bytes([RETURN])
     return None
 
 
-def asks_for_name(prompt: str) -> bool:
+def asks_for_name(label: str) -> bool:
     """Whether a prompt asks for a name, of a command, a file or a buffer."""
-    return label_of(prompt) in (COMMAND, FIND, SWITCH, KILL)
+    return label in (COMMAND, FIND, SWITCH, KILL)
 
 
-def begins_at_home(prompt: str) -> bool:
-    """Whether a prompt asks for a name, and its answer begins in the home folder."""
-    label = label_of(prompt)
-    return label in (FIND, SWITCH, KILL) and prompt.startswith(HOME, len(label))
+def begins_at_home(label: str, answer: str) -> bool:
+    """Whether a prompt asks for the name of a file or a buffer, and it begins in the home folder."""
+    return label in (FIND, SWITCH, KILL) and answer.startswith(HOME)
 
 
 def _retyped(answer: str, new: str) -> bytes:

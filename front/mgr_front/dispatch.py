@@ -6,11 +6,12 @@ from collections.abc import Iterable
 from typing import Protocol
 
 from mgr_front.bindings import LINE_MODES, answer_keys, argument_keys, named_keys, plain_keys, text_keys
-from mgr_front.dialogue import CANCEL, CONTROL_X, DELETE, ESCAPE, NO_KEY, QUOTE, RETURN, TAB, Mode
 from mgr_front.editor import Editor
 from mgr_front.errands import Errand, kill_word_backward
+from mgr_front.keys import CANCEL, CONTROL_X, DELETE, ESCAPE, NO_KEY, QUOTE, RETURN, TAB
 from mgr_front.keys import Meta, Named, Pasted, Stroke, Typed
 from mgr_front.minibuffer import Question, ask_for_line
+from mgr_front.statuses import PLAIN, PROMPT, QUERY
 
 REPAINT, SUSPEND = 0x0C, 0x1A
 # Keys that the front looks at, besides the one that erases.
@@ -49,7 +50,8 @@ class Dispatcher:
     """The strokes that wait, in their order.
 
     What a stroke does can depend on what mgr asks for. Such a one waits until mgr has answered all
-    keys before it; a text goes on at once. ESC and C-x are kept until the key behind them is there.
+    keys before it; a text goes on at once, but behind a command of M-x, whose message is to be seen.
+    ESC and C-x are kept until the key behind them is there.
     """
 
     def __init__(self, editor: Editor, erase: int = DELETE) -> None:
@@ -102,11 +104,10 @@ class Dispatcher:
             return True
         if desk.errand:
             return False
-        if not isinstance(stroke, Typed) or self.prefix or self.editor.dialogue.is_settled:
-            return self.editor.dialogue.is_settled
+        if not isinstance(stroke, Typed) or self.prefix or self.editor.is_settled:
+            return self.editor.is_settled
         # C-z does not wait for a peer.
-        is_waiting = bool(self.editor.dialogue.command)
-        return stroke.data[0] not in self.special or stroke.data[0] == SUSPEND and is_waiting
+        return stroke.data[0] == SUSPEND if self.editor.command else stroke.data[0] not in self.special
 
     def _answer(self, stroke: Stroke, desk: Desk) -> None:
         """Gives the front's own question the first key of a stroke; the others wait, as it may end."""
@@ -138,10 +139,10 @@ class Dispatcher:
 
     def _press(self, key: bytes, desk: Desk) -> None:
         """Does a key that means something else while a line is asked for."""
-        mode = self.editor.dialogue.mode
-        if mode is Mode.PROMPT and key[0] == TAB:
+        mode = self.editor.status.mode
+        if mode == PROMPT and key[0] == TAB:
             desk.complete()
-        elif mode is Mode.PROMPT and key[0] == RETURN:
+        elif mode == PROMPT and key[0] == RETURN:
             desk.accept()
         elif mode in LINE_MODES or key[0] in (TAB, RETURN):
             self._hand_on(key, desk)
@@ -153,7 +154,7 @@ class Dispatcher:
         prefix, self.prefix = self.prefix, b""
         is_meta = prefix == bytes([ESCAPE])
         if is_meta and chr(byte) in "0123456789":
-            self.editor.hand_on(argument_keys(byte, self.editor.dialogue.begun))
+            self.editor.hand_on(argument_keys(byte, self.editor.status.begun))
         elif is_meta and byte in (DELETE, self.erase):
             desk.start(kill_word_backward())
         elif not is_meta and byte == ord("g"):
@@ -166,7 +167,7 @@ class Dispatcher:
     def _press_meta(self, byte: int, desk: Desk) -> None:
         if self.prefix or self._is_quoted():
             self._break_off()
-        elif self.editor.dialogue.mode in LINE_MODES:
+        elif self.editor.status.mode in LINE_MODES:
             # The byte would be taken for a part of the answer.
             self.editor.hand_on(bytes([NO_KEY]))
         else:
@@ -174,20 +175,20 @@ class Dispatcher:
             self._complete(byte, desk)
 
     def _press_named(self, name: str, desk: Desk) -> None:
-        keys = named_keys(name, self.editor.dialogue.mode, bool(self.prefix) or self._is_quoted())
+        keys = named_keys(name, self.editor.status.mode, bool(self.prefix) or self._is_quoted())
         self._hand_on(self.prefix + keys, desk)
         self.prefix = b""
 
     def _paste(self, pasted: Pasted) -> None:
         """Puts a text in, or adds it to an answer. What was begun, and a question, are left first."""
-        dialogue = self.editor.dialogue
-        if self.prefix or dialogue.begun:
+        status = self.editor.status
+        if self.prefix or status.begun:
             self._break_off()
             self.strokes.appendleft(pasted)
-        elif dialogue.mode is Mode.QUERY or dialogue.is_quitting:
+        elif status.mode == QUERY or status.is_quitting:
             self.editor.hand_on(bytes([CANCEL]))
             self.strokes.appendleft(pasted)
-        elif dialogue.mode is Mode.PLAIN:
+        elif status.mode == PLAIN:
             self.editor.hand_on(text_keys(pasted.data))
         else:
             self.editor.hand_on(answer_keys(pasted))
@@ -199,5 +200,4 @@ class Dispatcher:
 
     def _is_quoted(self) -> bool:
         """Whether the next key is taken as a character."""
-        dialogue = self.editor.dialogue
-        return dialogue.mode is Mode.PLAIN and dialogue.begun[-1:] == bytes([QUOTE])
+        return self.editor.status.begun and self.editor.last.endswith(bytes([QUOTE]))

@@ -8,8 +8,10 @@ from collections.abc import Sequence
 from dataclasses import dataclass
 
 from mgr_front.cells import row_width
-from mgr_front.dialogue import LINES, label_of
-from mgr_front.frames import Frame
+from mgr_front.statuses import Status
+
+# Control characters that an answer may have beside TAB are shown so.
+CONTROLS = dict.fromkeys(range(0x80, 0xA0), "?")
 
 
 @dataclass(frozen=True)
@@ -20,20 +22,15 @@ class Echo:
     column: int | None = None
 
 
-def echo_line(frame: Frame, prompt: str, said: str | None = None, remarks: Sequence[str] = ()) -> Echo:
-    """Returns the echo line of a frame while this prompt is open.
+def echo_line(status: Status, said: str | None = None, remarks: Sequence[str] = ()) -> Echo:
+    """Returns the echo line of a status.
 
-    Behind the prompt its message stands in brackets: `said`, where that is not None, in place of
+    Behind an open prompt its message stands in brackets: `said`, where that is not None, in place of
     mgr's own. So do remarks of the front, behind the prompt or the message.
     """
-    message = frame.echo if said is None else said
-    further = [message] if prompt and message and message != prompt else []
-    text = prompt or message
-    column = None
-    if frame.asks and message == prompt:
-        column = frame.column
-    elif label_of(prompt) in LINES:
-        column = row_width(prompt)
-    for remark in further + [remark for remark in remarks if remark != message]:
-        text = f"{text} [{remark}]" if text else remark
-    return Echo(text, column)
+    message = status.message if said is None else said
+    prompt = (status.label + status.answer).expandtabs().translate(CONTROLS)
+    shown = [text for text in (prompt, message) if text]
+    shown += [remark for remark in remarks if remark != message]
+    text = "".join(f" [{text}]" if i else text for i, text in enumerate(shown))
+    return Echo(text, row_width(prompt) if status.asks_for_line else None)

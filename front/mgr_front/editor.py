@@ -1,41 +1,91 @@
-"""A `mgr edit` that runs: keys go in, frames come out, and nothing here waits for either.
-
-Among the keys it takes reports of the screen's size, ESC [ 8 ; ROWS ; COLUMNS t, and holds what may
-begin one. So a report of the size that it has stands behind each ESC [ that is no report, and
-behind an ESC that is a key of its own: both are pressed then.
-"""
+"""A live `mgr edit` that runs: keys and reports go in, statuses come out, and nothing here waits for either."""
 
 import os
 import re
 import subprocess
-from collections.abc import Sequence
+from collections.abc import Iterator, Sequence
 from typing import IO
 
-from mgr_front.dialogue import Dialogue
-from mgr_front.frames import Frame, Frames
-from mgr_front.modelines import COLUMNS
+from mgr_front.program import COLUMNS
 from mgr_front.signals import held_back
+from mgr_front.statuses import COMMAND, PLAIN, Status, Statuses
 
 BLOCK = 65536
 # How many rows the screen of mgr may have.
 LEAST_ROWS, MOST_ROWS = 3, 200
 
-ESCAPE = b"\x1b"
-OPENING = re.compile(rb"\x1b\[")
+# It begins a report, and is no key.
+REPORT = b"\xff"
+# The keys that give M-x a command.
+COMMAND_KEYS = re.compile(rb"\x1bx([^\r]*)\r")
 
 
-class Editor:
-    """A mgr that runs, the keys that wait for it, and the talk with it."""
+class Talk:
+    """What mgr is given, and what it told last."""
+
+    def __init__(self, rows: int) -> None:
+        """`rows` is how many its screen has."""
+        self.rows = rows
+        # The newest status, how many keys it was the first to tell of, and the command that these gave
+        # M-x. One is to come at the start, as if it were the answer to a report.
+        self.status, self.taken, self.done = Status(reports=-1), 0, ""
+        # What is still to be given; the keys that no status told of, and how many reports there were.
+        self.waiting, self.untold, self.reports = bytearray(), bytearray(), 0
+        # The last two bytes of all keys.
+        self.last = b""
+
+    def hand_on(self, keys: bytes) -> None:
+        """Has these keys wait for mgr, behind those that do; one that would begin a report is left out."""
+        keys = keys.replace(REPORT, b"")
+        self.waiting += keys
+        self.untold += keys
+        self.last = (self.last + keys)[-2:]
+
+    def resize(self, rows: int) -> None:
+        """Gives the screen so many rows."""
+        if rows != self.rows:
+            self.rows = rows
+            self.waiting += REPORT + b'{"cols":%d,"op":"size","rows":%d}\n' % (COLUMNS, rows)
+            self.reports += 1
+
+    def note(self, status: Status) -> None:
+        """Takes note of a status."""
+        command, self.taken = self.command, status.keys - self.status.keys
+        del self.untold[: self.taken]
+        self.status = status
+        self.done = "" if self.command else command
+
+    @property
+    def command(self) -> str:
+        """The command that M-x is given by the first keys that no status told of, if they do that."""
+        answer = b"\x1bx" + self.status.answer.encode() if self.status.label == COMMAND else b""
+        given = COMMAND_KEYS.match(answer + self.untold)
+        return given[1].decode("utf-8", "replace") if given else ""
+
+    @property
+    def is_settled(self) -> bool:
+        """Whether all keys and reports are answered."""
+        return not self.untold and self.reports == self.status.reports
+
+    @property
+    def is_at_rest(self) -> bool:
+        """Whether nothing is awaited, asked or begun."""
+        return self.is_settled and not self.status.begun and self.status.mode == PLAIN
+
+
+class Editor(Talk):
+    """A mgr that runs."""
 
     def __init__(self, program: str, words: Sequence[str], rows: int, said: "IO[bytes]") -> None:
         """Begins it; what it says on standard error goes to `said`."""
+        super().__init__(rows)
         self.program = program
         size = ["--rows", str(rows), "--cols", str(COLUMNS)]
         # In a session of its own, so that the end of the terminal reaches it as the end of the keys.
         # What ends a whole login reaches it all the same, and is held back: it has to save first.
         with held_back():
             self.process = subprocess.Popen(
-                [program, "edit", "--trace", "--cursor", "--resizable", *size, *words],
+                [program, "edit", "--live", *size, *words],
                 bufsize=0,
                 stdin=subprocess.PIPE,
                 stdout=subprocess.PIPE,
@@ -45,55 +95,23 @@ class Editor:
         assert self.process.stdin is not None and self.process.stdout is not None
         self.keys, self.written = self.process.stdin.fileno(), self.process.stdout.fileno()
         os.set_blocking(self.keys, False)
-        self.frames = Frames(rows)
-        self.dialogue = Dialogue()
-        self.waiting = bytearray()
-        # The last key byte, where nothing stands behind it.
-        self.last = b""
-
-    def hand_on(self, keys: bytes) -> None:
-        """Has these keys wait for mgr, behind those that do."""
-        begin = 0
-        for opening in OPENING.finditer(self.last + keys):
-            end = opening.end() - len(self.last)
-            self._give(keys[begin:end])
-            self.tell_size()
-            begin = end
-        self._give(keys[begin:])
-        self.last = keys[-1:]
-
-    def _give(self, keys: bytes) -> None:
-        self.waiting += keys
-        self.dialogue.hand_on(keys)
-
-    def tell_size(self) -> None:
-        """Tells mgr the size that its screen has."""
-        self.waiting += b"\x1b[8;%d;%dt" % (self.frames.rows, COLUMNS)
-        self.dialogue.hand_on_size()
-        self.last = b""
-
-    def release(self) -> None:
-        """Has mgr take an ESC for a key, where one is awaited."""
-        if self.dialogue.begun == ESCAPE and not self.dialogue.sizes and not self.dialogue.is_settled:
-            self.tell_size()
-
-    def resize(self, rows: int) -> None:
-        """Gives the screen so many rows, once nothing is awaited or begun."""
-        if rows != self.frames.rows and self.dialogue.is_idle:
-            self.frames.rows = rows
-            self.tell_size()
+        self.statuses = Statuses()
 
     def write(self) -> None:
-        """Gives mgr as many of the keys that wait as it takes now."""
+        """Gives mgr as much of what waits as it takes now."""
         try:
             del self.waiting[: os.write(self.keys, self.waiting[:BLOCK])]
         except BlockingIOError:
             pass
 
-    def read(self) -> list[Frame] | None:
-        """Returns the frames that came; None at their end. Each is to be given to the dialogue, in turn."""
+    def read(self) -> Iterator[Status]:
+        """Yields the statuses that came, each once note is taken of it; at their end it is an `EOFError`."""
         written = os.read(self.written, BLOCK)
-        return self.frames.take(written) if written else None
+        if not written:
+            raise EOFError
+        for status in self.statuses.take(written):
+            self.note(status)
+            yield status
 
     @property
     def has_ended(self) -> bool:

@@ -1,8 +1,8 @@
 """The end of an edit, whatever brought it: what was typed is taken, and what is changed is saved."""
 
-from mgr_front.dialogue import NO_KEY
+from mgr_front.keys import NO_KEY
 from mgr_front.notes import Note, keep_keys
-from mgr_front.saving import CANCEL, SAVE, save_all
+from mgr_front.saving import ACCEPT, CANCEL, SAVE, save_all
 from mgr_front.saying import tell
 from mgr_front.session import Session
 
@@ -28,14 +28,17 @@ def finish(session: Session, note: Note) -> None:
         raise
     finally:
         editor.end(seconds)
+    session.note_kept()
     for said in [*session.put_aside, *(f"{name} was not saved: File fault" for name in failed)]:
         tell(said)
 
 
 def _keep_keys(session: Session, note: Note) -> None:
     """Keeps the keys that a mgr did not take which does nothing any more, as one that waits for a peer."""
-    dialogue = session.editor.dialogue
-    keys = dialogue.begun[bool(dialogue.command) :] + session.dispatcher.give_up()
+    keys = bytes(session.editor.untold)
+    if session.editor.command:
+        _, _, keys = keys.partition(ACCEPT)
+    keys += session.dispatcher.give_up()
     if keys:
         # The end of its keys ends mgr without a save, so they end with one.
         kept = keep_keys(note, keys + bytes([NO_KEY]) + CANCEL + SAVE)

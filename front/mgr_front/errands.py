@@ -1,14 +1,14 @@
 """Errands: commands of the front that press several keys of mgr, one behind the answer to another.
 
-An errand yields keys and is sent the frame that answers the last of them. No frame is drawn before
+An errand yields keys and is sent the status that answers the last of them. Nothing is drawn before
 its end. What it returns stands in the echo line then; where that is None, mgr's own does.
 """
 
 from collections.abc import Generator
 
-from mgr_front.frames import Frame
+from mgr_front.statuses import Status
 
-Errand = Generator[bytes, Frame, str | None]
+Errand = Generator[bytes, Status, str | None]
 
 SET_MARK, KILL_REGION, NEXT_LINE, ARGUMENT = b"\x00", b"\x17", b"\x0e", b"\x15"
 BACKWARD_WORD, BUFFER_BEGIN, BUFFER_END = b"\x1bb", b"\x1b<", b"\x1b>"
@@ -24,20 +24,20 @@ def kill_word_backward() -> Errand:
     the mark, but kill all of a word that point stands within, and no blanks behind one.
     """
     yield SET_MARK
-    frame = yield BACKWARD_WORD
-    if not frame.echo:
+    status = yield BACKWARD_WORD
+    if not status.message:
         yield KILL_REGION
     return None
 
 
 def go_to_line(line: int) -> Errand:
     """Goes to the begin of a line; the first is 1. Beyond the last one it goes to the end."""
-    frame = yield BUFFER_BEGIN
+    status = yield BUFFER_BEGIN
     rest = line - 1
-    while rest > 0 and frame.echo != END_OF_BUFFER:
+    while rest > 0 and status.message != END_OF_BUFFER:
         count = min(rest, MOST_ARGUMENT)
-        frame = yield ARGUMENT + str(count).encode() + NEXT_LINE
+        status = yield ARGUMENT + str(count).encode() + NEXT_LINE
         rest -= count
-    if frame.echo == END_OF_BUFFER:
+    if status.message == END_OF_BUFFER:
         yield BUFFER_END
     return None

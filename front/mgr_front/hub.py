@@ -149,10 +149,7 @@ class Hub:
 
     def _read(self) -> str | None:
         """Returns what the end of an exchange says, if it is there."""
-        frames = self.editor.read()
-        if frames is None:
-            raise EOFError
-        said = [frame.echo for frame in frames if self.editor.dialogue.answer(frame.echo).command == SERVE]
+        said = [status.message for status in self.editor.read() if self.editor.done == SERVE]
         return said[-1] if said else None
 
 
@@ -186,7 +183,7 @@ def serve(mgr: str, note: Note, number: int, options: HubOptions) -> int:
         status = editor.process.returncode
         if status:
             said.seek(0)
-            tell(explained(status, said.read().decode(), note, editor.dialogue.has_begun), PROGRAM)
+            tell(explained(status, said.read().decode(), note, bool(editor.status.frame)), PROGRAM)
     return shell_status(status)
 
 

@@ -3,6 +3,17 @@
 import re
 from dataclasses import dataclass
 
+CANCEL = 7
+TAB = 9
+RETURN = 13
+QUOTE = 17
+ARGUMENT = 21
+CONTROL_X = 24
+ESCAPE = 27
+DELETE = 127
+# No key anywhere, and in no character: it ends whatever key was begun, C-q too, and does nothing.
+NO_KEY = 254
+
 
 @dataclass(frozen=True)
 class Typed:

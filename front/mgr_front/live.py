@@ -78,13 +78,12 @@ def edit(opening: Opening, tunnel: Tunnel | None, signals: Signals) -> int:
     with tempfile.TemporaryFile() as said:
         editor = Editor(opening.mgr, words_for_mgr(options, opening.number, port), rows, said)
         session = Session(editor, screen, signals, relay or port)
-        session.opened.append(lambda _: session.remark("; ".join(opening.remarks)))
+        session.greeting = "; ".join(opening.remarks)
         session.changed.append(opening.keep_number)
         if options.saves:
             session.watches.append(Autosave(session.buffers, lambda name: Note(name).has_log))
         if relay:
             live = LiveExchange(session.remarks, tunnel.mend if tunnel else lambda: None)
-            session.opened.append(live.open)
             session.watches.append(live)
             session.status = live.status
         try:
@@ -95,7 +94,7 @@ def edit(opening: Opening, tunnel: Tunnel | None, signals: Signals) -> int:
         status = editor.process.returncode
         if status:
             said.seek(0)
-            tell(explained(status, said.read().decode(), note, editor.dialogue.has_begun))
+            tell(explained(status, said.read().decode(), note, bool(editor.status.frame)))
         else:
             opening.remember()
     return status_of(status, signals)

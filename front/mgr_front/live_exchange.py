@@ -7,9 +7,7 @@ from collections import deque
 from collections.abc import Callable
 
 from mgr_front.errands import Errand
-from mgr_front.frames import Frame
 from mgr_front.remarks import Remarks
-from mgr_front.saving import current
 from mgr_front.watches import Moment
 
 EXCHANGE, SERVE = "replica-exchange", "replica-serve"
@@ -39,8 +37,6 @@ class LiveExchange:
     def __init__(self, remarks: Remarks, lost: Callable[[], None]) -> None:
         """`lost` is called where the hub is not there."""
         self.remarks, self.lost = remarks, lost
-        # The buffer, as its mode line says it.
-        self.name: str | None = None
         # When the last try began and when it ended, how long the last few took, when the last one was
         # done, and since when none is.
         self.tried, self.ended = -math.inf, -math.inf
@@ -48,15 +44,9 @@ class LiveExchange:
         self.done, self.failing = -math.inf, math.inf
         self.is_stopped = False
 
-    def open(self, first: Frame) -> None:
-        """Takes note of the buffer, which the first frame shows. No other is ever exchanged."""
-        said = current(first)
-        self.name = said.name if said else None
-
     def due(self, moment: Moment) -> float | None:
-        """Returns when the next exchange is due; none is in another buffer."""
-        said = current(moment.frame)
-        if self.is_stopped or said is None or said.name != self.name:
+        """Returns when the next exchange is due; none is in another buffer than the live one."""
+        if self.is_stopped or not moment.status.is_live:
             return None
         after = self.ended + self._pause(moment.typed > self.tried)
         return max(after, moment.typed + (RUN if moment.key.endswith(RUNS) else IDLE))
@@ -70,10 +60,10 @@ class LiveExchange:
     def begin(self, moment: Moment) -> Errand:
         """Exchanges, and says what is wrong with that. Else what was said before stands."""
         self.tried = time.monotonic()
-        frame = yield b"\x1bx" + EXCHANGE.encode() + b"\r"
+        status = yield b"\x1bx" + EXCHANGE.encode() + b"\r"
         self.ended = time.monotonic()
         self.took.append(self.ended - self.tried)
-        return self._told(frame.echo, moment.said)
+        return self._told(status.message, moment.said)
 
     def _told(self, said: str, before: str) -> str:
         """Takes note of what an exchange said, and returns what is said to the person."""

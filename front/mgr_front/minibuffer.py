@@ -2,8 +2,8 @@
 
 from collections.abc import Callable
 
-from mgr_front.dialogue import CANCEL, DELETE, RETURN
 from mgr_front.errands import Errand, go_to_line
+from mgr_front.keys import CANCEL, DELETE, RETURN
 
 # No note has as many lines as a number with so many digits says.
 MOST_ANSWER = 9

@@ -6,11 +6,11 @@ import shutil
 import subprocess
 from dataclasses import dataclass
 
-from mgr_front.modelines import COLUMNS
 from mgr_front.notes import Note, Refused
 from mgr_front.saying import REFUSED
 
-ROWS = 3
+# What mgr is asked to fill: a terminal has fewer columns, and the rows are cut for it.
+ROWS, COLUMNS = 3, 500
 # What mgr says where it opens nothing since a file is locked or cannot be read.
 DEVICE = "device fault"
 

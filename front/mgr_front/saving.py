@@ -2,21 +2,13 @@
 
 from collections.abc import Callable, Generator
 
-from mgr_front.dialogue import NO_KEY
 from mgr_front.errands import Errand
-from mgr_front.frames import Frame
-from mgr_front.modelines import ModeLine, current_mode_row, mode_line, mode_rows
+from mgr_front.keys import NO_KEY
+from mgr_front.statuses import Status
 from mgr_front.watches import Moment
 
 CANCEL, SAVE, SWITCH, ACCEPT = b"\x07", b"\x18\x13", b"\x18b", b"\r"
-ONE_WINDOW = b"\x181"
 FILE_FAULT = "File fault"
-MOST_BUFFERS = 64
-
-
-def current(frame: Frame) -> ModeLine | None:
-    """Returns what the mode line of the current window says."""
-    return mode_line(frame.rows[current_mode_row(frame)])
 
 
 class Buffers:
@@ -25,15 +17,9 @@ class Buffers:
     def __init__(self) -> None:
         self.changed: dict[str, bool] = {}
 
-    def note(self, frame: Frame) -> None:
-        """Takes note of what the mode lines of a frame say."""
-        for i in mode_rows(frame.rows):
-            said = mode_line(frame.rows[i])
-            if said:
-                self.changed[said.name] = said.is_changed
-
-    def names(self) -> list[str]:
-        return list(self.changed)
+    def note(self, status: Status) -> None:
+        """Takes note of what a status tells of the current buffer."""
+        self.changed[status.buffer] = status.is_changed
 
     def to_save(self, has_log: Callable[[str], bool]) -> list[str]:
         """Returns the changed buffers that have a log."""
@@ -41,31 +27,23 @@ class Buffers:
 
 
 def save_all(failed: list[str]) -> Errand:
-    """Leaves what is asked, and saves each changed buffer; adds those that it cannot save to `failed`.
-
-    In one window, where the mode line stands above the echo line: a line of the text may look like one.
-    """
-    frame = yield bytes([NO_KEY]) + CANCEL + ONE_WINDOW
+    """Leaves what is asked, and saves each changed buffer; adds those that it cannot save to `failed`."""
+    status = yield bytes([NO_KEY]) + CANCEL
     seen: set[str] = set()
-    for _ in range(MOST_BUFFERS):
-        said = mode_line(frame.rows[-2])
-        if said and said.name in seen:
-            break
-        if said is None or said.is_changed:
-            frame = yield from _save()
-            if said and frame.echo.startswith(FILE_FAULT):
-                failed.append(said.name)
-        seen |= {said.name} if said else set()
-        frame = yield SWITCH + ACCEPT
+    while status.buffer not in seen:
+        seen.add(status.buffer)
+        if status.is_changed and (yield from _save()).startswith(FILE_FAULT):
+            failed.append(status.buffer)
+        status = yield SWITCH + ACCEPT
     return None
 
 
-def _save() -> Generator[bytes, Frame, Frame]:
+def _save() -> Generator[bytes, Status, str]:
     """Saves the current buffer; where that fails once more, as then the log is written as a whole."""
-    frame = yield SAVE
-    if frame.echo.startswith(FILE_FAULT):
-        frame = yield SAVE
-    return frame
+    status = yield SAVE
+    if status.message.startswith(FILE_FAULT):
+        status = yield SAVE
+    return status.message
 
 
 def save_these(names: list[str], shown: str) -> Errand:
@@ -73,11 +51,10 @@ def save_these(names: list[str], shown: str) -> Errand:
     echo, place = "", shown
     for name in sorted(names, key=lambda name: name != shown):
         if name != place:
-            frame = yield SWITCH + name.encode() + ACCEPT
-            place = said.name if (said := current(frame)) else ""
+            place = (yield SWITCH + name.encode() + ACCEPT).buffer
         if name == place:
-            frame = yield SAVE
-            echo = f"{echo}, {frame.echo}" if echo else frame.echo
+            said = (yield SAVE).message
+            echo = f"{echo}, {said}" if echo else said
     if place != shown:
         yield SWITCH + shown.encode() + ACCEPT
     return echo
@@ -100,7 +77,5 @@ class Autosave:
     def begin(self, moment: Moment) -> Errand:
         """Saves them, where there are any."""
         self.saved = moment.typed
-        shown, names = current(moment.frame), self.buffers.to_save(self.has_log)
-        if not shown or not names:
-            return moment.said
-        return (yield from save_these(names, shown.name))
+        names = self.buffers.to_save(self.has_log)
+        return (yield from save_these(names, moment.status.buffer)) if names else moment.said

@@ -7,7 +7,7 @@ import tty
 from collections.abc import Callable
 
 from mgr_front.cells import Cell, is_certain, total_width
-from mgr_front.dialogue import DELETE
+from mgr_front.keys import DELETE
 from mgr_front.view import Line, Picture
 
 # Another screen than the shell's, on which a full row does not go on below; and pastes are marked.

@@ -1,4 +1,4 @@
-"""An edit: keys from the terminal to mgr, and frames from mgr to the terminal."""
+"""An edit: keys from the terminal to mgr, and what it tells and shows to the terminal."""
 
 import math
 import os
@@ -10,13 +10,11 @@ from collections.abc import Callable, Sequence
 
 from mgr_front.cells import row_width
 from mgr_front.completion import accept, asks_for_name, begins_at_home, complete
-from mgr_front.dialogue import CANCEL, FAILED, RETURN, TAB, UNDEFINED, Answer
 from mgr_front.dispatch import Dispatcher
 from mgr_front.echo import Echo, echo_line
 from mgr_front.editor import BLOCK, LEAST_ROWS, MOST_ROWS, Editor
 from mgr_front.errands import Errand
-from mgr_front.frames import Frame
-from mgr_front.keys import Keys, Typed, without_first
+from mgr_front.keys import CANCEL, RETURN, TAB, Keys, Typed, without_first
 from mgr_front.live_exchange import COMMANDS, EXCHANGE, SERVE
 from mgr_front.minibuffer import Question
 from mgr_front.notes import KeptFiles
@@ -25,6 +23,7 @@ from mgr_front.remarks import Remarks
 from mgr_front.saving import Buffers
 from mgr_front.screen import Screen
 from mgr_front.signals import Signals
+from mgr_front.statuses import Status
 from mgr_front.view import picture
 from mgr_front.watches import Moment, Watch
 
@@ -32,18 +31,18 @@ from mgr_front.watches import Moment, Watch
 PATIENCE = 0.05
 # Seconds for which it is said what is wrong with a note that was opened, and what an exchange said.
 OPENED, SAID = 10.0, 2.0
-# Seconds between two pictures while frames come one behind the other.
+# Seconds between two pictures while further ones are to come.
 PICTURE = 0.05
 # Seconds for which somebody who types is held up by an exchange that goes on by itself.
 HELD_UP = 2.0
 # Seconds between two tries to end a wait for a peer, and between two looks at the status.
 KNOCK, STATUS = 0.1, 1.0
-# Seconds in which a mgr that shows nothing is expected to answer a key, and to do anything at all at
-# the end.
-ANSWER, LAST = 5.0, 10.0
+# Seconds in which mgr is expected to do anything at all at the end.
+LAST = 10.0
 
-# What is said where a buffer was saved.
+# What is said where a buffer was saved, and for what the bell rings.
 SAVED = re.compile("Wrote |Sent ")
+RINGING = "Undefined key", "Search failed"
 # How much may wait for mgr before no more keys are read.
 MOST_WAITING = 65536
 
@@ -57,8 +56,6 @@ class Session:
         screen.is_over = lambda: signals.first is not None
         self.relay = port if isinstance(port, Relay) else None
         self.port = port.port if isinstance(port, Relay) else port
-        # How many rows mgr is to fill.
-        self.rows = editor.frames.rows
         self.keys = Keys()
         self.dispatcher = Dispatcher(editor, screen.erase)
         self.buffers = Buffers()
@@ -69,24 +66,21 @@ class Session:
         self.watches: list[Watch] = []
         # What the mode line says of the front.
         self.status: Callable[[float], str] = lambda now: ""
-        # What takes note of the first frame, and of the first change.
-        self.opened: list[Callable[[Frame], None]] = []
+        # What is said at the start, and what takes note of the first change.
+        self.greeting = ""
         self.changed: list[Callable[[], None]] = []
         self.errand: Errand | None = None
         self.question: Question | None = None
-        # The newest frame, and what the front says in place of its echo line; the remarks and the status
-        # that were drawn last, and when.
-        self.frame: Frame | None = None
+        # What the front says in place of mgr's message; the remarks and the status that were drawn last,
+        # and when.
         self.said: str | None = None
         self.drawn: tuple[list[str], str] = [], ""
         self.painted = -math.inf
         self.is_stale = self.rings = self.is_ending = False
         # Whether a wait for a peer is to be ended.
         self.breaks_off = False
-        # When a key was typed, the last one that was whole, when mgr was given or showed something, and
-        # when an errand was begun.
+        # When a key was typed, when mgr was given or told something, and when an errand was begun.
         self.typed = self.heard = self.begun = time.monotonic()
-        self.key = b""
 
     def run(self) -> None:
         """Goes on until mgr, the keys or the terminal end, or a signal comes.
@@ -109,7 +103,7 @@ class Session:
         ready = self._await(reading, self._patience())
         if self.signals.woken in ready:
             self._heed()
-        if self.editor.written in ready and not self._take_frames():
+        if self.editor.written in ready and not self._take_statuses():
             return False
         if 0 in ready and self.screen.is_raw and not self._take_keys():
             return False
@@ -135,41 +129,28 @@ class Session:
         dues = [watch.due(moment) for watch in self.watches] if moment else []
         seconds = [max(0.0, due - now) for due in dues if due is not None]
         seconds += [PATIENCE] * self.keys.is_in_doubt + [KNOCK] * self.breaks_off + [PICTURE] * self.is_stale
-        seconds += [ANSWER] * (not self.editor.dialogue.is_settled) + [STATUS] * bool(self.drawn[1])
+        seconds += [STATUS] * bool(self.drawn[1])
         remarks = self.remarks.patience(now)
         return min(seconds + [remarks] * (remarks is not None), default=None)
 
     def work(self) -> None:
-        """Does what strokes and watches ask for, and what nobody answers any more."""
-        now = time.monotonic()
-        dialogue = self.editor.dialogue
+        """Does what strokes and watches ask for."""
         if self.breaks_off and self.port:
             knock(self.port)
-        elif not dialogue.is_settled and now > self.heard + ANSWER and dialogue.command not in COMMANDS:
-            self._assume_settled()
-        self.editor.release()
         self.dispatcher.run(self)
-        if not self.errand:
-            self.editor.resize(self.rows)
         for watch in self.watches:
             moment = self._moment()
             due = watch.due(moment) if moment else None
-            if moment and due is not None and due <= now:
+            if moment and due is not None and due <= time.monotonic():
                 self.start(watch.begin(moment))
-
-    def _assume_settled(self) -> None:
-        """Goes on without an answer that is long overdue; there is none before the first frame."""
-        if self.frame:
-            self.editor.dialogue.assume_settled()
-            if self.errand:
-                self._go_on(self.errand, self.frame)
 
     def _moment(self) -> Moment | None:
         """Returns what there is now, where nothing is typed, asked, begun or done."""
         is_busy = self.errand or self.question or self.keys.begun or not self.dispatcher.is_idle
-        if is_busy or self.frame is None or not self.editor.dialogue.is_at_rest:
+        if is_busy or not self.editor.is_at_rest:
             return None
-        return Moment(self.typed, self.key, self.frame, self.frame.echo if self.said is None else self.said)
+        status = self.editor.status
+        return Moment(self.typed, self.editor.last, status, status.message if self.said is None else self.said)
 
     def _has_keys(self) -> bool:
         """Whether there is something to read of the terminal, while that is this program's."""
@@ -182,8 +163,9 @@ class Session:
             strokes = self.keys.take(sent)
             if self.errand and self.typed > self.begun + HELD_UP:
                 self._leave_hub()
-            if CANCEL in sent and self._leave_peer():
-                strokes = without_first(CANCEL, strokes)
+            if CANCEL in sent:
+                self.remarks.acknowledge()
+                strokes = without_first(CANCEL, strokes) if self._leave_peer() else strokes
         except BaseException:
             # Whatever it was, these are keys.
             self.dispatcher.take([Typed(sent)])
@@ -193,49 +175,47 @@ class Session:
 
     def _leave_peer(self) -> bool:
         """Ends a wait for a peer, where mgr takes no key before, and answers whether it does."""
-        self.breaks_off = self.editor.dialogue.command == SERVE and self.port is not None
+        self.breaks_off = self.editor.command == SERVE and self.port is not None
         return self._leave_hub() or self.breaks_off
 
     def _leave_hub(self) -> bool:
         """Breaks off an exchange with a hub, if there is one now; nothing is lost by that."""
-        if not (self.relay and self.editor.dialogue.command == EXCHANGE):
+        if not (self.relay and self.editor.command == EXCHANGE):
             return False
         self.relay.break_off()
         return True
 
-    def _take_frames(self) -> bool:
+    def _take_statuses(self) -> bool:
+        """Takes what mgr told, and answers whether it has not ended."""
         self.heard = time.monotonic()
-        frames = self.editor.read()
-        for frame in frames or []:
-            self._take_frame(self.editor.dialogue.answer(frame.echo), frame)
-        return frames is not None
+        try:
+            for status in self.editor.read():
+                self._take(status)
+        except EOFError:
+            return False
+        return True
 
-    def _take_frame(self, answer: Answer, frame: Frame) -> None:
-        for opened in self.opened if self.frame is None else ():
-            opened(frame)
-        self.frame = frame
-        if not answer.is_size:
+    def _take(self, status: Status) -> None:
+        self.remark(self.greeting)
+        self.greeting = ""
+        if self.editor.taken:
             self.said = None
-        self.buffers.note(frame)
-        if SAVED.match(frame.echo) or len(self.kept.known) < len(self.buffers.changed):
-            self._note_kept()
-        while self.changed and any(self.buffers.changed.values()):
+        self.buffers.note(status)
+        if SAVED.match(status.message) or len(self.kept.known) < len(self.buffers.changed):
+            self.note_kept()
+        while self.changed and status.is_changed:
             self.changed.pop()()
         if self.errand:
-            if self.editor.dialogue.is_settled:
-                self._go_on(self.errand, frame)
+            if self.editor.is_settled:
+                self._go_on(self.errand, status)
             return
         self.is_stale = True
-        if answer.is_size:
-            return
-        if answer.command in COMMANDS:
-            self._end_exchange(frame.echo)
-        if answer.key == bytes([CANCEL]):
-            self.remarks.acknowledge()
-        self.key = answer.key
-        self.rings = self.rings or bool(answer.key) and frame.echo in (UNDEFINED, FAILED)
+        if self.editor.done in COMMANDS:
+            self._end_exchange(status.message)
+        is_key = self.editor.taken > 0 and not status.begun
+        self.rings = self.rings or is_key and status.message in RINGING
 
-    def _note_kept(self) -> None:
+    def note_kept(self) -> None:
         """Says what mgr put aside: other programs have written it, and nobody may know."""
         for said in sum(map(self.kept.since, self.buffers.changed), []):
             self.put_aside.append(said)
@@ -250,29 +230,28 @@ class Session:
         self.breaks_off = False
 
     def _draw(self) -> None:
-        """Draws the newest frame, where it was not drawn yet."""
+        """Draws the newest status, where it was not drawn yet."""
         if self.is_ending:
             return
         now = time.monotonic()
         remarks, status = self.remarks.at(now), self.status(now)
         is_drawn = not self.is_stale and (remarks, status) == self.drawn
-        if self.frame is None or is_drawn or self.errand or self._draws_later(now):
+        if not self.editor.status.frame or is_drawn or self.errand or self._draws_later(now):
             return
         columns, rows = os.get_terminal_size(1)
-        echo = self._echo(self.frame, remarks)
-        self.screen.draw(picture(self.frame, echo, rows, columns, status), self.rings)
+        self.screen.draw(picture(self.editor.status, self._echo(remarks), rows, columns, status), self.rings)
         self.is_stale = self.rings = False
         self.drawn = remarks, status
         self.painted = now
 
     def _draws_later(self, now: float) -> bool:
-        """Whether further frames come soon, of which only some are drawn."""
-        return not self.editor.dialogue.is_settled and now < self.painted + PICTURE
+        """Whether further pictures come soon, of which only some are drawn."""
+        return not self.editor.is_settled and now < self.painted + PICTURE
 
-    def _echo(self, frame: Frame, remarks: Sequence[str]) -> Echo:
+    def _echo(self, remarks: Sequence[str]) -> Echo:
         if self.question:
             return Echo(self.question.text, row_width(self.question.text))
-        return echo_line(frame, self.editor.dialogue.prompt, self.said, remarks)
+        return echo_line(self.editor.status, self.said, remarks)
 
     def remark(self, said: str) -> None:
         """Says something of a note that was opened, for a while."""
@@ -281,15 +260,15 @@ class Session:
 
     def start(self, errand: Errand) -> None:
         """Begins an errand. Its first keys are pressed at once; all others wait for its end."""
-        # No frame is drawn meanwhile.
+        # Nothing is drawn meanwhile.
         self._draw()
         self.errand, self.begun = errand, time.monotonic()
         self._go_on(errand, None)
 
-    def _go_on(self, errand: Errand, frame: Frame | None) -> None:
-        """Sends an errand the frame that it waits for, and presses the keys that it asks for then."""
+    def _go_on(self, errand: Errand, status: Status | None) -> None:
+        """Sends an errand the status that it waits for, and presses the keys that it asks for then."""
         try:
-            self.editor.hand_on(next(errand) if frame is None else errand.send(frame))
+            self.editor.hand_on(next(errand) if status is None else errand.send(status))
         except StopIteration as end:
             self.errand, self.said = None, end.value
             self.is_stale = True
@@ -312,15 +291,17 @@ class Session:
 
     def complete(self) -> None:
         """Completes the answer of the open prompt; where it asks for no name, TAB is a part of it."""
-        if asks_for_name(self.editor.dialogue.prompt):
-            self.start(complete(self.editor.dialogue.prompt, self.buffers.names()))
+        status = self.editor.status
+        if asks_for_name(status.label):
+            self.start(complete(status.label, status.answer, self.buffers.changed))
         else:
             self.editor.hand_on(bytes([TAB]))
 
     def accept(self) -> None:
         """Accepts the answer of the open prompt."""
-        if begins_at_home(self.editor.dialogue.prompt):
-            self.start(accept(self.editor.dialogue.prompt))
+        status = self.editor.status
+        if begins_at_home(status.label, status.answer):
+            self.start(accept(status.answer))
         else:
             self.editor.hand_on(bytes([RETURN]))
 
@@ -336,12 +317,12 @@ class Session:
         waiting: Errand | None = last
         try:
             while waiting or self.errand:
-                self.breaks_off = self.port is not None and self.editor.dialogue.command == SERVE
+                self.breaks_off = self.port is not None and self.editor.command == SERVE
                 self.work()
-                if waiting and not self.errand and not self.dispatcher.strokes and self.editor.dialogue.is_settled:
+                if waiting and not self.errand and not self.dispatcher.strokes and self.editor.is_settled:
                     self.start(waiting)
                     waiting = None
-                elif self.editor.written in self._await([], KNOCK) and not self._take_frames():
+                elif self.editor.written in self._await([], KNOCK) and not self._take_statuses():
                     return True
                 elif time.monotonic() > self.heard + LAST:
                     return False
@@ -363,7 +344,7 @@ class Session:
     def resize(self) -> None:
         """The terminal has another size: mgr is told of it, and until then the frame is cut for it."""
         _, rows = os.get_terminal_size(1)
-        self.rows = max(LEAST_ROWS, min(rows, MOST_ROWS))
+        self.editor.resize(max(LEAST_ROWS, min(rows, MOST_ROWS)))
         self.repaint()
 
     def repaint(self) -> None:

@@ -5,8 +5,7 @@ from dataclasses import dataclass
 
 from mgr_front.cells import Cell, beginning, cells, part, shift, total_width
 from mgr_front.echo import Echo
-from mgr_front.frames import Frame
-from mgr_front.modelines import current_mode_row, mode_rows
+from mgr_front.statuses import Status
 
 # So many lines are kept as they were made: most are the same in the next picture.
 MOST_LINES = 1024
@@ -31,22 +30,22 @@ class Picture:
     column: int
 
 
-def picture(frame: Frame, echo: Echo, rows: int, columns: int, status: str = "") -> Picture:
+def picture(status: Status, echo: Echo, rows: int, columns: int, note: str = "") -> Picture:
     """Returns what shows of a frame, with this echo line.
 
     The row of the cursor is shifted sideways so that the cursor shows. Where the terminal has fewer
     rows than the frame, the echo line, the rows round the cursor and the mode line of its window
-    show. The status stands at the right end of that.
+    show. The note stands at the right end of that.
     """
     rows, columns = max(rows, LEAST_FRAME_ROWS), max(columns, LEAST_COLUMNS)
-    row, column = frame.row, frame.column
+    frame, (row, column) = status.frame, status.cursor
+    current = min((i for i in status.mode_rows if i >= row), default=len(frame) - 2)
     if echo.column is not None:
-        row, column = len(frame.rows) - 1, echo.column
+        row, column = len(frame) - 1, echo.column
     left = shift(column, columns)
-    lines = [_line(text, left if i == row else 0, columns) for i, text in enumerate((*frame.rows[:-1], echo.text))]
-    current = current_mode_row(frame)
-    for i in mode_rows(frame.rows):
-        lines[i] = _mode_line(frame.rows[i], columns, status if i == current else "")
+    lines = [_line(text, left if i == row else 0, columns) for i, text in enumerate((*frame[:-1], echo.text))]
+    for i in status.mode_rows:
+        lines[i] = _mode_line(frame[i], columns, note if i == current else "")
     if len(lines) > rows:
         lines, row = _cut(lines, row, current, rows)
     return Picture(lines, row, column - left)
@@ -67,7 +66,7 @@ def _line(text: str, left: int, columns: int) -> Line:
     return Line(part(cells(text), left, columns))
 
 
-def _mode_line(text: str, columns: int, status: str) -> Line:
-    """A mode line, cut to the columns, with the status at its end."""
-    end = cells(f" {status} ") if status else []
+def _mode_line(text: str, columns: int, note: str) -> Line:
+    """A mode line, cut to the columns, with the note at its end."""
+    end = cells(f" {note} ") if note else []
     return Line(beginning(cells(text), max(0, columns - total_width(end))) + end, True)

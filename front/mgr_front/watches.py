@@ -4,18 +4,18 @@ from dataclasses import dataclass
 from typing import Protocol
 
 from mgr_front.errands import Errand
-from mgr_front.frames import Frame
+from mgr_front.statuses import Status
 
 
 @dataclass(frozen=True)
 class Moment:
     """A moment at which nothing is asked or begun."""
 
-    # When something was typed last, and the last whole key.
+    # When something was typed last, and the last two bytes of the keys.
     typed: float
     key: bytes
-    # What shows, and the message in it.
-    frame: Frame
+    # What mgr told, and the message that shows.
+    status: Status
     said: str
 
 

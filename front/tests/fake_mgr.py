@@ -1,7 +1,8 @@
 """A program that takes the place of mgr: it knows text, saving, one buffer, and a command that serves.
 
-It answers each key by a frame. With `silent` for a name it answers only the first ten, and with
-`faulty` it serves nobody. A save keeps what another program has written.
+It answers each block of keys by a status, and by a second one with an operation where a text was typed
+in it. With `silent` for a name it takes a key at a time, and answers only the first ten; with `faulty` it
+serves nobody. A save keeps what another program has written.
 
 Of its other commands it knows what they say of a log, which has the text of the note in it, by replica
 1001. One that begins with `?` is refused, and one with `!` cannot be read. Where it joins logs the
@@ -14,12 +15,79 @@ import pathlib
 import socket
 import sys
 
-ROWS = 3
+from context import BUFFER, written
 
 
-def frame(text: str, name: str, is_changed: bool, echo: str) -> bytes:
-    mode = f"-{'**' if is_changed else '--'}-Mg: {name} (fundamental) L1 C{len(text)} W0".ljust(500, "-")
-    return f"{text}\n{mode}\n{echo}\n0 {len(text)}\n".encode()
+class Live:
+    """A live session: its text and whether that is changed, and what is asked and said."""
+
+    def __init__(self, name: str) -> None:
+        self.name, self.text, self.saved, self.is_changed = name, "", "", False
+        self.rows, self.keys, self.reports = int(sys.argv[sys.argv.index("--rows") + 1]), 0, 0
+        self.begun = self.answer = self.message = ""
+        self.asks = self.is_typed = False
+        # What came of a report, up to its end.
+        self.report: bytes | None = None
+
+    def tell(self, operations: int = 0, more: bool = False) -> None:
+        """Writes a status, and the frame, or so many operations in place of it."""
+        counts = {"keys": self.keys, "reports": self.reports, "more": more, "windows": [[self.rows - 2, self.name]]}
+        buffer = BUFFER | {"changed": self.is_changed, "name": self.name}
+        prompt = {"mode": "prompt", "prompt": {"answer": self.answer, "label": "M-x "}} if self.asks else {}
+        said = {"begun": bool(self.begun), "message": self.message, "cursor": [0, len(self.text)]}
+        frame = [self.text, *[""] * (self.rows - 3), f"----Mg: {self.name} (fundamental)", self.message] if not operations else []
+        os.write(1, written(frame, operations, buffer=buffer, live=buffer, **counts, **prompt, **said))
+
+    def take(self, byte: int) -> None:
+        """Takes a byte of a key or of a report."""
+        if self.report is not None and byte != ord("\n"):
+            self.report += bytes([byte])
+        elif self.report is not None:
+            self.rows = json.loads(self.report)["rows"]
+            self.report, self.reports = None, self.reports + 1
+        elif byte == 0xFF:
+            self.report = b""
+        else:
+            self.keys += 1
+            self.press(chr(byte))
+
+    def press(self, key: str) -> None:
+        """Presses a key, or goes on with one that was begun."""
+        self.begun, key = "", self.begun + key
+        if key in ("\x18", "\x1b"):
+            self.begun = key
+            return
+        self.message = ""
+        if key in ("\x1bx", "\x07"):
+            self.asks, self.answer = key == "\x1bx", ""
+        elif self.asks and key == "\r":
+            self.asks, self.message = False, serve(self.name)
+        elif self.asks:
+            self.answer += key
+        elif key == "\x18\x13":
+            self.save()
+        elif key.isascii() and key.isprintable():
+            self.text, self.is_changed, self.is_typed = self.text + key, True, True
+
+    def save(self) -> None:
+        path = pathlib.Path(self.name)
+        if path.exists() and path.read_text() != self.saved:
+            os.rename(path, f"{path}~")
+        path.write_text(self.text)
+        self.saved, self.is_changed, self.message = self.text, False, f"Wrote {path}"
+
+    def run(self) -> None:
+        """Takes keys to their end, and answers each block of them."""
+        self.tell()
+        is_silent = self.name.endswith("silent")
+        while block := os.read(0, 1 if is_silent else 4096):
+            self.is_typed = False
+            for byte in block:
+                self.take(byte)
+            if not is_silent or self.keys <= 10:
+                self.tell(more=self.is_typed)
+                if self.is_typed:
+                    self.tell(operations=1)
 
 
 def serve(name: str) -> str:
@@ -70,33 +138,8 @@ def main() -> None:
     name = sys.argv[-1]
     if sys.argv[1] in ("log", "show", "mend", "compact", "join"):
         command(sys.argv[1], name)
-        return
-    text, saved, is_changed, count, begun, asked = "", "", False, 0, "", ""
-    os.write(1, frame(text, name, is_changed, ""))
-    while keys := os.read(0, 4096):
-        for key in keys.decode("latin-1"):
-            begun, echo = begun + key, ""
-            if begun in ("\x18", "\x1b"):
-                continue
-            if begun == "\x1bx":
-                asked = echo = "M-x "
-            elif asked and begun == "\r":
-                asked, echo = "", serve(name)
-            elif asked:
-                asked = echo = asked + begun
-            elif begun == "\x18\x13":
-                if os.path.exists(name) and pathlib.Path(name).read_text() != saved:
-                    os.rename(name, f"{name}~")
-                with open(name, "w", encoding="utf-8") as file:
-                    file.write(text)
-                saved, is_changed, echo = text, False, f"Wrote {name}"
-            elif begun == "\x18b":
-                echo = "Switch to buffer: "
-            elif begun.isascii() and begun.isprintable():
-                text, is_changed = text + begun, True
-            begun, count = "", count + 1
-            if not name.endswith("silent") or count <= 10:
-                os.write(1, frame(text, name, is_changed, echo))
+    elif "--live" in sys.argv:
+        Live(name).run()
 
 
 main()

@@ -8,10 +8,9 @@ from unittest import mock
 
 import context
 
-from mgr_front.completion import accept, asks_for_name, begins_at_home, candidates, complete
+from mgr_front.completion import COMMANDS, accept, asks_for_name, begins_at_home, candidates, complete
 from mgr_front.errands import Errand
-from mgr_front.frames import Frame
-from mgr_front.names import COMMANDS
+from mgr_front.statuses import Status
 
 SOURCE = pathlib.Path(context.__file__).resolve().parents[2] / "crates" / "mg_keys" / "src" / "names.rt"
 
@@ -21,7 +20,7 @@ def play(errand: Errand) -> tuple[bytes, str | None]:
     keys = b""
     try:
         keys = next(errand)
-        errand.send(Frame(("", "", ""), 0, 0))
+        errand.send(Status())
     except StopIteration as end:
         return keys, end.value
     raise AssertionError("the errand goes on")
@@ -54,34 +53,34 @@ class TestCompletion(unittest.TestCase):
                 self.assertEqual(candidates(label, answer, ["alpha", "beta", "x\x01"]), wanted)
 
     def test_completing(self) -> None:
-        for prompt, wanted in [
-            ("Find file: n", (b"o", None)),
-            ("Find file: no", (b"", "notes novel")),
-            ("Find file: not", (b"es", None)),
-            ("Find file: notes", (b"", "Sole completion")),
-            ("Find file: z", (b"", "No match")),
-            ("Find file: drafts/", (b"one", None)),
-            ("M-x replica-", (b"", "replica-exchange replica-serve")),
-            ("M-x und", (b"o", None)),
+        for label, answer, wanted in [
+            ("Find file: ", "n", (b"o", None)),
+            ("Find file: ", "no", (b"", "notes novel")),
+            ("Find file: ", "not", (b"es", None)),
+            ("Find file: ", "notes", (b"", "Sole completion")),
+            ("Find file: ", "z", (b"", "No match")),
+            ("Find file: ", "drafts/", (b"one", None)),
+            ("M-x ", "replica-", (b"", "replica-exchange replica-serve")),
+            ("M-x ", "und", (b"o", None)),
         ]:
-            with self.subTest(prompt=prompt):
-                self.assertEqual(play(complete(prompt, [])), wanted)
+            with self.subTest(label=label, answer=answer):
+                self.assertEqual(play(complete(label, answer, [])), wanted)
 
     def test_the_home_folder(self) -> None:
         with mock.patch.dict(os.environ, HOME=os.getcwd()):
             home = os.getcwd().encode()
-            self.assertEqual(play(complete("Find file: ~/not", [])), (b"\x7f" * 5 + home + b"/notes", None))
-            self.assertEqual(play(accept("Find file: ~/notes")), (b"\x7f" * 7 + home + b"/notes\r", None))
+            self.assertEqual(play(complete("Find file: ", "~/not", [])), (b"\x7f" * 5 + home + b"/notes", None))
+            self.assertEqual(play(accept("~/notes")), (b"\x7f" * 7 + home + b"/notes\r", None))
 
     def test_what_asks_for_a_name(self) -> None:
-        for prompt, wanted in [("Find file: a", True), ("M-x ", True), ("Query replace: ", False), ("", False)]:
-            with self.subTest(prompt=prompt):
-                self.assertEqual(asks_for_name(prompt), wanted)
+        for label, wanted in [("Find file: ", True), ("M-x ", True), ("Query replace: ", False), ("", False)]:
+            with self.subTest(label=label):
+                self.assertEqual(asks_for_name(label), wanted)
 
     def test_what_begins_at_home(self) -> None:
-        for prompt, wanted in [("Find file: ~/a", True), ("Find file: a~/", False), ("M-x ~/", False), ("", False)]:
-            with self.subTest(prompt=prompt):
-                self.assertEqual(begins_at_home(prompt), wanted)
+        for label, answer, wanted in [("Find file: ", "~/a", True), ("Find file: ", "a~/", False), ("M-x ", "~/", False)]:
+            with self.subTest(label=label, answer=answer):
+                self.assertEqual(begins_at_home(label, answer), wanted)
 
     @unittest.skipUnless(SOURCE.exists(), "the sources of mgr are not there")
     def test_the_commands_are_those_of_mgr(self) -> None:

@@ -1,33 +1,27 @@
 """Strokes beside a mgr that answers by and by, and the keys that it is given."""
 
 import unittest
+from typing import Any
 
 import context  # noqa: F401
 
-from mgr_front.dialogue import Dialogue
 from mgr_front.dispatch import Dispatcher
+from mgr_front.editor import Talk
 from mgr_front.errands import Errand
 from mgr_front.keys import Keys
 from mgr_front.minibuffer import Question
+from mgr_front.statuses import Status
 
 
-class FakeEditor:
-    """Takes keys, and answers those that it is told to."""
-
-    def __init__(self) -> None:
-        self.dialogue = Dialogue()
-        self.dialogue.answer("")
-        self.keys = b""
-
-    def hand_on(self, keys: bytes) -> None:
-        self.keys += keys
-        self.dialogue.hand_on(keys)
+def asking(label: str, answer: str = "", mode: str = "prompt") -> dict[str, str]:
+    """Returns the members of a status while a prompt is open."""
+    return {"label": label, "answer": answer, "mode": mode}
 
 
 class FakeDesk:
     """Notes what the front has to do itself."""
 
-    def __init__(self, editor: FakeEditor) -> None:
+    def __init__(self, editor: Talk) -> None:
         self.editor = editor
         self.errand: Errand | None = None
         self.question: Question | None = None
@@ -63,25 +57,26 @@ class FakeDesk:
 
 class TestDispatch(unittest.TestCase):
     def setUp(self) -> None:
-        self.editor = FakeEditor()
+        self.editor = Talk(3)
+        self.editor.note(Status())
         self.desk = FakeDesk(self.editor)
         self.dispatcher = Dispatcher(self.editor, erase=8)  # type: ignore[arg-type]
         self.terminal = Keys()
 
     def press(self, sent: bytes) -> bytes:
         """Returns the keys that mgr is given for these, so far."""
-        self.editor.keys = b""
         self.dispatcher.take(self.terminal.take(sent))
-        self.dispatcher.run(self.desk)
-        return self.editor.keys
+        return self.given()
 
-    def answer(self, *echoes: str) -> bytes:
-        """Has mgr answer so many keys, and returns those that it is given then."""
-        self.editor.keys = b""
-        for echo in echoes:
-            self.editor.dialogue.answer(echo)
+    def answer(self, **members: Any) -> bytes:
+        """Has mgr answer all keys by a status with these members, and returns those that it is given then."""
+        self.editor.note(Status(keys=self.editor.status.keys + len(self.editor.untold), **members))
+        return self.given()
+
+    def given(self) -> bytes:
+        self.editor.waiting.clear()
         self.dispatcher.run(self.desk)
-        return self.editor.keys
+        return bytes(self.editor.waiting)
 
     def test_text_goes_on_at_once(self) -> None:
         self.assertEqual(self.press(b"ab"), b"ab")
@@ -89,53 +84,55 @@ class TestDispatch(unittest.TestCase):
 
     def test_what_depends_on_the_answer_waits_for_it(self) -> None:
         self.assertEqual(self.press(b"a\x18\x06b"), b"a")
-        self.assertEqual(self.answer(""), b"\x18\x06b")
+        self.assertEqual(self.answer(), b"\x18\x06b")
 
     def test_the_byte_that_erases(self) -> None:
         self.assertEqual(self.press(b"\x08"), b"\x7f")
-        self.assertEqual(self.answer(""), b"")
-        self.assertEqual(self.press(b"\x11\x08"), b"\x11\x08")
+        self.assertEqual(self.answer(), b"")
+        self.assertEqual(self.press(b"\x11\x08"), b"\x11")
+        self.assertEqual(self.answer(begun=True), b"\x08")
 
     def test_beginnings_of_keys_are_kept_back(self) -> None:
         self.assertEqual(self.press(b"\x18"), b"")
         self.assertFalse(self.dispatcher.is_idle)
         self.assertEqual(self.press(b"\x13"), b"\x18\x13")
-        self.assertEqual(self.answer(""), b"")
+        self.assertEqual(self.answer(), b"")
         self.assertEqual(self.press(b"\x18") + self.dispatcher.give_up(), b"\x18")
 
     def test_arguments_by_the_meta_key(self) -> None:
-        self.assertEqual(self.press(b"\x1b1"), b"\x151")
-        self.assertEqual(self.press(b"\x1b2"), b"2")
+        self.assertEqual(self.press(b"\x1b1\x1b2"), b"\x151")
+        self.assertEqual(self.answer(begun=True), b"2")
         self.assertEqual(self.press(b"\x06"), b"\x06")
 
     def test_keys_of_the_front_mean_nothing_in_an_answer(self) -> None:
         self.press(b"\x18\x06")
-        self.answer("Find file: ")
+        self.answer(**asking("Find file: "))
         self.assertEqual(self.press(b"\x18g"), b"\x18g")
-        self.answer("Undefined key", "Find file: g")
-        self.assertEqual(self.press(b"\x1b[1;5D"), b"\xff")
-        self.answer("Undefined key")
-        self.assertEqual(self.press(b"\x1bf"), b"\xff")
+        self.answer(**asking("Find file: ", "g"))
+        self.assertEqual(self.press(b"\x1b[1;5D"), b"\xfe")
+        self.answer(**asking("Find file: ", "g"))
+        self.assertEqual(self.press(b"\x1bf"), b"\xfe")
 
     def test_suspending(self) -> None:
         self.press(b"\x1a")
         self.press(b"\x18\x1a")
         self.assertEqual(self.desk.done, ["suspend", "suspend"])
-        self.assertEqual(self.press(b"\x11\x1a"), b"\x11\x1a")
+        self.assertEqual(self.press(b"\x11\x1a") + self.answer(begun=True), b"\x11\x1a")
         self.assertEqual(self.desk.done, ["suspend", "suspend"])
 
     def test_suspending_while_a_peer_is_waited_for(self) -> None:
         self.press(b"\x1bxreplica-serve")
-        self.answer(*["M-x replica-serve"[:i] for i in range(4, 18)])
-        self.editor.dialogue.hand_on(b"\r")
-        self.press(b"\x1a")
+        self.answer(**asking("M-x ", "replica-serve"))
+        self.editor.hand_on(b"\r")
+        self.assertEqual(self.press(b"\x1atyped ahead"), b"")
         self.assertEqual(self.desk.done, ["suspend"])
+        self.assertEqual(self.answer(), b"typed ahead")
 
     def test_keys_of_an_answer(self) -> None:
         self.assertEqual(self.press(b"\t"), b"\t")
-        self.assertEqual(self.answer("") + self.press(b"\r"), b"\r")
-        self.assertEqual(self.answer("") + self.press(b"\x18\x06"), b"\x18\x06")
-        self.answer("Find file: ")
+        self.assertEqual(self.answer() + self.press(b"\r"), b"\r")
+        self.assertEqual(self.answer() + self.press(b"\x18\x06"), b"\x18\x06")
+        self.answer(**asking("Find file: "))
         self.assertEqual(self.press(b"\t\r"), b"")
         self.assertEqual(self.desk.done, ["complete", "accept"])
 
@@ -162,20 +159,23 @@ class TestDispatch(unittest.TestCase):
 
     def test_a_line_that_is_not_asked_for_any_more(self) -> None:
         self.assertEqual(self.press(b"\x18g12\x07a"), b"a")
-        self.assertEqual(self.answer("") + self.press(b"\x18g\rb"), b"b")
+        self.assertEqual(self.answer() + self.press(b"\x18g\rb"), b"b")
 
     def test_a_paste_leaves_what_was_begun_and_no_question_is_answered_by_it(self) -> None:
-        self.assertEqual(self.press(b"\x154\x1b[200~y\r\x1b[201~"), b"\x154\xff")
-        self.assertEqual(self.answer("Undefined key"), b"y\r")
-        self.answer("", "")
-        self.press(b"\x18\x03")
-        self.answer("Changed buffers; quit (y or n): ")
-        self.assertEqual(self.press(b"\x1b[200~y\x1b[201~"), b"\x07")
-        self.assertEqual(self.answer("Quit"), b"y")
+        self.assertEqual(self.press(b"\x154\x1b[200~y\r\x1b[201~"), b"\x154")
+        self.assertEqual(self.answer(begun=True), b"\xfe")
+        self.assertEqual(self.answer(), b"y\r")
+        self.answer()
+        for asked in (asking("Changed buffers; quit (y or n): "), asking("Query replacing (y n ! q): ", mode="query")):
+            self.press(b"a")
+            self.answer(**asked)
+            self.assertEqual(self.press(b"\x1b[200~y\x1b[201~"), b"\x07")
+            self.assertEqual(self.answer(), b"y")
+            self.answer()
 
     def test_a_paste_into_an_answer(self) -> None:
         self.press(b"\x18\x06")
-        self.answer("Find file: ")
+        self.answer(**asking("Find file: "))
         self.assertEqual(self.press(b"\x1b[200~notes\r\x1b[201~"), b"notes")
 
 

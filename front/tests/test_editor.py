@@ -1,4 +1,4 @@
-"""What mgr is given beside the keys, as sizes of its screen, and what it is not given: signals."""
+"""What mgr is given, what its statuses answer, and what it is not given: signals."""
 
 import os
 import pathlib
@@ -6,66 +6,81 @@ import signal
 import stat
 import tempfile
 import unittest
+from typing import Any
 
 import context  # noqa: F401
 
-from mgr_front.editor import Editor
+from mgr_front.editor import Editor, Talk
 from mgr_front.signals import ENDING, Signals, held_back
+from mgr_front.statuses import Status
 
-SIZE = b"\x1b[8;3;500t"
-
-
-class TestSizes(unittest.TestCase):
+class TestTalk(unittest.TestCase):
     def setUp(self) -> None:
-        said = tempfile.TemporaryFile()
-        self.addCleanup(said.close)
-        self.editor = Editor("true", ["note"], 3, said)
-        self.addCleanup(self.editor.end, 5)
-        self.editor.dialogue.answer("")
+        self.talk = Talk(3)
+        self.tell()
 
-    def given(self, *keys: bytes) -> bytes:
-        for each in keys:
-            self.editor.hand_on(each)
-        return bytes(self.editor.waiting)
+    def tell(self, keys: int = 0, **members: Any) -> str:
+        """Has mgr tell a status, and returns the command that it answers."""
+        self.talk.note(Status(keys=keys, **members))
+        return self.talk.done
 
-    def test_keys_go_on_as_they_are(self) -> None:
-        self.assertEqual(self.given(b"ab\x1bf", b"\x18\x13"), b"ab\x1bf\x18\x13")
+    def test_keys_go_on_but_for_one_that_would_begin_a_report(self) -> None:
+        for keys in (b"ab\x1bf\xff", b"\xff", b"\x18\x13"):
+            self.talk.hand_on(keys)
+        self.assertEqual((self.talk.waiting, self.talk.last), (b"ab\x1bf\x18\x13", b"\x18\x13"))
 
-    def test_a_size_stands_behind_what_may_begin_one(self) -> None:
-        self.assertEqual(self.given(b"a\x1b[8;5;30t"), b"a\x1b[" + SIZE + b"8;5;30t")
+    def test_sizes_stand_among_the_keys(self) -> None:
+        self.talk.hand_on(b"\x18")
+        for rows in (3, 9, 9):
+            self.talk.resize(rows)
+        self.talk.hand_on(b"\x13")
+        self.assertEqual(self.talk.waiting, b'\x18\xff{"cols":500,"op":"size","rows":9}\n\x13')
 
-    def test_it_does_where_the_keys_come_apart(self) -> None:
-        self.assertEqual(self.given(b"a\x1b", b"[", b"b"), b"a\x1b[" + SIZE + b"b")
+    def test_nothing_is_settled_before_the_first_status(self) -> None:
+        self.assertEqual((self.talk.is_settled, Talk(3).is_settled), (True, False))
 
-    def test_each_size_has_an_answer_of_its_own(self) -> None:
-        self.given(b"\x1b[b")
-        dialogue = self.editor.dialogue
-        answers = [dialogue.answer("Undefined key"), dialogue.answer(""), dialogue.answer("")]
-        self.assertEqual([answer.key for answer in answers], [b"\x1b[", b"", b"b"])
-        self.assertEqual([answer.is_size for answer in answers], [False, True, False])
-        self.assertTrue(dialogue.is_settled)
+    def test_all_is_settled_once_all_is_told(self) -> None:
+        self.talk.hand_on(b"abc")
+        self.talk.resize(9)
+        for keys, reports in [(1, 0), (3, 0), (3, 1)]:
+            self.assertFalse(self.talk.is_settled)
+            self.tell(keys, reports=reports)
+        self.assertTrue(self.talk.is_settled)
 
-    def test_an_escape_that_is_a_key_is_released(self) -> None:
-        self.editor.dialogue.prompt = "M-x "
-        self.given(b"\x1b")
-        self.editor.release()
-        self.editor.release()
-        self.assertEqual(self.given(b"[a"), b"\x1b" + SIZE + b"[a")
+    def test_a_status_that_comes_late_answers_what_it_tells_of(self) -> None:
+        self.talk.hand_on(b"ab")
+        self.talk.hand_on(b"c")
+        self.tell(2)
+        self.assertEqual((self.talk.taken, self.talk.untold), (2, b"c"))
+        self.tell(2)
+        self.assertEqual((self.talk.taken, self.talk.untold), (0, b"c"))
 
-    def test_one_that_begins_a_key_is_not(self) -> None:
-        self.given(b"\x1b")
-        self.editor.release()
-        self.assertEqual(self.given(b"f"), b"\x1bf")
+    def test_at_rest_nothing_is_begun_or_asked(self) -> None:
+        for members, wanted in [({}, True), ({"begun": True}, False), ({"mode": "search"}, False)]:
+            self.tell(**members)
+            self.assertEqual((self.talk.is_settled, self.talk.is_at_rest), (True, wanted))
 
-    def test_a_screen_is_resized_once_nothing_is_begun(self) -> None:
-        self.given(b"\x18")
-        self.editor.resize(9)
-        self.assertEqual(self.given(b"\x13"), b"\x18\x13")
-        self.editor.dialogue.answer("Wrote note")
-        self.editor.resize(9)
-        self.editor.resize(9)
-        self.assertEqual(self.given(), b"\x18\x13\x1b[8;9;500t")
-        self.assertFalse(self.editor.dialogue.is_settled)
+    def test_a_command_that_is_typed(self) -> None:
+        self.talk.hand_on(b"\x1bxundo")
+        self.assertEqual(self.tell(6, mode="prompt", label="M-x ", answer="undo"), "")
+        self.assertEqual(self.talk.command, "")
+        self.talk.hand_on(b"\r")
+        self.assertEqual(self.talk.command, "undo")
+        self.assertEqual((self.tell(7), self.talk.command), ("undo", ""))
+        self.assertEqual(self.tell(7), "")
+
+    def test_one_that_is_given_at_once_and_answered_in_parts(self) -> None:
+        self.talk.hand_on(b"\x1bxundo\r")
+        self.assertEqual(self.talk.command, "undo")
+        for keys, answer in [(2, ""), (4, "un")]:
+            self.assertEqual(self.tell(keys, mode="prompt", label="M-x ", answer=answer), "")
+            self.assertEqual(self.talk.command, "undo")
+        self.assertEqual(self.tell(7), "undo")
+
+    def test_other_answers_are_no_commands(self) -> None:
+        self.tell(mode="prompt", label="Find file: ", answer="undo")
+        self.talk.hand_on(b"\r")
+        self.assertEqual(self.talk.command, "")
 
 
 class TestSignals(unittest.TestCase):

@@ -1,19 +1,19 @@
-"""Errands, played with frames that are made up."""
+"""Errands, played with statuses that are made up."""
 
 import unittest
 
 import context  # noqa: F401
 
 from mgr_front.errands import Errand, go_to_line, kill_word_backward
-from mgr_front.frames import Frame
+from mgr_front.statuses import Status
 
 
-def play(errand: Errand, *echoes: str) -> list[bytes]:
-    """Returns the keys that an errand presses, where these are the echo lines behind them."""
+def play(errand: Errand, *messages: str) -> list[bytes]:
+    """Returns the keys that an errand presses, where these are the messages behind them."""
     keys = [next(errand)]
     try:
-        for echo in (*echoes, *[""] * 9):
-            keys.append(errand.send(Frame(("", "", echo), 0, 0)))
+        for message in (*messages, *[""] * 9):
+            keys.append(errand.send(Status(message=message)))
     except StopIteration:
         pass
     return keys

@@ -29,7 +29,7 @@ class TestExchanges(InFolder):
         self.addCleanup(self.open.close)
 
     def begin(self, name: str) -> Hub:
-        """Returns a hub beside a program that takes the place of mgr, once that shows a frame."""
+        """Returns a hub beside a program that takes the place of mgr, once that tells its status."""
         inner = self.open.enter_context(held_port())
         said = self.open.enter_context(tempfile.TemporaryFile())
         words = ["--port", str(port_of(inner)), "--", str(self.folder / name)]
@@ -60,7 +60,7 @@ class TestExchanges(InFolder):
     def test_mgr_is_given_no_key_before_a_peer_is_there(self) -> None:
         served = self.begin("note")
         self.meet(served)
-        self.assertEqual((served.editor.waiting, served.editor.dialogue.is_idle), (b"", True))
+        self.assertEqual((served.editor.waiting, served.editor.is_settled), (b"", True))
 
     def test_a_fault_before_mgr_waits_is_told_at_once(self) -> None:
         served = self.begin("faulty")

@@ -5,9 +5,9 @@ import unittest
 
 import context  # noqa: F401
 
-from mgr_front.bindings import NAMED, answer_keys, argument_keys, named_keys, plain_keys
-from mgr_front.dialogue import Mode
+from mgr_front.bindings import LINE_MODES, NAMED, answer_keys, argument_keys, named_keys, plain_keys
 from mgr_front.keys import Keys, Meta, Named, Pasted, Stroke, Typed, without_first
+from mgr_front.statuses import PLAIN
 
 SENT: list[tuple[str, bytes, bytes]] = [
     ("text", b"hello", b"hello"),
@@ -87,7 +87,7 @@ class TestKeys(unittest.TestCase):
 class TestBindings(unittest.TestCase):
     def test_nothing_of_a_named_key_goes_into_an_answer(self) -> None:
         for name in NAMED:
-            for mode in (Mode.PROMPT, Mode.QUERY):
+            for mode in LINE_MODES:
                 with self.subTest(name=name, mode=mode):
                     self.assertEqual(len(named_keys(name, mode, False)), 1)
 
@@ -96,12 +96,12 @@ class TestBindings(unittest.TestCase):
         self.assertEqual(answer_keys(Pasted(b"a\rb\r\n", True)), b"a b")
 
     def test_digits_with_meta_go_on_with_an_argument(self) -> None:
-        self.assertEqual(argument_keys(ord("1"), b""), b"\x151")
-        self.assertEqual(argument_keys(ord("2"), b"\x151"), b"2")
+        self.assertEqual(argument_keys(ord("1"), False), b"\x151")
+        self.assertEqual(argument_keys(ord("2"), True), b"2")
 
     def test_a_key_of_two_behind_a_begun_one_is_none(self) -> None:
-        self.assertEqual(named_keys("page-up", Mode.PLAIN, True), b"\xff")
-        self.assertEqual(named_keys("page-up", Mode.PLAIN, False), b"\x1bv")
+        self.assertEqual(named_keys("page-up", PLAIN, True), b"\xfe")
+        self.assertEqual(named_keys("page-up", PLAIN, False), b"\x1bv")
 
 
 if __name__ == "__main__":

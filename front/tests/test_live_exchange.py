@@ -6,18 +6,14 @@ from unittest import mock
 import context  # noqa: F401
 
 from mgr_front import live_exchange
-from mgr_front.frames import Frame
 from mgr_front.live_exchange import LiveExchange
 from mgr_front.remarks import Remarks
+from mgr_front.statuses import Status
 from mgr_front.watches import Moment
 
 
-def frame(echo: str = "", name: str = "note") -> Frame:
-    return Frame(("", f"-**-Mg: {name} (fundamental) L1 C0 W0".ljust(500, "-"), echo), 0, 0)
-
-
-def moment(typed: float, key: bytes = b"x", name: str = "note", said: str = "") -> Moment:
-    return Moment(typed, key, frame(said, name), said)
+def moment(typed: float, key: bytes = b"x", is_live: bool = True, said: str = "") -> Moment:
+    return Moment(typed, key, Status(message=said, is_live=is_live), said)
 
 
 class TestLiveExchange(unittest.TestCase):
@@ -28,15 +24,14 @@ class TestLiveExchange(unittest.TestCase):
         self.addCleanup(clock.stop)
         self.remarks, self.lost = Remarks(), mock.Mock()
         self.live = LiveExchange(self.remarks, self.lost)
-        self.live.open(frame())
 
-    def exchange(self, echo: str, took: float = 0.0, said: str = "") -> str | None:
+    def exchange(self, message: str, took: float = 0.0, said: str = "") -> str | None:
         """Returns what the person is told behind an exchange that says this."""
         errand = self.live.begin(moment(0, said=said))
         self.assertEqual(next(errand), b"\x1bxreplica-exchange\r")
         self.now += took
         with self.assertRaises(StopIteration) as end:
-            errand.send(frame(echo))
+            errand.send(Status(message=message))
         told: str | None = end.exception.value
         return told
 
@@ -59,12 +54,12 @@ class TestLiveExchange(unittest.TestCase):
         self.assertAlmostEqual(self.live.due(moment(99)) or 0, 102.25 + 2)
 
     def test_runs_of_kills_and_undos_are_left_whole(self) -> None:
-        for key in (b"\x0b", b"\x154\x0b", b"\x1bd", b"\x1f", b"\x18u"):
+        for key in (b"\x0b", b"4\x0b", b"\x1bd", b"\x1f", b"\x18u"):
             with self.subTest(key=key):
                 self.assertEqual(self.live.due(moment(99, key)), 109)
 
     def test_only_the_note_is_exchanged(self) -> None:
-        self.assertIsNone(self.live.due(moment(99, name="another")))
+        self.assertIsNone(self.live.due(moment(99, is_live=False)))
         self.assertIsNotNone(self.live.due(moment(99)))
 
     def test_what_is_said(self) -> None:

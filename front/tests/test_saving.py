@@ -6,46 +6,34 @@ import unittest
 import context  # noqa: F401
 
 from mgr_front.errands import Errand
-from mgr_front.frames import Frame
 from mgr_front.remarks import Remarks
-from mgr_front.saving import Autosave, Buffers, current, save_all, save_these
+from mgr_front.saving import Autosave, Buffers, save_all, save_these
+from mgr_front.statuses import Status
 from mgr_front.watches import Moment
 
 
-def mode_row(name: str, is_changed: bool) -> str:
-    return f"-{'**' if is_changed else '--'}-Mg: {name} (fundamental) L1 C0 W0".ljust(500, "-")
-
-
 class FakeMgr:
-    """Buffers in their order, of which the first is shown; those in `faulty` cannot be saved.
+    """Buffers in their order, of which the first is shown; those in `faulty` cannot be saved."""
 
-    Each has this text, and a window more shows it while `is_split`.
-    """
-
-    def __init__(self, faulty: str = "", text: str = "", **changed: bool) -> None:
+    def __init__(self, faulty: str = "", **changed: bool) -> None:
         self.changed, self.faulty, self.shown = changed, faulty, next(iter(changed))
-        self.text, self.is_split = text, False
         self.keys: list[bytes] = []
 
-    def frame(self, echo: str = "") -> Frame:
-        window = (self.text, mode_row(self.shown, self.changed[self.shown]))
-        below = (self.text, mode_row("below", False)) if self.is_split else ()
-        return Frame((*window, *below, echo), 0, 0)
+    def status(self, message: str = "") -> Status:
+        return Status(message=message, buffer=self.shown, is_changed=self.changed[self.shown])
 
-    def press(self, keys: bytes) -> Frame:
+    def press(self, keys: bytes) -> Status:
         self.keys.append(keys)
-        if keys.endswith(b"\x181"):
-            self.is_split = False
         if keys == b"\x18\x13":
             if self.shown == self.faulty:
-                return self.frame("File fault")
+                return self.status("File fault")
             self.changed[self.shown] = False
-            return self.frame(f"Wrote {self.shown}")
+            return self.status(f"Wrote {self.shown}")
         if keys.startswith(b"\x18b"):
             names = list(self.changed)
             asked = keys[2:-1].decode()
             self.shown = asked or names[(names.index(self.shown) + 1) % len(names)]
-        return self.frame()
+        return self.status()
 
     def play(self, errand: Errand) -> str | None:
         try:
@@ -66,17 +54,6 @@ class TestSaving(unittest.TestCase):
                 self.assertEqual((any(mgr.changed.values()), failed), (False, []))
                 self.assertEqual(mgr.keys.count(b"\x18\x13"), sum(changed.values()))
 
-    def test_it_is_where_the_text_looks_like_a_mode_line(self) -> None:
-        mgr = FakeMgr(text=mode_row("a", False), a=True, b=True)
-        mgr.play(save_all([]))
-        self.assertEqual(mgr.changed, {"a": False, "b": False})
-
-    def test_it_is_where_there_is_another_window(self) -> None:
-        mgr = FakeMgr(a=True, b=True)
-        mgr.is_split = True
-        mgr.play(save_all([]))
-        self.assertEqual(mgr.changed, {"a": False, "b": False})
-
     def test_what_cannot_be_saved_is_tried_twice_and_told(self) -> None:
         mgr, failed = FakeMgr(faulty="a", a=True, b=True), list[str]()
         mgr.play(save_all(failed))
@@ -90,30 +67,27 @@ class TestSaving(unittest.TestCase):
 
     def test_buffers_that_are_seen(self) -> None:
         buffers = Buffers()
-        buffers.note(FakeMgr(a=True, b=False).frame())
-        buffers.note(FakeMgr(b=False, a=True).frame())
-        self.assertEqual((buffers.names(), buffers.to_save(lambda name: True)), (["a", "b"], ["a"]))
+        buffers.note(FakeMgr(a=True, b=False).status())
+        buffers.note(FakeMgr(b=False, a=True).status())
+        self.assertEqual((list(buffers.changed), buffers.to_save(lambda name: True)), (["a", "b"], ["a"]))
         self.assertEqual(buffers.to_save(lambda name: name != "a"), [])
-
-    def test_a_mode_line_that_cannot_be_read(self) -> None:
-        self.assertIsNone(current(Frame(("", "----Mg: ".ljust(500, "x"), ""), 0, 0)))
 
 
 class TestAutosave(unittest.TestCase):
     def test_once_nothing_was_typed_for_a_while(self) -> None:
-        frame, buffers = FakeMgr(a=True).frame(), Buffers()
-        buffers.note(frame)
+        status, buffers = FakeMgr(a=True).status(), Buffers()
+        buffers.note(status)
         autosave = Autosave(buffers, lambda name: True)
-        moment = Moment(10, b"x", frame, "")
+        moment = Moment(10, b"x", status, "")
         self.assertEqual(autosave.due(moment), 40)
         mgr = FakeMgr(a=True)
         self.assertEqual(mgr.play(autosave.begin(moment)), "Wrote a")
         self.assertIsNone(autosave.due(moment))
-        self.assertEqual(autosave.due(Moment(20, b"x", frame, "")), 50)
+        self.assertEqual(autosave.due(Moment(20, b"x", status, "")), 50)
 
     def test_where_nothing_is_changed_what_was_said_stands(self) -> None:
         mgr, autosave = FakeMgr(a=False), Autosave(Buffers(), lambda name: True)
-        self.assertEqual(mgr.play(autosave.begin(Moment(10, b"x", mgr.frame(), "Quit"))), "Quit")
+        self.assertEqual(mgr.play(autosave.begin(Moment(10, b"x", mgr.status(), "Quit"))), "Quit")
         self.assertEqual(mgr.keys, [])
 
 

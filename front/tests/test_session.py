@@ -1,5 +1,6 @@
 """Sessions beside a program that takes the place of mgr, and their ends."""
 
+import os
 import pathlib
 import tempfile
 import unittest
@@ -13,9 +14,10 @@ from mgr_front.keys import Keys
 from mgr_front.notes import Note
 from mgr_front.session import Session
 from mgr_front.signals import ENDING
+from mgr_front.statuses import Status
 
 
-class TestEnds(InFolder):
+class Sessions(InFolder):
     def begin(self, name: str) -> Session:
         self.note = Note(str(self.folder / name))
         said = tempfile.TemporaryFile()
@@ -24,15 +26,55 @@ class TestEnds(InFolder):
         screen, signals = mock.Mock(erase=127), mock.Mock(first=None)
         return Session(editor, screen, signals)
 
-    def await_frame(self, edit: Session) -> None:
-        """Waits for the first frame."""
-        while edit.frame is None:
+    def settle(self, edit: Session) -> None:
+        """Waits until all is answered."""
+        while not edit.editor.is_settled:
             edit._await([], None)
-            self.assertTrue(edit._take_frames())
+            self.assertTrue(edit._take_statuses())
 
     def type(self, edit: Session, sent: bytes) -> None:
         edit.dispatcher.take(Keys().take(sent))
 
+
+class TestStatuses(Sessions):
+    def begin(self, name: str) -> Session:
+        edit = super().begin(name)
+        self.addCleanup(edit.editor.end, 5)
+        return edit
+
+    def test_a_new_size_is_told_at_once(self) -> None:
+        edit = self.begin("note")
+        self.settle(edit)
+        self.type(edit, b"a\x18")
+        edit.work()
+        with mock.patch("os.get_terminal_size", return_value=os.terminal_size((80, 9))):
+            edit.resize()
+        self.settle(edit)
+        self.assertEqual((edit.editor.status.frame[0], len(edit.editor.status.frame)), ("a", 9))
+
+    def test_what_the_front_says_stands_until_a_key_is_taken(self) -> None:
+        edit = self.begin("note")
+        edit.said = "Sole completion"
+        for keys, wanted in [(0, "Sole completion"), (1, None)]:
+            edit.editor.note(Status(keys=keys))
+            edit._take(edit.editor.status)
+            self.assertEqual(edit.said, wanted)
+
+    def test_the_bell_rings_for_keys_that_mean_nothing(self) -> None:
+        for keys, begun, message, wanted in [
+            (1, False, "Undefined key", True),
+            (1, True, "Undefined key", False),
+            (0, False, "Undefined key", False),
+            (1, False, "Quit", False),
+        ]:
+            with self.subTest(keys=keys, begun=begun, message=message):
+                edit = self.begin("note")
+                edit.editor.note(Status(keys=keys, begun=begun, message=message))
+                edit._take(edit.editor.status)
+                self.assertEqual(edit.rings, wanted)
+
+
+class TestEnds(Sessions):
     def test_all_that_was_typed_is_saved(self) -> None:
         edit = self.begin("note")
         self.type(edit, b"typed " * 100 + b"\x18")
@@ -44,7 +86,7 @@ class TestEnds(InFolder):
         for number in ENDING:
             with self.subTest(number=number):
                 edit = self.begin(f"note-{number}")
-                self.await_frame(edit)
+                self.settle(edit)
                 self.type(edit, b"typed")
                 edit.editor.process.send_signal(number)
                 ending.finish(edit, self.note)
@@ -62,7 +104,7 @@ class TestEnds(InFolder):
 
     def test_what_a_save_puts_aside_is_told(self) -> None:
         edit = self.begin("note")
-        self.await_frame(edit)
+        self.settle(edit)
         self.put(note="another program's")
         self.type(edit, b"typed")
         with mock.patch.object(ending, "tell") as tell:
@@ -79,22 +121,20 @@ class TestEnds(InFolder):
 
     def test_keys_that_are_not_taken_are_kept(self) -> None:
         edit = self.begin("silent")
-        self.await_frame(edit)
+        self.settle(edit)
         self.type(edit, b"0123456789the rest\r!")
         shorter = mock.patch.multiple(session, LAST=0.5), mock.patch.multiple(ending, GIVEN_UP=0.1)
         with mock.patch.object(ending, "tell") as tell, shorter[0], shorter[1]:
             ending.finish(edit, self.note)
         self.assertIn("silent.keys", tell.call_args[0][0])
-        self.assertEqual(pathlib.Path(self.note.name + ".keys").read_bytes(), b"the rest\r!\xff\x07\x18\x13")
+        self.assertEqual(pathlib.Path(self.note.name + ".keys").read_bytes(), b"the rest\r!\xfe\x07\x18\x13")
 
     def test_a_question_of_the_front_is_left(self) -> None:
         edit = self.begin("note")
-        self.await_frame(edit)
+        self.settle(edit)
         self.type(edit, b"ab")
         edit.work()
-        while not edit.editor.dialogue.is_settled:
-            edit._await([], None)
-            edit._take_frames()
+        self.settle(edit)
         self.type(edit, b"\x18g12")
         edit.work()
         self.assertIsNotNone(edit.question)

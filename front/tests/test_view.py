@@ -10,8 +10,8 @@ import context  # noqa: F401
 
 from mgr_front.cells import cells, total_width
 from mgr_front.echo import Echo, echo_line
-from mgr_front.frames import Frame
 from mgr_front.screen import CLOSE, Screen, change, until_done
+from mgr_front.statuses import Status
 from mgr_front.view import Line, Picture, picture
 
 MODE = "----Mg: n (fundamental) L1 C0 W0".ljust(500, "-")
@@ -23,14 +23,14 @@ def texts(shown: Picture) -> list[str]:
 
 class TestPictures(unittest.TestCase):
     def test_the_row_of_point_is_shifted(self) -> None:
-        frame = Frame(("x" * 30, "abcdefghijklmnopqrstuvwxyz", MODE, ""), 1, 25)
-        shown = picture(frame, Echo(""), 4, 20)
+        status = Status(("x" * 30, "abcdefghijklmnopqrstuvwxyz", MODE, ""), (1, 25), (2,))
+        shown = picture(status, Echo(""), 4, 20)
         self.assertEqual(texts(shown), ["x" * 19 + "$", "$lmnopqrstuvwxyz", MODE[:20], ""])
         self.assertEqual((shown.row, shown.column), (1, 15))
 
     def test_the_echo_line_is_shifted_while_it_has_the_cursor(self) -> None:
-        frame = Frame(("x", MODE, "Find file: " + "y" * 20), 2, 31)
-        shown = picture(frame, echo_line(frame, frame.echo), 3, 20)
+        asked = Status(("x", MODE, ""), (2, 31), (1,), mode="prompt", label="Find file: ", answer="y" * 20)
+        shown = picture(asked, echo_line(asked), 3, 20)
         self.assertEqual(texts(shown)[2], "$" + "y" * 10)
         self.assertEqual((shown.row, shown.column), (2, 11))
 
@@ -45,7 +45,7 @@ class TestPictures(unittest.TestCase):
             (3, 9, ["h", MODE[:20], "said"], 2),
         ]:
             with self.subTest(height=height, point=point):
-                shown = picture(Frame(rows, point, 0), Echo("said"), height, 20)
+                shown = picture(Status(rows, (point, 0), (8,)), Echo("said"), height, 20)
                 self.assertEqual(texts(shown), wanted)
                 self.assertEqual(shown.row, row)
 
@@ -53,18 +53,19 @@ class TestPictures(unittest.TestCase):
         rows = ("a", "b", "c", MODE, "d", "e", MODE, "said")
         for point, wanted in [(2, ["b", "c", MODE[:20], "said"]), (4, [MODE[:20], "d", MODE[:20], "said"])]:
             with self.subTest(point=point):
-                self.assertEqual(texts(picture(Frame(rows, point, 0), Echo("said"), 4, 20)), wanted)
+                status = Status(rows, (point, 0), (3, 2))
+                self.assertEqual(texts(picture(status, Echo("said"), 4, 20)), wanted)
 
     def test_no_size_is_too_small(self) -> None:
-        frame = Frame(("x" * 500, "漢" * 250, MODE, "said"), 1, 498)
+        status = Status(("x" * 500, "漢" * 250, MODE, "said"), (1, 498), (2,))
         for rows in range(6):
             for columns in range(30):
                 with self.subTest(rows=rows, columns=columns):
-                    shown = picture(frame, Echo("said"), rows, columns, "live")
+                    shown = picture(status, Echo("said"), rows, columns, "live")
                     self.assertTrue(0 <= shown.row < len(shown.lines) and 0 <= shown.column < max(columns, 4))
 
     def test_mode_lines_are_in_reverse_and_the_current_one_has_the_status(self) -> None:
-        shown = picture(Frame(("a", MODE, "b", MODE, ""), 0, 0), Echo(""), 5, 40, "live")
+        shown = picture(Status(("a", MODE, MODE, MODE, ""), (0, 0), (1, 1)), Echo(""), 5, 40, "live")
         self.assertEqual([line.is_reverse for line in shown.lines], [False, True, False, True, False])
         self.assertEqual(texts(shown)[1], "----Mg: n (fundamental) L1 C0 W0-- live ")
         self.assertEqual(texts(shown)[3], MODE[:40])
@@ -72,20 +73,25 @@ class TestPictures(unittest.TestCase):
 
 class TestEchoLines(unittest.TestCase):
     def test_echo_lines(self) -> None:
-        for what, echo, prompt, remarks, wanted in [
-            ("nothing", "", "", [], Echo("")),
-            ("a message", "Quit", "", [], Echo("Quit")),
-            ("a prompt behind one", "Undefined key", "Find file: a", [], Echo("Find file: a [Undefined key]", 12)),
-            ("a search behind one", "Search failed", "I-search: a", [], Echo("I-search: a [Search failed]")),
-            ("a remark alone", "", "", ["Sent 1, received 2"], Echo("Sent 1, received 2")),
-            ("a remark behind a message", "Quit", "", ["no hub"], Echo("Quit [no hub]")),
+        for what, message, mode, label, remarks, wanted in [
+            ("nothing", "", "plain", "", [], Echo("")),
+            ("a message", "Quit", "plain", "", [], Echo("Quit")),
+            ("a prompt", "", "prompt", "Find file: ", [], Echo("Find file: a", 12)),
+            ("one and a message", "Undefined key", "prompt", "M-x ", [], Echo("M-x a [Undefined key]", 5)),
+            ("a search and one", "Search failed", "search", "I-search: ", [], Echo("I-search: a [Search failed]")),
+            ("a remark alone", "", "plain", "", ["Sent 1, received 2"], Echo("Sent 1, received 2")),
+            ("a remark behind a message", "Quit", "plain", "", ["no hub"], Echo("Quit [no hub]")),
         ]:
             with self.subTest(what):
-                self.assertEqual(echo_line(Frame(("", MODE, echo), 0, 0), prompt, None, remarks), wanted)
+                status = Status(mode=mode, label=label, answer="a" * bool(label), message=message)
+                self.assertEqual(echo_line(status, None, remarks), wanted)
 
-    def test_a_prompt_that_shows_has_the_cursor_where_mgr_put_it(self) -> None:
-        frame = Frame(("", MODE, "Find file: a"), 2, 12)
-        self.assertEqual(echo_line(frame, "Find file: a"), Echo("Find file: a", 12))
+    def test_what_the_front_says_takes_the_place_of_a_message(self) -> None:
+        self.assertEqual(echo_line(Status(message="Quit"), "Sole completion"), Echo("Sole completion"))
+
+    def test_control_characters_of_an_answer(self) -> None:
+        status = Status(label="Query replace: ", answer="x\ty\x9b", mode="prompt")
+        self.assertEqual(echo_line(status), Echo("Query replace: x        y?", 26))
 
 
 class TestChanges(unittest.TestCase):

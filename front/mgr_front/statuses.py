@@ -1,0 +1,98 @@
+"""What mgr writes in a live session: statuses, each with the rows of the newest frame."""
+
+import json
+from dataclasses import dataclass
+from itertools import accumulate
+from typing import Any
+
+PLAIN, PROMPT, QUERY = "plain", "prompt", "query"
+# How mgr labels its prompts, of those that the front does something at.
+COMMAND, FIND, SWITCH, KILL = "M-x ", "Find file: ", "Switch to buffer: ", "Kill buffer: "
+QUITTING = "Changed buffers; quit (y or n): "
+
+# Members of a status that are kept as they are.
+KEPT = ("begun", "keys", "message", "mode", "reports")
+
+
+@dataclass(frozen=True)
+class Status:
+    """What mgr tells after a block of keys, and the rows of its newest frame."""
+
+    frame: tuple[str, ...] = ()
+    cursor: tuple[int, int] = (0, 0)
+    # The text rows of each window, from the top.
+    heights: tuple[int, ...] = ()
+    # How many keys and reports were taken, and whether a key was begun.
+    keys: int = 0
+    reports: int = 0
+    begun: bool = False
+    # How keys are read, the open prompt, and what is said.
+    mode: str = PLAIN
+    label: str = ""
+    answer: str = ""
+    message: str = ""
+    # The current buffer, and whether it is the one that mgr was begun with.
+    buffer: str = ""
+    is_changed: bool = False
+    is_live: bool = False
+
+    @property
+    def mode_rows(self) -> list[int]:
+        """Returns which rows are mode lines."""
+        return [end - 1 for end in accumulate(height + 1 for height in self.heights)]
+
+    @property
+    def is_quitting(self) -> bool:
+        """Whether it is asked whether to quit, where `y` throws changes away."""
+        return self.label == QUITTING
+
+    @property
+    def asks_for_line(self) -> bool:
+        """Whether an answer of any length is asked for: the cursor stands behind it then."""
+        return self.mode == PROMPT and not self.is_quitting
+
+
+class Statuses:
+    """The statuses of what is read bit by bit: a line of JSON, then rows and operations, which are lines too."""
+
+    def __init__(self) -> None:
+        self.rest = b""
+        # The members of the status whose lines are not all there yet, and those lines.
+        self.told: dict[str, Any] = {}
+        self.lines: list[bytes] = []
+        self.frame: tuple[str, ...] = ()
+
+    def take(self, written: bytes) -> list[Status]:
+        """Returns the statuses that are whole with these bytes, the newest last."""
+        *lines, self.rest = (self.rest + written).split(b"\n")
+        return [status for line in lines if (status := self._take(line))]
+
+    def _take(self, line: bytes) -> Status | None:
+        """Takes a line, and returns the status that is whole with it."""
+        if self.told:
+            self.lines.append(line)
+        else:
+            self.told = json.loads(line)
+        told, rows = self.told, self.told["rows"]
+        if len(self.lines) < rows + told["operations"]:
+            return None
+        if rows:
+            self.frame = tuple(row.decode("utf-8", "replace") for row in self.lines[:rows])
+        self.told, self.lines = {}, []
+        return _status(self.frame, told)
+
+
+def _status(frame: tuple[str, ...], told: dict[str, Any]) -> Status:
+    prompt, buffer, live = told["prompt"] or {}, told["buffer"], told["live"] or {}
+    row, column = told["cursor"]
+    return Status(
+        frame,
+        (row, column),
+        tuple(height for height, _ in told["windows"]),
+        label=prompt.get("label", ""),
+        answer=prompt.get("answer", ""),
+        buffer=buffer["name"],
+        is_changed=buffer["changed"],
+        is_live=buffer["name"] == live.get("name"),
+        **{name: told[name] for name in KEPT},
+    )
