@@ -60,7 +60,7 @@ try-sharing: build/mgr
 crash: build/mgr
 	@scripts/crash.py build/mgr
 
-# Peers that break off or lie, memory that is refused, files that fail, logs that are made to be slow, random ones, random pairs, random sets that are merged, and damaged logs that are mended.
+# Peers that break off or lie, memory that is refused, files that fail, logs that are made to be slow, random ones, random pairs, random sets that are merged, damaged logs that are mended, and live sessions that are killed.
 hostile: build/mgr
 	@scripts/hostile_peers.py build/mgr
 	@scripts/refused_growths.py build/mgr
@@ -70,6 +70,7 @@ hostile: build/mgr
 	@scripts/brief_pairs.py build/mgr
 	@scripts/merged_sets.py build/mgr
 	@scripts/mended_logs.py build/mgr
+	@scripts/live_pairs.py build/mgr
 
 # The files of notes that other programs change, and a second session, while they are edited.
 files: build/mgr
@@ -160,8 +161,8 @@ help:
 	@echo "               python3 and strace)"
 	@echo "make hostile   exchanges with peers that break off, lie, flood or are deaf; refuses each growth of memory and each"
 	@echo "               call of a save; fills a disk; looks for logs that are slow; compacts random ones, exchanges"
-	@echo "               random pairs whole and briefly, merges random sets, and mends damaged logs (needs python3, cc,"
-	@echo "               strace and root; what has to be left out without one of these is said)"
+	@echo "               random pairs whole and briefly, merges random sets, mends damaged logs, and kills live sessions"
+	@echo "               (needs python3, cc, strace and root; what has to be left out without one of these is said)"
 	@echo "make files     does to a note's files what other programs do while it is edited, and looks for each word"
 	@echo "               (needs python3)"
 	@echo "make bench     measures mgr beside a native program (needs python3 and rustc)"

@@ -115,9 +115,9 @@ WORKS = [
     Work("characters yanked at once", (50_000, 150_000, 450_000), keys(letters, lambda n: YANK, lambda n: KILL_ALL)),
     Work("characters killed at once", (50_000, 150_000, 450_000), keys(letters, lambda n: KILL_ALL)),
     Work(
-        "keys, each with a frame and the cursor",
+        "keys, each with a frame",
         (2_000, 6_000, 18_000),
-        keys(lambda n: letters(100_000), editing, options=("--trace", "--cursor")),
+        keys(lambda n: letters(100_000), editing, options=("--trace",)),
     ),
     Work("operations exchanged, nothing new", (25_000, 50_000, 100_000), exchanged((1, 1), 2)),
     Work("characters searched, 200 times in vain", (100_000, 300_000, 900_000), keys(letters, lambda n: b"\x13" + b"z" * 200)),

@@ -4,10 +4,11 @@
 # the cost of an operation grows (`bench/measure.py`); then what an edit of a document costs
 # (`bench/edits.py`), a command of the editor by itself (`bench/commands.py`) and on a buffer
 # (`bench/buffers.py`) and a frame of it (`bench/frames.py`), what a key of `mgr edit` costs
-# (`bench/keys.py`), what its store is good or bad at (`bench/stores.py`), an exchange between two of
-# them (`bench/exchange.py`), and what it costs to read and to write logs and exchanges
-# (`bench/logs.py`), what a compaction makes of a log (`bench/compaction.py`), the commands that merge,
-# mend and tell of notes (`bench/notes.py`), and random events at sites (`bench/worlds.py`).
+# (`bench/keys.py`), how long a live session takes to answer (`bench/live_sessions.py`), what its
+# store is good or bad at (`bench/stores.py`), an exchange between two of them (`bench/exchange.py`),
+# and what it costs to read and to write logs and exchanges (`bench/logs.py`), what a compaction makes
+# of a log (`bench/compaction.py`), the commands that merge, mend and tell of notes
+# (`bench/notes.py`), and random events at sites (`bench/worlds.py`).
 # `make bench` calls it. A call by hand may say `--largest N`, to have `mgr show` measured on no log
 # of more than N operations, and `--shape SHAPE`.
 #
@@ -37,6 +38,8 @@ echo
 python3 bench/frames.py
 echo
 python3 bench/keys.py
+echo
+python3 bench/live_sessions.py
 echo
 python3 bench/stores.py
 echo

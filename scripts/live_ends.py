@@ -105,20 +105,21 @@ def a_fault_of_the_front(terminal):
 
 def saved_by_itself(terminal):
     """30 seconds without a key"""
-    (terminal.folder / "new").write_text("")
+    (terminal.folder / "read").write_text("only read")
     terminal.begin("notes --replica 1")
     terminal.see("start", {8: mode_line("--", "L1 C0")}, (0, 0))
-    terminal.write("a")
-    terminal.press("C-x", "C-s", "C-x", "C-f")
-    terminal.write("unsaved")
-    terminal.press("Enter", "b", "C-x", "b", "Enter")
-    terminal.write("c")
-    terminal.see("a buffer with a log, and one without", {0: "ac", 8: mode_line("**", "L1 C2")}, (0, 2))
+    terminal.press("a", "C-x", "C-f")
+    terminal.write("other")
+    terminal.press("Enter", "b", "C-x", "C-f")
+    terminal.write("read")
+    terminal.press("Enter", "C-x", "b", "n", "Tab", "Enter", "c")
+    terminal.see("two buffers with a log, and one without", {0: "ac", 8: mode_line("**", "L1 C2")}, (0, 2))
     begun = time.monotonic()
-    terminal.see("later", {8: mode_line("--", "L1 C2"), 9: "Wrote notes"}, (0, 2), seconds=40)
+    terminal.see("later", {8: mode_line("--", "L1 C2"), 9: "Wrote notes, Wrote other"}, (0, 2), seconds=40)
     print(f"    saved after {time.monotonic() - begun:.0f} seconds")
     terminal.expect_file("notes", "ac")
-    terminal.expect("the other one", (terminal.folder / "unsaved").exists, False)
+    terminal.expect_file("other", "b")
+    terminal.expect("the one without", (terminal.folder / "read.ops").exists, False)
     terminal.press("C-x", "C-c", "y")
     terminal.left("left", "status 0")
 
@@ -176,7 +177,7 @@ def a_silent_peer(terminal):
 KEYS = [b"a", b"word ", b"c\r", b"\x7f", b"\x13", b"\x12", b"y", b"n", b"!", b"\x07", b"\x154", b"\x11"]
 KEYS += [b"\x18b\r", b"\x18b", b"\x18\x13", b"\x182", b"\x18o", b"\x180", b"\x181", b"\x0b", b"\x19", b"\x17"]
 KEYS += [b"\x00", b"\x1f", b"\x0c", b"\x01", b"\x05", b"\x02", b"\x06", "漢".encode(), "é".encode()]
-LEAVE, SAVE_AND_NEXT = b"\xff\x07", b"\x18\x13\x18b\r"
+LEAVE, SAVE_AND_NEXT = b"\xfe\x07", b"\x18\x13\x18b\r"
 
 
 def seeded_keys(terminal):

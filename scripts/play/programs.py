@@ -2,6 +2,7 @@
 
 import fcntl
 import functools
+import json
 import os
 import pathlib
 import re
@@ -105,10 +106,12 @@ def limits(takes):
 
 
 class Session:
-    """A `mgr edit` that is traced, with each frame that it showed and where the cursor stood then.
+    """A `mgr edit` that is traced, with each frame that it showed.
 
     The command may have words in front of mgr, of what runs it.
     """
+
+    SWITCH = "--trace"
 
     def __init__(self, command, folder, words, takes):
         words = [*words]
@@ -117,7 +120,7 @@ class Session:
                 words += [name, value]
         self.rows = int(words[words.index("--rows") + 1])
         pipes = {"stdin": subprocess.PIPE, "stdout": subprocess.PIPE, "stderr": subprocess.PIPE}
-        self.process = start([*command, "edit", *words, "--trace", "--cursor"], folder, takes, **pipes)
+        self.process = start([*command, "edit", *words, self.SWITCH], folder, takes, **pipes)
         self.shown = b""
         self.error = b""
         self._settle()
@@ -216,26 +219,71 @@ class Session:
     def lines(self):
         return self.shown.split(b"\n")[:-1]
 
+    def frames(self):
+        """Returns the rows of each frame that was shown."""
+        lines = self.lines()
+        ends = range(self.rows, len(lines) + 1, self.rows)
+        return [lines[end - self.rows : end] for end in ends]
+
     def count(self):
         """Returns how many frames were shown."""
-        return len(self.lines()) // (self.rows + 1)
+        return len(self.frames())
 
     def frame(self):
         """Returns the rows of the frame that was shown last."""
-        end = self.count() * (self.rows + 1)
-        if not end:
+        frames = self.frames()
+        if not frames:
             raise Unexpected(f"mgr shows no frame, and says {self.close() and self.error!r}")
-        return [row.decode() for row in self.lines()[end - self.rows - 1 : end - 1]]
+        return [row.decode() for row in frames[-1]]
 
     def cursor(self):
         """Returns the row and the column of the cursor in that frame."""
-        row, column = self.lines()[self.count() * (self.rows + 1) - 1].split()
-        return int(row), int(column)
+        raise Unexpected("a traced session does not say where its cursor stands")
 
     def mode_lines(self):
         """Returns, for each window, the row of its mode line and whether it is changed, and its name."""
         found = [(at, MODE_LINE.match(row)) for at, row in enumerate(self.frame()[:-1])]
         return [(at, it[1] == "-**-", it[2]) for at, it in found if it]
+
+
+class Live(Session):
+    """A `mgr edit` for a front: statuses, and the frames and the operations after them."""
+
+    SWITCH = "--live"
+
+    def _parts(self):
+        """Returns each status that is whole, the rows of its frame, or none where nothing of it changed, and its
+        lines of operations."""
+        parts, lines = [], self.lines()
+        while lines:
+            status = json.loads(lines[0])
+            rows = 1 + status["rows"]
+            end = rows + status["operations"]
+            if len(lines) < end:
+                break
+            parts.append((status, lines[1:rows], lines[rows:end]))
+            lines = lines[end:]
+        return parts
+
+    def frames(self):
+        return [rows for _, rows, _ in self._parts() if rows]
+
+    def statuses(self):
+        return [status for status, _, _ in self._parts()]
+
+    def status(self):
+        """Returns the status that was written last."""
+        statuses = self.statuses()
+        if not statuses:
+            raise Unexpected(f"mgr writes no status, and says {self.close() and self.error!r}")
+        return statuses[-1]
+
+    def told(self):
+        """Returns the lines of all operations that were told."""
+        return b"".join(line + b"\n" for _, _, lines in self._parts() for line in lines)
+
+    def cursor(self):
+        return tuple(self.status()["cursor"])
 
 
 class Job:

@@ -26,7 +26,7 @@ def shows(stage, about):
 
 @word
 def stands(stage, about):
-    """The same, with `^` where the cursor stands in it."""
+    """The same of a live session, with `^` where the cursor stands in it."""
     session = seen(stage)
     rows, (row, column) = _text_rows(session), session.cursor()
     if row < len(rows):
@@ -78,7 +78,7 @@ def row(stage, about):
 
 @word
 def cursor(stage, about):
-    """`cursor ROW COLUMN`, from 0."""
+    """`cursor ROW COLUMN`, from 0, of a live session."""
     stage.compare(about, "%d %d" % seen(stage).cursor())
 
 

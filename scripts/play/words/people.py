@@ -7,7 +7,7 @@ import resource
 import shutil
 
 from play.notation import Unreadable, keys_of, text_of
-from play.programs import Session, Unexpected, delaying, ends_well, failing, limits, makes_calls_fail, noted, noting
+from play.programs import Live, Session, Unexpected, delaying, ends_well, failing, limits, makes_calls_fail, noted, noting
 from play.stage import LeftOut
 from play.words.table import WORDS, parted, word
 
@@ -26,12 +26,22 @@ def _as(stage, about):
 @word
 def edit(stage, about):
     """Begins a session of `mgr edit`, once the one before has ended."""
+    _begin(stage, about, Session)
+
+
+@word
+def live(stage, about):
+    """The same, by `--live`: its statuses say where the cursor stands."""
+    _begin(stage, about, Live)
+
+
+def _begin(stage, about, kind):
     person = stage.person
     if person.session:
         end(person)
     words = [str(stage.port) if it == "PORT" else text_of(it).decode() for it in about.split()]
     person.has_begun = True
-    person.session, person.job = Session([*person.under, stage.mgr], person.folder, words, person.takes), None
+    person.session, person.job = kind([*person.under, stage.mgr], person.folder, words, person.takes), None
 
 
 @word
