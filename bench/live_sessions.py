@@ -4,10 +4,11 @@
 Prints a row a figure: how often it was measured, and the median and the worst milliseconds by the clock, as a front
 would wait for them. They are of a text of 100,000 characters in a log: an insertion of another anywhere in the text,
 up to its status with the frame, and with --changes up to the status that tells how the text changed; 100,000 such
-reports in one stream, up to the status that counts all; a character typed in the middle, up to its frame, up to the
-second status, which comes once it is in the log, and beside these up to its frame by --trace; a splice anywhere, up to
-the status that tells its change, and up to the second one; and a paste of 50 KB. An insertion and a key then are of
-990,000 characters, too. A call by hand may name another mgr, and fewer characters and measurements.
+reports in one stream, and a tenth of them with --changes, up to the status that counts all; a character typed in the
+middle, up to its frame, up to the second status, which comes once it is in the log, and beside these up to its frame
+by --trace; a splice anywhere, up to the status that tells its change, and up to the second one; and a paste of 50 KB.
+An insertion and a key then are of 990,000 characters, too. A call by hand may name another mgr, and fewer characters
+and measurements.
 """
 
 import argparse
@@ -151,15 +152,16 @@ class Table:
         first, _ = self.measured(log, size, times, Session.insertion, "--changes")
         self.row("a report, to its status with --changes", size, first)
 
-    def stream(self, log, size, count):
-        session, chance = self.begin(log, size), random.Random(size)
+    def stream(self, log, size, count, *words):
+        session, chance = self.begin(log, size, *words), random.Random(size)
         given = b"".join(session.insertion(chance) for _ in range(count))
         begin = time.perf_counter()
         feeder = threading.Thread(target=session.write, args=(given,))
         feeder.start()
         while session.status()["reports"] < count:
             pass
-        self.row(f"{count:,} reports in one stream, all", size, [time.perf_counter() - begin])
+        what = " ".join([f"{count:,} reports in one stream, all", *("with " + word for word in words)])
+        self.row(what, size, [time.perf_counter() - begin])
         feeder.join()
         session.end()
 
@@ -219,6 +221,7 @@ def main():
     log = log_of(small)
     table.reports(log, small, TIMES // part)
     table.stream(log, small, STREAM // part)
+    table.stream(log, small, STREAM // 10 // part, "--changes")
     table.keys(log, small, TIMES // part)
     table.splices(log, small, TIMES // part)
     table.pastes(log, small, PASTES, PASTE // part)

@@ -112,7 +112,7 @@ class Writer:
         self.told, self.news = {}, []
         self.counts = collections.Counter()
         self.process = self.status = None
-        self.is_limited = False
+        self.is_limited = self.is_closed = False
         self.transcript = []
 
     # ---- begin and end
@@ -127,8 +127,9 @@ class Writer:
         os.set_blocking(self.process.stdin.fileno(), False)
         self.parts, self.waiting = Parts(), []
         self.keys = self.reports = 0
-        # Whether the next status is a second one, and whether a writing may have failed by then.
-        self.is_second = self.may_fail = False
+        # Whether the next status is a second one, whether a writing may have failed by then, and whether the log was
+        # opened in a closed folder, so that one failed since.
+        self.is_second = self.may_fail = self.was_opened_closed = self.is_forgiven = False
         # What was typed, and what was told of it, since all was told; and the text by the changes that were told.
         self.typed, self.inserted = collections.Counter(), collections.Counter()
         self.text, self.changes = ([], 0) if "--changes" in words else (None, 0)
@@ -178,6 +179,7 @@ class Writer:
 
     def send(self, *pieces):
         """Hands keys and reports to the session, in pieces with a moment between, and reads meanwhile what comes."""
+        self.is_forgiven = False
         for at, part in enumerate(b"".join(pieces).split(REPORT)):
             self.keys += len(part.partition(NEWLINE)[2] if at else part)
             self.reports += bool(at)
@@ -249,7 +251,8 @@ class Writer:
 
     def _note(self, part):
         """Takes note of a status: of what it refused, how the text changed, and what it told."""
-        self.status = status = part.status
+        old, self.status, status = self.status, part.status, part.status
+        self.was_opened_closed |= self.is_closed and bool(status["live"]) and not (old and old["live"])
         for number, fault in status["refused"]:
             self.counts[fault] += 1
             if fault not in ALLOWED:
@@ -265,12 +268,23 @@ class Writer:
         self._note_told(part.lines)
 
     def _note_saved(self, status):
-        """A writing may fail where there is no room, and one that failed counts up to the next that does not."""
-        if status["saved"] not in ("none", "ok", "file") or status["saved"] == "file" and not self.may_fail:
+        """A writing may fail where there is no room, and one that failed counts up to the next that does not. A log that
+        was opened while it took no writing fails once more."""
+        has_failed, live = status["saved"] == "file", status["live"]
+        if status["saved"] not in ("none", "ok", "file") or has_failed and not (self.may_fail or self.was_opened_closed):
             raise Unexpected(f"{self.replica} says that a writing ended with {status['saved']}, and there is room")
-        self.counts["writings that failed"] += self.is_second and status["saved"] == "file"
+        if self.is_second:
+            self.counts["writings that failed"] += has_failed
+            if has_failed and live and live["unsaved"] and not self.is_limited:
+                self._forgive(live)
+            self.was_opened_closed = False
         self.is_second = status["more"]
-        self.may_fail = self.is_limited or status["saved"] == "file"
+        self.may_fail = self.is_limited or has_failed
+
+    def _forgive(self, live):
+        if not self.was_opened_closed:
+            raise Unexpected(f"a writing of {self.replica} fails, and there is room: {live}")
+        self.is_forgiven = True
 
     def _change(self, changes):
         for change in changes:
@@ -299,7 +313,7 @@ class Writer:
         """Where all is in the log, each character that was typed is told. So it has to be where something was made just
         now, and there is room."""
         live = self.status["live"]
-        if live and live["unsaved"] and (self.is_limited or not is_made):
+        if live and live["unsaved"] and (self.is_limited or self.is_forgiven or not is_made):
             return
         if untold := self.typed - self.inserted:
             raise Unexpected(f"{self.replica} did not tell {dict(untold)}, which was typed, and says {live}")
@@ -344,7 +358,7 @@ class Writer:
         if self.log.exists():
             self.log.chmod(0o444)
         self.folder.chmod(0o555)
-        self.is_limited = self.may_fail = True
+        self.is_limited = self.is_closed = self.may_fail = True
 
     def lift(self):
         """There is room again."""
@@ -353,7 +367,7 @@ class Writer:
             self.log.chmod(0o644)
         if self.process:
             resource.prlimit(self.process.pid, resource.RLIMIT_FSIZE, limits(None))
-        self.is_limited = False
+        self.is_limited = self.is_closed = False
 
     # ---- jobs
 
