@@ -15,6 +15,8 @@ enum Step {
     /// A site replaces the characters of a range by the text.
     Edit(usize, (usize, usize), &'static str),
     Save(usize),
+    /// A site, and the place of the operation.
+    SaveOne(usize, usize),
     Restart(usize),
     /// A taker, a giver, and the place of the operation.
     Deliver(usize, usize, usize),
@@ -85,6 +87,7 @@ fn answers<S: TextStore>(
     let event = match step {
         Step::Edit(site, range, text) => edit(alloc, site, range, text)?,
         Step::Save(site) => Event::Save { site },
+        Step::SaveOne(site, place) => Event::SaveOne { site, place },
         Step::Restart(site) => Event::Restart { site },
         Step::Deliver(taker, giver, place) => Event::Deliver {
             taker,
@@ -132,6 +135,28 @@ fn lost_identifier_is_used_once_more(rt: HostRuntime) {
         (Step::Saved(1), ""),
         (Step::Deliver(1, 0, 1), "Err(NoOperation)"),
         (Step::Edit(2, (0, 0), "c"), "Err(NoSite)"),
+    ];
+    walk(&rt, rt.alloc(), 2, ROWS);
+}
+
+#[test]
+fn part_of_a_save_stays(rt: HostRuntime) {
+    const ROWS: &[Row] = &[
+        (Step::Edit(0, (0, 0), "abc"), "Ok(())"),
+        (Step::SaveOne(0, 2), "Ok(())"),
+        (Step::SaveOne(0, 2), "Ok(())"),
+        (Step::SaveOne(0, 0), "Ok(())"),
+        (Step::SaveOne(0, 3), "Err(NoOperation)"),
+        (Step::SaveOne(2, 0), "Err(NoSite)"),
+        (Step::Text(0), "abc"),
+        (Step::Saved(0), "a1.1<0.0 c3.1<2.1"),
+        (Step::Deliver(1, 0, 1), "Ok(())"),
+        (Step::Text(1), ""),
+        (Step::Restart(0), "Ok(())"),
+        (Step::Text(0), "a"),
+        (Step::Edit(0, (1, 1), "d"), "Ok(())"),
+        (Step::Save(0), "Ok(())"),
+        (Step::Saved(0), "a1.1<0.0 c3.1<2.1 d4.1<1.1"),
     ];
     walk(&rt, rt.alloc(), 2, ROWS);
 }

@@ -4,18 +4,22 @@ use Rattle.std.specs.Prelude.{◌↔◌, ◌⊎◌, Result, Ok, Err, Contains}
 use Rattle.std.specs.FinSet as finite_set
 use Rattle.std.proofs.Math.Seq.{take-length}
 use Rattle.std.proofs.lemmas.Option.{same_Some}
-use Rattle.rga_ops.specs.Content.{Content, Agree, Holds, IsAgreed, IsWithin, nothing, join, content_of, known_ids, known_count}
-use Rattle.rga_ops.specs.Answer.{taken, and_take, taken_one_by_one}
+use Rattle.rga_ops.specs.Content.{Content, Agree, Holds, IsAgreed, IsWithin, nothing, join, single, content_of, known_ids, known_count}
+use Rattle.rga_ops.specs.Operation.{checked}
+use Rattle.rga_ops.specs.Answer.{after_answer, taken, and_take, taken_one_by_one}
 use Rattle.rga_ops.specs.ListAnswer.{IsJoinable, list_answer}
 use Rattle.rga_ops.specs.Operations.{operations}
 use Rattle.rga_ops.specs.declared.op.Op.{Op}
 use Rattle.rga_ops.specs.declared.op.Op.TheVariants.{Insert, Delete}
 use Rattle.rga_ops.specs.declared.refusal.Refusal.{Refusal}
-use Rattle.rga_ops.proofs.AgreeLaws.{agree_nothing, agree_swap, agree_within, held_agree}
-use Rattle.rga_ops.proofs.ContentLaws.{nothing_join, join_least, within_both, within_join, within_join_second}
+use Rattle.rga_ops.proofs.AgreeLaws.{agree_nothing, agree_swap, agree_within, held_agree, joinable_nothing, joinable-iff}
+use Rattle.rga_ops.proofs.ContentLaws.{join_nothing, nothing_join, join_least, within_itself, within_both, within_join, within_join_second}
 use Rattle.rga_ops.proofs.ListAnswerLaws.{list_taken-iff, list_one_by_one}
-use Rattle.rga_ops.proofs.OperationLaws.{inserted-iff, deleted-iff}
+use Rattle.rga_ops.proofs.OperationLaws.{Contains-cases, Contains-nil, inserted-iff, deleted-iff}
+use Rattle.rga_ops.proofs.KnownLaws.{known_join, len-le_union}
+use Rattle.rga_ops.proofs.TakenLaws.{taken_is}
 use Rattle.rga_ops.proofs.OperationsLaws.{operations_hold, content_of-operations}
+use Rattle.rga_lines.specs.Spelling.{IsWritable}
 use Rattle.rga_lines.specs.Stream.{rest_of}
 use Rattle.rga_exchange.specs.Sending.{StandsFor, log_text}
 use Rattle.rga_exchange.specs.Log.{log_outcome}
@@ -23,15 +27,16 @@ use Rattle.rga_exchange.specs.declared.log.LogRead.{LogRead}
 use Rattle.rga_exchange.proofs.AppendedLaws.{stands_appended}
 use Rattle.rga_exchange.proofs.LogLaws.{log_that_stands}
 use Rattle.rga_world.specs.Sites.{Site, site, World}
-use Rattle.rga_world.specs.Steps.{stepped, ran, outcome_then, found, of_store, saved_operation, saved_list, delivered, list_delivered, given, with_content}
+use Rattle.rga_world.specs.Steps.{stepped, ran, outcome_then, found, of_store, saved_operation, saved_list, saved_one, delivered, list_delivered, given, with_content, with_saved}
 use Rattle.rga_world.specs.Program.{deliveries}
 use Rattle.rga_world.specs.Together.{IsReached}
 use Rattle.rga_world.specs.Words.{with_site}
-use Rattle.rga_world.specs.declared.event.Event.TheVariants.{Save, Deliver, DeliverList, Restart}
-use Rattle.rga_world.specs.declared.refusal.WorldRefusal.TheVariants.{NoOperation}
-use Rattle.rga_world.proofs.ListPlaces.{set_here, set_old}
+use Rattle.rga_world.specs.declared.event.Event.TheVariants.{Save, SaveOne, Deliver, DeliverList, Restart}
+use Rattle.rga_world.specs.declared.refusal.WorldRefusal.TheVariants.{NoOperation, Store}
+use Rattle.rga_world.proofs.ListPlaces.{contains_place, set_here, set_old}
 use Rattle.rga_world.proofs.SiteSteps.{set_same}
-use Rattle.rga_world.proofs.WordLaws.{changed_to, gives, list_found, saved-iff, restarted-iff}
+use Rattle.rga_world.proofs.StepLaws.{same_Ok, place_held, single_within}
+use Rattle.rga_world.proofs.WordLaws.{changed_to, gives, list_found, saved-iff, saves, store-iff, restarted-iff}
 use Rattle.rga_world.proofs.RunLaws.{reached_consistent, saved_joinable}
 use Rattle.rga_world.proofs.StoredLaws.{reached_storable, held_listed}
 
@@ -102,7 +107,7 @@ restart_from_log w v number s t bytes reached step at there stands =
     let r = log_that_stands w.limit nothing s.saved bytes stands (agree_swap s.saved nothing (agree_nothing s.saved)) (subst (λ c. finite_set.len (known_ids c) ≤ w.limit) (sym (nothing_join s.saved)) fits) in
     (r.0, r.1 ∙ ap (λ c. (c, Ok r.0)) same)
 
--- ---- deliveries one by one
+-- ---- parts of what was taken
 
 take_ok : (r : Result Content Refusal) (f : Content → Result Content Refusal) (d : Content) → and_take r f ≡ Ok d → (c : Content) × (r ≡ Ok c) × (f c ≡ Ok d)
 take_ok (Ok c) f d h = (c, refl, h)
@@ -113,6 +118,98 @@ take_ok (Err e) f d h = absurd (clash h)
 
 inside_ok : (c d : Content) → ◌≡◌ {A = Result Content Refusal} (Ok c) (Ok d) → c ≡ d
 inside_ok c d h = cc
+
+-- ---- a save of one operation
+
+-- what is within a content knows no more
+fewer_known : (c d : Content) → IsWithin c d → known_count c ≤ known_count d
+fewer_known c d w =
+    let all : join c d ≡ d =
+    within_both (join c d) d (join_least c d d w (within_itself d))
+    (within_join_second c d (agree_within c d d d w (within_itself d) (λ id x y f g. same_Some x y (sym f ∙ g)))) in
+    subst (λ e. known_count c ≤ known_count e) all
+    (subst (λ s. known_count c ≤ finite_set.len s) (sym (known_join c d)) (len-le_union (known_ids c) (known_ids d)))
+
+-- what is held has a place among the operations
+held_place : (c : Content) (op : Op) → Holds c op → (place : ℕ) × (slice_get (operations c) place ≡ Some op)
+held_place c op h =
+    contains_place (operations c) op (held_listed (operations c) op (subst (λ d. Holds d op) (sym (content_of-operations c)) h))
+
+-- what holds of an operation holds of all of a list of it
+all_of_one : (P : Op → Type 0) (op : Op) → P op → (o : Op) → Contains (op ∷ []) o → P o
+all_of_one P op h o m = elim (Contains-cases op o [] m) [
+  | inl here ↦ subst P here h
+  | inr later ↦ absurd (Contains-nil o later)
+]
+
+-- what the site holds is taken into what it has saved
+module _ (w : World) (number : ℕ) (s : Site) (op : Op) (reached : IsReached w) (at : slice_get w.sites number ≡ Some s) (held : Holds s.content op) where
+  saved_within : IsWithin s.saved s.content
+  saved_within = (reached_consistent w reached).held number s at
+
+  one_within : IsWithin (single op) s.content
+  one_within = single_within s.content op held
+
+  one_joinable : IsJoinable s.saved (op ∷ [])
+  one_joinable =
+      (joinable-iff s.saved op []).1 (
+        agree_within s.saved (single op) s.content s.content saved_within one_within (λ id x y f g. same_Some x y (sym f ∙ g)),
+        joinable_nothing (join s.saved (single op)),
+      )
+
+  one_fits : known_count (join s.saved (single op)) ≤ w.limit
+  one_fits =
+      let fewer = fewer_known (join s.saved (single op)) s.content (join_least s.saved (single op) s.content saved_within one_within) in
+      let fits = ((reached_storable w reached).content number s at).within in
+      omega (arith, fewer, fits)
+
+  one_taken : taken w.limit s.saved op ≡ Ok (join s.saved (single op))
+  one_taken =
+      let sound = ((reached_storable w reached).content number s at).sound op held in
+      let whole = list_one_by_one w.limit s.saved (op ∷ [])
+      ((list_taken-iff w.limit s.saved (op ∷ [])).1 (
+        all_of_one (λ o. checked o ≡ Ok tt) op sound,
+        one_joinable,
+        subst (λ c. known_count (join s.saved c) ≤ w.limit) (sym (join_nothing (single op))) one_fits,
+      )) in
+      let (c, took, rest) = take_ok (taken w.limit s.saved op) (λ e. Ok e) (join s.saved (content_of (op ∷ []))) whole in
+      took ∙ ap (λ d. Ok d) (taken_is w.limit s.saved op c took).joined
+
+  pub one_saved : (place : ℕ) → slice_get (operations s.content) place ≡ Some op → stepped w (SaveOne number place) ≡ Ok (with_site w number (with_saved s (join s.saved (single op))))
+  one_saved place there =
+      changed_to w number (saved_one w.limit place) s (with_saved s (join s.saved (single op))) at
+      (saves w.limit place s op (Ok (join s.saved (single op))) there one_taken)
+
+pub held_can_be_saved : (w : World) (number : ℕ) (s : Site) (op : Op) → IsReached w → slice_get w.sites number ≡ Some s → Holds s.content op
+    → (place : ℕ) × (stepped w (SaveOne number place) ≡ Ok (with_site w number (with_saved s (join s.saved (single op)))))
+held_can_be_saved w number s op reached at held =
+    let (place, there) = held_place s.content op held in
+    (place, one_saved w number s op reached at held place there)
+
+pub one_not_refused : (w : World) (number place : ℕ) (e : Refusal) → IsReached w → stepped w (SaveOne number place) ≡ Err (Store e) → ⊥
+one_not_refused w number place e reached h =
+    let (op, t, refused) = (store-iff w (SaveOne number place) e).0 h in
+    let taken_so = one_taken w number t.before op reached t.at (place_held t.before.content place op t.held) in
+    clash (join t.before.saved (single op)) (sym taken_so ∙ ap (after_answer t.before.saved op) refused)
+  where
+    clash : (c : Content) → ◌≡◌ {A = Result Content Refusal} (Ok c) (Err e) → ⊥
+    clash c q = cc
+
+pub one_save_in_log : (w v : World) (number place : ℕ) (s t : Site) (op : Op) (bytes : List ℕ)
+    → IsReached w → stepped w (SaveOne number place) ≡ Ok v → slice_get w.sites number ≡ Some s → slice_get v.sites number ≡ Some t
+    → slice_get (operations s.content) place ≡ Some op → StandsFor bytes s.saved → rest_of bytes ≡ []
+    → StandsFor (bytes ++ log_text (op ∷ [])) t.saved
+one_save_in_log w v number place s t op bytes reached step at now there stands ended =
+    let held : Holds s.content op = place_held s.content place op there in
+    let u : Site = with_saved s (join s.saved (single op)) in
+    let is : v ≡ with_site w number u = same_Ok v (with_site w number u) (sym step ∙ one_saved w number s op reached at held place there) in
+    let left : t ≡ u = left_at w v number s u t at is now in
+    let stored = (reached_storable w reached).content number s at in
+    subst (StandsFor (bytes ++ log_text (op ∷ []))) (ap (join s.saved) (join_nothing (single op)) ∙ sym (ap (λ (x : Site). x.saved) left))
+    (stands_appended bytes s.saved (op ∷ []) stands ended (all_of_one IsWritable op (stored.writable op held)) (all_of_one (λ o. checked o ≡ Ok tt) op (stored.sound op held))
+    (one_joinable w number s op reached at held))
+
+-- ---- deliveries one by one
 
 set_twice : {A : Type 0} (xs : List A) (i : ℕ) (x y : A) → slice_set (slice_set xs i x) i y ≡ slice_set xs i y
 set_twice [] i x y = refl

@@ -3,11 +3,12 @@ use Rattle.std.proofs.Common.{◌≡◌, ℕ, ◌<◌, ◌⊎◌, ◌&&◌, Bool
 use Rattle.std.specs.Prelude.{Option, Result, Ok, Err}
 use Rattle.rga_ops.specs.Content.{join, content_of}
 use Rattle.rga_ops.specs.Operations.{operations}
+use Rattle.rga_ops.specs.Answer.{taken}
 use Rattle.rga_ops.specs.ListAnswer.{Verdict}
 use Rattle.rga_ops.specs.declared.op.Op.{Op}
 use Rattle.rga_ops.specs.declared.refusal.Refusal.{Refusal}
 use Rattle.rga_world.specs.Sites.{Site, World}
-use Rattle.rga_world.specs.Steps.{Outcome, outcome_then, found, of_store, site_at, saved_list, with_content, with_operations, changed, given}
+use Rattle.rga_world.specs.Steps.{Outcome, outcome_then, found, of_store, site_at, saved_list, held_operation, saved_one, with_content, with_saved, with_operations, changed, given}
 use Rattle.rga_world.specs.declared.refusal.WorldRefusal.{WorldRefusal}
 use Rattle.rga_world.specs.declared.refusal.WorldRefusal.TheVariants.{NoSite, NoOperation, Store}
 use Rattle.rga_world.proofs.StepLaws.{found_ok}
@@ -91,5 +92,21 @@ ungiven w giver saved take s e h = elim (then_err (site_at w giver) (λ g. outco
       elim (then_err (saved g) (λ x. take x s) e later) [
         | inl none ↦ of_nothing g there none
         | inr (x, x_there, last) ↦ not_taken g x there x_there last
+      ]
+]
+
+-- why what a site holds is not saved
+pub data IsUnsaved (limit place : ℕ) (s : Site) (e : WorldRefusal) : Type 0 where
+  none_there : slice_get (operations s.content) place ≡ None → NoOperation ≡ e → IsUnsaved limit place s e
+  not_saved : (op : Op) (f : Refusal) → slice_get (operations s.content) place ≡ Some op → taken limit s.saved op ≡ Err f → Store f ≡ e → IsUnsaved limit place s e
+
+pub unsaved : (limit place : ℕ) (s : Site) (e : WorldRefusal) → saved_one limit place s ≡ Err e → IsUnsaved limit place s e
+unsaved limit place s e h = elim (then_err (held_operation s place) (λ op. outcome_then (of_store (taken limit s.saved op)) (λ c. Ok (with_saved s c))) e h) [
+  | inl none ↦ let (lacks, is) = found_none NoOperation e (slice_get (operations s.content) place) none in none_there lacks is
+  | inr (op, op_there, later) ↦
+      let there = found_ok NoOperation (slice_get (operations s.content) place) op op_there in
+      elim (then_err (of_store (taken limit s.saved op)) (λ c. Ok (with_saved s c)) e later) [
+        | inl refused ↦ let (f, untaken, is) = of_err (taken limit s.saved op) e refused in not_saved op f there untaken is
+        | inr (c, is, done) ↦ absurd (ok-err (with_saved s c) e done)
       ]
 ]

@@ -47,14 +47,13 @@ use Rattle.rga_doc.proofs.UndoLists.{all_take, all_drop}
 use Rattle.rga_lines.specs.Spelling.{IsElement, IsElementOrRoot, IsWritable}
 use Rattle.rga_exchange.specs.Sending.{AreWritable}
 use Rattle.rga_world.specs.Sites.{Site, site, World, new_world}
-use Rattle.rga_world.specs.Steps.{Outcome, of_store, replica_of, saved_operation, saved_list, with_content, with_operations, edited, reverted, delivered, list_delivered, saved_site, restarted, changed, given, stepped, kept, world_after}
-use Rattle.rga_world.specs.Outcomes.{is_count}
+use Rattle.rga_world.specs.Steps.{Outcome, of_store, replica_of, saved_operation, saved_list, with_content, with_operations, edited, reverted, delivered, list_delivered, saved_site, saved_one, restarted, changed, given, stepped, kept, world_after}
+use Rattle.rga_world.specs.Outcomes.{is_site_count}
 use Rattle.rga_world.specs.Together.{PutsCharacters, IsReached, held_contents, saved_contents, contents}
-use Rattle.rga_world.specs.declared.world.TheConstants.{MAX_SITES}
 use Rattle.rga_world.specs.declared.event.Event.{Event}
-use Rattle.rga_world.specs.declared.event.Event.TheVariants.{Edit, Revert, Save, Deliver, DeliverList, Restart}
+use Rattle.rga_world.specs.declared.event.Event.TheVariants.{Edit, Revert, Save, SaveOne, Deliver, DeliverList, Restart}
 use Rattle.rga_world.proofs.ListPlaces.{set_new, replicate_place, contains_place, mapped_place}
-use Rattle.rga_world.proofs.StepLaws.{same_Ok, then_ok, store_ok, is_changed, takes_given, joined_ok, operation_held, list_held}
+use Rattle.rga_world.proofs.StepLaws.{same_Ok, then_ok, store_ok, is_changed, takes_given, joined_ok, saved_one_ok, place_held, operation_held, list_held}
 
 -- ---- what stores may hold
 
@@ -90,6 +89,15 @@ storable_list : (limit : ℕ) (c : Content) (ops : List Op) → IsStorable limit
 storable_list limit c ops s took writable =
     let t = (list_taken-iff limit c ops).0 took in
     storable_join limit c (content_of ops) s (λ op h. (t.0 op (held_listed ops op h), writable op (held_listed ops op h))) t.2
+
+-- one operation was taken
+storable_taken : (limit : ℕ) (c d : Content) (op : Op) → IsStorable limit c → checked op ≡ Ok tt → IsWritable op → taken limit c op ≡ Ok d → IsStorable limit d
+storable_taken limit c d op s well written took =
+    let joined : d ≡ join c (single op) = (taken_is limit c op d took).joined in
+    let fits : finite_set.len (known_ids d) ≤ limit = taken_list_within limit c (op ∷ []) d s.within (ap (λ r. and_take r (λ e. Ok e)) took) in
+    subst (IsStorable limit) (sym joined)
+    (storable_join limit c (single op) s (λ other m. (ap checked (sym (single_only op other m)) ∙ well, subst IsWritable (single_only op other m) written))
+    (subst (λ e. finite_set.len (known_ids e) ≤ limit) joined fits))
 
 -- ---- how many operations they have
 
@@ -204,16 +212,16 @@ module _ (limit replica : ℕ) (r : IsReplica replica) (c : Content) (s : IsStor
 -- ---- worlds
 
 pub record AreStorable (w : World) : Type 0 where
-  pub few : length w.sites ≤ MAX_SITES
+  pub few : length w.sites ≤ 65535
   pub limited : is_limit w.limit ≡ true
   pub content : (i : ℕ) (s : Site) → slice_get w.sites i ≡ Some s → IsStorable w.limit s.content
   pub saved : (i : ℕ) (s : Site) → slice_get w.sites i ≡ Some s → IsStorable w.limit s.saved
 
-new_storable : (count limit : ℕ) → is_count count ≡ true → is_limit limit ≡ true → AreStorable (new_world count limit)
+new_storable : (count limit : ℕ) → is_site_count count ≡ true → is_limit limit ≡ true → AreStorable (new_world count limit)
 new_storable count limit counted limited = record {
   few =
-      let most : count ≤ MAX_SITES = leb-true count MAX_SITES (and_parts (nat_le 1 count) (nat_le count MAX_SITES) counted).1 in
-      subst (λ n. n ≤ MAX_SITES) (sym (length-replicate count (site nothing nothing))) most;
+      let most : count ≤ 65535 = leb-true count 65535 (and_parts (nat_le 1 count) (nat_le count 65535) counted).1 in
+      subst (λ n. n ≤ 65535) (sym (length-replicate count (site nothing nothing))) most;
   limited = limited;
   content = λ i s at. subst (λ (t : Site). IsStorable limit t.content) (sym (replicate_place count i (site nothing nothing) s at)) (storable_nothing limit);
   saved = λ i s at. subst (λ (t : Site). IsStorable limit t.saved) (sym (replicate_place count i (site nothing nothing) s at)) (storable_nothing limit);
@@ -235,7 +243,7 @@ site_changes w v number change a h leads =
     let now : IsStorableSite w.limit c.now = leads c.before c.now c.was c.change_is in
     subst AreStorable (sym c.is)
     (record {
-      few = subst (λ n. n ≤ MAX_SITES) (sym (length-set w.sites number c.now)) a.few;
+      few = subst (λ n. n ≤ 65535) (sym (length-set w.sites number c.now)) a.few;
       limited = a.limited;
       content = λ i s at. elim (set_new w.sites number i c.now s at) [
         | inl here ↦ subst (λ (t : Site). IsStorable w.limit t.content) (sym here.1) now.content
@@ -254,24 +262,24 @@ joined_storable limit verdict ops s t was h taken written =
 
 -- the replicas of a world are in their range
 replica_in_range : (w : World) (number : ℕ) (s : Site) → AreStorable w → slice_get w.sites number ≡ Some s → IsReplica (replica_of number)
-replica_in_range w number s a at = (omega arith, small number (length w.sites) MAX_SITES 65535 (slice_get_within w.sites number s at) a.few (lit≤ tt))
+replica_in_range w number s a at = (omega arith, small number (length w.sites) 65535 (slice_get_within w.sites number s at) a.few)
   where
-    small : (number count most bound : ℕ) → number < count → count ≤ most → most ≤ bound → number + 1 ≤ bound
-    small number count most bound p q r = omega arith
+    small : (number count most : ℕ) → number < count → count ≤ most → number + 1 ≤ most
+    small number count most p q = omega arith
 
 delivered_storable : (limit : ℕ) (op : Op) (s t : Site) → IsStorableSite limit s → checked op ≡ Ok tt → IsWritable op → delivered limit op s ≡ Ok t → IsStorableSite limit t
 delivered_storable limit op s t was well written h =
     let step = then_ok (of_store (taken limit s.content op)) (λ c. Ok (with_content s c)) t h in
     let took : taken limit s.content op ≡ Ok step.0 = store_ok (taken limit s.content op) step.0 step.1 in
-    let joined : step.0 ≡ join s.content (single op) = (taken_is limit s.content op step.0 took).joined in
-    let fits : finite_set.len (known_ids step.0) ≤ limit = taken_list_within limit s.content (op ∷ []) step.0 was.content.within (ap (λ r. and_take r (λ c. Ok c)) took) in
     subst (IsStorableSite limit) (same_Ok (with_content s step.0) t step.2)
-    (record {
-      content = subst (IsStorable limit) (sym joined)
-          (storable_join limit s.content (single op) was.content (λ other m. (ap checked (sym (single_only op other m)) ∙ well, subst IsWritable (single_only op other m) written))
-          (subst (λ c. finite_set.len (known_ids c) ≤ limit) joined fits));
-      saved = was.saved;
-    })
+    (record { content = storable_taken limit s.content step.0 op was.content well written took; saved = was.saved })
+
+saved_one_storable : (limit place : ℕ) (s t : Site) → IsStorableSite limit s → saved_one limit place s ≡ Ok t → IsStorableSite limit t
+saved_one_storable limit place s t was h =
+    let one = saved_one_ok limit place s t h in
+    let held : Holds s.content one.op = place_held s.content place one.op one.held in
+    subst (IsStorableSite limit) one.is
+    (record { content = was.content; saved = storable_taken limit s.saved one.saved one.op was.saved (was.content.sound one.op held) (was.content.writable one.op held) one.took })
 
 pub step_storable : (w v : World) (event : Event) → AreStorable w → PutsCharacters event → stepped w event ≡ Ok v → AreStorable v
 step_storable w v (Edit number lo hi put) a characters h =
@@ -287,6 +295,8 @@ step_storable w v (Revert number gone back) a characters h =
 step_storable w v (Save number) a characters h =
     site_changes w v number (λ s. Ok (saved_site s)) a h (λ s t at k.
     subst (IsStorableSite w.limit) (same_Ok (saved_site s) t k) (record { content = a.content number s at; saved = a.content number s at }))
+step_storable w v (SaveOne number place) a characters h =
+    site_changes w v number (saved_one w.limit place) a h (λ s t at k. saved_one_storable w.limit place s t (site_storable w a number s at) k)
 step_storable w v (Deliver taker giver place) a characters h =
     site_changes w v taker (given w giver (λ g. saved_operation g place) (delivered w.limit)) a h (λ s t at k.
     let i = takes_given w giver (λ g. saved_operation g place) (delivered w.limit) s t k in

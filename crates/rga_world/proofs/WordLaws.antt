@@ -16,14 +16,14 @@ use Rattle.rga_ops.specs.declared.refusal.Refusal.{Refusal}
 use Rattle.rga_doc.specs.LocalEdit.{splice_answer, splice_operations}
 use Rattle.rga_doc.specs.Revert.{revert_answer, revert_operations}
 use Rattle.rga_world.specs.Sites.{Site, World}
-use Rattle.rga_world.specs.Steps.{Outcome, outcome_then, found, of_store, replica_of, site_at, saved_operation, saved_list, with_content, with_operations, delivered, list_delivered, saved_site, restarted, changed, given, stepped}
-use Rattle.rga_world.specs.Words.{with_site, HasChanged, IsSavedSite, IsRestarted, IsEdited, IsReverted, IsDelivered, IsListGiven, IsListDelivered, LacksSite, LacksOperation, IsRefusedByStore}
+use Rattle.rga_world.specs.Steps.{Outcome, outcome_then, found, of_store, replica_of, site_at, saved_operation, saved_list, with_content, with_saved, with_operations, delivered, list_delivered, saved_site, saved_one, restarted, changed, given, stepped}
+use Rattle.rga_world.specs.Words.{with_site, HasChanged, IsSavedSite, IsSavedOne, IsRestarted, IsEdited, IsReverted, IsDelivered, IsListGiven, IsListDelivered, LacksSite, LacksOperation, IsRefusedByStore}
 use Rattle.rga_world.specs.declared.event.Event.{Event}
-use Rattle.rga_world.specs.declared.event.Event.TheVariants.{Edit, Revert, Save, Deliver, DeliverList, Restart}
+use Rattle.rga_world.specs.declared.event.Event.TheVariants.{Edit, Revert, Save, SaveOne, Deliver, DeliverList, Restart}
 use Rattle.rga_world.specs.declared.refusal.WorldRefusal.{WorldRefusal}
 use Rattle.rga_world.specs.declared.refusal.WorldRefusal.TheVariants.{NoSite, NoOperation, Store}
-use Rattle.rga_world.proofs.StepLaws.{same_Ok, then_ok, found_ok, store_ok, is_changed, takes_given, joined_ok, saved_list_ok}
-use Rattle.rga_world.proofs.RefusalLaws.{ok-err, then_err, found_none, of_err, same_Store, site-operation, site-store, operation-store, joined_err, saved_list_err, nowhere, within, refusal, from_nowhere, of_nothing, not_taken, ungiven}
+use Rattle.rga_world.proofs.StepLaws.{same_Ok, then_ok, found_ok, store_ok, is_changed, takes_given, joined_ok, saved_one_ok, saved_list_ok}
+use Rattle.rga_world.proofs.RefusalLaws.{ok-err, then_err, found_none, of_err, same_Store, site-operation, site-store, operation-store, joined_err, saved_list_err, nowhere, within, refusal, from_nowhere, of_nothing, not_taken, ungiven, none_there, not_saved, unsaved}
 use Rattle.rga_world.proofs.RunLaws.{took_or}
 
 -- ---- outcomes
@@ -169,7 +169,7 @@ module _ {A : Type 0} (w : World) (taker giver : ℕ) (saved : Site → Outcome 
       by None at none = changed_none w taker give at
       by (Some s) at none = changed_err w taker give s NoSite at (ap (λ r. outcome_then r (λ g. outcome_then (saved g) (λ x. take x s))) (no_site_is w giver none))
 
--- ---- deliveries
+-- ---- what stores answer
 
 answered_ok : (limit : ℕ) (c d : Content) (op : Op) → taken limit c op ≡ Ok d → (t : Taken) × (answer limit c op ≡ Ok t)
 answered_ok limit c d op h = by (answer limit c op) h
@@ -199,6 +199,38 @@ delivered_err limit op s e h = elim (then_err (of_store (taken limit s.content o
       (f, took_or s.content s.content op (answer limit s.content op) f by_store, is)
   | inr (d, is, done) ↦ absurd (ok-err (with_content s d) e done)
 ]
+
+-- ---- saves of one operation
+
+-- what is saved of what is at the place, if anything is
+saves_at : (limit place : ℕ) (s : Site) (o : Option Op) → slice_get (operations s.content) place ≡ o → saved_one limit place s ≡ outcome_then (found NoOperation o) (λ op. outcome_then (of_store (taken limit s.saved op)) (λ c. Ok (with_saved s c)))
+saves_at limit place s o there = ap (λ p. outcome_then (found NoOperation p) (λ op. outcome_then (of_store (taken limit s.saved op)) (λ c. Ok (with_saved s c)))) there
+
+-- where it is there, all goes by how it is taken
+pub saves : (limit place : ℕ) (s : Site) (op : Op) (r : Result Content Refusal) → slice_get (operations s.content) place ≡ Some op → taken limit s.saved op ≡ r → saved_one limit place s ≡ outcome_then (of_store r) (λ c. Ok (with_saved s c))
+saves limit place s op r there took = saves_at limit place s (Some op) there ∙ ap (λ q. outcome_then (of_store q) (λ c. Ok (with_saved s c))) took
+
+pub saved_one-iff : (w v : World) (number place : ℕ) → (stepped w (SaveOne number place) ≡ Ok v) ↔ IsSavedOne w v number place
+saved_one-iff w v number place = (
+  λ h.
+      let c = is_changed w number (saved_one w.limit place) v h in
+      let one = saved_one_ok w.limit place c.before c.now c.change_is in
+      let (how, answered) = answered_ok w.limit c.before.saved one.saved one.op one.took in
+      record {
+        op = one.op;
+        there = record { before = c.before; at = c.was; held = one.held };
+        how = how;
+        took = answered;
+        is = c.is ∙ ap (with_site w number) (sym (ap (with_saved c.before) (sym one.joined) ∙ one.is));
+      },
+  λ i.
+      let s = i.there.before in
+      changed_to w number (saved_one w.limit place) s (with_saved s (join s.saved (single i.op))) i.there.at
+      (saves w.limit place s i.op (Ok (join s.saved (single i.op))) i.there.held (taken_ok w.limit s.saved i.op i.how i.took))
+      ∙ ap (λ x. Ok x) (sym i.is),
+)
+
+-- ---- deliveries of one operation
 
 module _ (w : World) (giver place : ℕ) where
   abbrev operation_of : Site → Outcome Op
@@ -306,6 +338,16 @@ pub no_site-iff : (w : World) (event : Event) → (stepped w event ≡ Err NoSit
 no_site-iff w (Edit number lo hi put) = change_no_site-iff w number (splices w lo hi put.items) (spliced_by number lo hi put.items)
 no_site-iff w (Revert number gone back) = change_no_site-iff w number (reverts w back.items) (reverted_by number gone.items back.items)
 no_site-iff w (Save number) = (λ h. (never_refused w number saved_site NoSite h).0, changed_none w number (λ s. Ok (saved_site s)))
+no_site-iff w (SaveOne number place) = (
+  λ h. elim (refusal w number (saved_one w.limit place) NoSite h) [
+    | nowhere none is ↦ none
+    | within s at refused ↦ elim (unsaved w.limit place s NoSite refused) [
+      | none_there none is ↦ absurd (site-operation (sym is))
+      | not_saved op f there untaken is ↦ absurd (site-store f (sym is))
+    ]
+  ],
+  changed_none w number (saved_one w.limit place),
+)
 no_site-iff w (Restart number) = (λ h. (never_refused w number restarted NoSite h).0, changed_none w number (λ s. Ok (restarted s)))
 no_site-iff w (Deliver taker giver place) =
     given_no_site-iff w taker giver (operation_of w giver place) (delivered w.limit)
@@ -320,6 +362,16 @@ pub no_operation-iff : (w : World) (event : Event) → (stepped w event ≡ Err 
 no_operation-iff w (Edit number lo hi put) = (change_has_operation w number (splices w lo hi put.items) (spliced_by number lo hi put.items), λ never. absurd never)
 no_operation-iff w (Revert number gone back) = (change_has_operation w number (reverts w back.items) (reverted_by number gone.items back.items), λ never. absurd never)
 no_operation-iff w (Save number) = (λ h. site-operation (never_refused w number saved_site NoOperation h).1, λ never. absurd never)
+no_operation-iff w (SaveOne number place) = (
+  λ h. elim (refusal w number (saved_one w.limit place) NoOperation h) [
+    | nowhere none is ↦ absurd (site-operation is)
+    | within s at refused ↦ elim (unsaved w.limit place s NoOperation refused) [
+      | none_there none is ↦ record { before = s; at = at; none = none }
+      | not_saved op f there untaken is ↦ absurd (operation-store f (sym is))
+    ]
+  ],
+  λ l. changed_err w number (saved_one w.limit place) l.before NoOperation l.at (saves_at w.limit place l.before None l.none),
+)
 no_operation-iff w (Restart number) = (λ h. site-operation (never_refused w number restarted NoOperation h).1, λ never. absurd never)
 no_operation-iff w (Deliver taker giver place) = (
   λ h. elim (refusal w taker (give_operation w giver place) NoOperation h) [
@@ -354,6 +406,22 @@ pub store-iff : (w : World) (event : Event) (e : Refusal) → (stepped w event �
 store-iff w (Edit number lo hi put) e = change_store-iff w number (splices w lo hi put.items) (spliced_by number lo hi put.items) e
 store-iff w (Revert number gone back) e = change_store-iff w number (reverts w back.items) (reverted_by number gone.items back.items) e
 store-iff w (Save number) e = (λ h. site-store e (never_refused w number saved_site (Store e) h).1, λ never. absurd never)
+store-iff w (SaveOne number place) e = (
+  λ h. elim (refusal w number (saved_one w.limit place) (Store e) h) [
+    | nowhere none is ↦ absurd (site-store e is)
+    | within s at refused ↦ elim (unsaved w.limit place s (Store e) refused) [
+      | none_there none is ↦ absurd (operation-store e is)
+      | not_saved op f there untaken is ↦ (
+        op,
+        record { before = s; at = at; held = there },
+        took_or s.saved s.saved op (answer w.limit s.saved op) f untaken ∙ ap (λ x. Err x) (same_Store f e is),
+      )
+    ]
+  ],
+  λ (op, t, refused).
+      changed_err w number (saved_one w.limit place) t.before (Store e) t.at
+      (saves w.limit place t.before op (Err e) t.held (ap (after_answer t.before.saved op) refused)),
+)
 store-iff w (Restart number) e = (λ h. site-store e (never_refused w number restarted (Store e) h).1, λ never. absurd never)
 store-iff w (Deliver taker giver place) e = (
   λ h. elim (refusal w taker (give_operation w giver place) (Store e) h) [

@@ -5,7 +5,7 @@ use Rattle.rga_doc.specs.LocalEdit.{room_answer}
 use Rattle.rga_world.specs.Sites.{Site, World}
 use Rattle.rga_world.specs.Steps.{Outcome}
 use Rattle.rga_world.specs.declared.event.Event.{Event}
-use Rattle.rga_world.specs.declared.event.Event.TheVariants.{Edit, Revert, Save, Deliver, DeliverList, Restart}
+use Rattle.rga_world.specs.declared.event.Event.TheVariants.{Edit, Revert, Save, SaveOne, Deliver, DeliverList, Restart}
 use Rattle.rga_world.specs.declared.refusal.WorldRefusal.{WorldRefusal}
 use Rattle.rga_world.specs.declared.refusal.WorldRefusal.TheVariants.{Store}
 
@@ -23,10 +23,15 @@ abbrev pub MayWantMemory : World → Event → Type 0
 MayWantMemory w (Edit number lo hi put) = HasRoomAt w number (length put.items) × (lo ≤ hi)
 MayWantMemory w (Revert number gone back) = HasRoomAt w number (length back.items)
 MayWantMemory w (Save number) = number < length w.sites
+MayWantMemory w (SaveOne number place) = number < length w.sites
 MayWantMemory w (Deliver taker giver place) = (taker < length w.sites) × (giver < length w.sites)
 MayWantMemory w (DeliverList taker giver lo hi) = (taker < length w.sites) × (giver < length w.sites) × (lo ≤ hi)
 MayWantMemory w (Restart number) = number < length w.sites
 
--- a world may have so many sites
+-- a world that is made may have so many sites
 abbrev pub is_count : ℕ → Bool
 is_count n = nat_le 1 n && nat_le n 64
+
+-- there are so many replica numbers, so a world may have so many sites
+abbrev pub is_site_count : ℕ → Bool
+is_site_count n = nat_le 1 n && nat_le n 65535

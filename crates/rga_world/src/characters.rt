@@ -16,6 +16,7 @@ pub(crate) fn puts_characters(event: &Event)
         Event::Edit { put, .. } => are_characters(put),
         Event::Revert { back, .. } => are_restored_characters(back),
         Event::Save { .. }
+        | Event::SaveOne { .. }
         | Event::Deliver { .. }
         | Event::DeliverList { .. }
         | Event::Restart { .. } => {}

@@ -2,12 +2,13 @@
 //!
 //! Each function does nothing: its contract is a theorem that the check proves. A world is reached
 //! if some list of events, refused ones included, made it of a world in which nothing had happened:
-//! of as many sites, and with a limit, as `World::new` allows.
-ghost use Rattle.std.specs.Prelude.{◌≡◌, ◌≢◌, ◌↔◌, ◌⊎◌, ◌++◌, ◌+◌, ◌<◌, ◌≤◌, ◌^◌, ℕ, List, [], true, Some, Ok, Err, Contains, filter, length, map, slice_get};
+//! of one site or more, at most as many as there are replica numbers, and with a limit that stores
+//! have.
+ghost use Rattle.std.specs.Prelude.{◌≡◌, ◌≢◌, ◌↔◌, ◌⊎◌, ◌++◌, ◌∷◌, ◌+◌, ◌<◌, ◌≤◌, ◌^◌, ℕ, List, [], true, Some, Ok, Err, Contains, filter, length, map, slice_get};
 ghost use Rattle.std.specs.List.{AllByRecursion};
 ghost use Rattle.std.specs.declared.vec.Vec.{Vec};
 ghost use Rattle.std.specs.declared.alloc.Global.{Global};
-ghost use Rattle.rga_ops.specs.Prelude.{Content, Identifier, IsSound, clock_of, join, known_count, nothing, operations, order, text, visible};
+ghost use Rattle.rga_ops.specs.Prelude.{Content, Identifier, IsSound, clock_of, join, known_count, nothing, operations, order, single, text, visible};
 ghost use Rattle.rga_ops.specs.Content.{Element, Holds, IsWithin};
 ghost use Rattle.rga_ops.specs.Identifier.{identifier};
 ghost use Rattle.rga_ops.specs.declared.op.Op.{Op};
@@ -25,20 +26,20 @@ ghost use Rattle.rga_ops.specs.declared.refusal.Refusal.{Refusal};
 ghost use Rattle.rga_ops.specs.declared.refusal.Refusal.TheVariants.{Conflict};
 ghost use Rattle.rga_store.specs.Limit.{is_limit};
 ghost use Rattle.rga_doc.specs.Revert.{put_back, StandsDirectlyBehind};
-ghost use Rattle.rga_world.specs.Outcomes.{is_count};
+ghost use Rattle.rga_world.specs.Outcomes.{is_site_count};
 ghost use Rattle.rga_world.specs.Program.{deliveries};
 ghost use Rattle.rga_world.specs.Sites.{Site, World, new_world};
-ghost use Rattle.rga_world.specs.Steps.{replica_of, stepped, ran, with_content, world_after};
+ghost use Rattle.rga_world.specs.Steps.{replica_of, stepped, ran, with_content, with_saved, world_after};
 ghost use Rattle.rga_world.specs.Together.{PutsCharacters, IsReached, IsVouched, AllAgree, contents, saved_contents, all_of, all_saved, HaveSameIdentifiers};
-ghost use Rattle.rga_world.specs.Words.{with_site, IsEdited, IsReverted, IsSavedSite, IsDelivered, IsListDelivered, IsRestarted, LacksSite, LacksOperation, IsRefusedByStore};
+ghost use Rattle.rga_world.specs.Words.{with_site, IsEdited, IsReverted, IsSavedSite, IsSavedOne, IsDelivered, IsListDelivered, IsRestarted, LacksSite, LacksOperation, IsRefusedByStore};
 ghost use Rattle.rga_world.specs.declared.event.Event.{Event};
-ghost use Rattle.rga_world.specs.declared.event.Event.TheVariants.{Edit, Revert, Save, Deliver, DeliverList, Restart};
+ghost use Rattle.rga_world.specs.declared.event.Event.TheVariants.{Edit, Revert, Save, SaveOne, Deliver, DeliverList, Restart};
 ghost use Rattle.rga_world.specs.declared.refusal.WorldRefusal.TheVariants.{NoSite, NoOperation, Store};
 
 /// Events lead from one reached world to another. That what they put is characters is true of every
 /// event; a definition knows numbers alone.
 pub fn events_lead_on()
-    ensures begin { (count limit : ℕ) → is_count count ≡ true → is_limit limit ≡ true →
+    ensures begin { (count limit : ℕ) → is_site_count count ≡ true → is_limit limit ≡ true →
         IsReached (new_world count limit) }
     ensures on { (w : World) (events : List Event) → IsReached w →
         AllByRecursion PutsCharacters events → IsReached (world_after w events) }
@@ -59,6 +60,8 @@ pub fn events_in_words()
         ↔ IsReverted w v number gone.items back.items }
     ensures saved { (w v : World) (number : ℕ) →
         (stepped w (Save number) ≡ Ok v) ↔ IsSavedSite w v number }
+    ensures saved_one { (w v : World) (number place : ℕ) →
+        (stepped w (SaveOne number place) ≡ Ok v) ↔ IsSavedOne w v number place }
     ensures delivered { (w v : World) (taker giver place : ℕ) →
         (stepped w (Deliver taker giver place) ≡ Ok v) ↔ IsDelivered w v taker giver place }
     ensures list_delivered { (w v : World) (taker giver lo hi : ℕ) →
@@ -197,6 +200,32 @@ pub fn a_save_is_an_append_to_the_log()
         StandsFor bytes s.saved → rest_of bytes ≡ [] →
         ((op : Op) → Holds s.content op ↔ (Holds s.saved op ⊎ Contains ops op)) →
         StandsFor (bytes ++ log_text ops) t.saved }
+{}
+
+/// Each operation that a site holds can be saved by a save of one. It is joined to what the site has
+/// saved, and nothing else changes.
+pub fn a_held_operation_can_be_saved()
+    ensures { (w : World) (number : ℕ) (s : Site) (op : Op) → IsReached w →
+        slice_get w.sites number ≡ Some s → Holds s.content op →
+        (place : ℕ) × (stepped w (SaveOne number place)
+        ≡ Ok (with_site w number (with_saved s (join s.saved (single op))))) }
+{}
+
+/// A save of one operation is refused only if the site is missing, or holds nothing at the place,
+/// want of memory aside.
+pub fn a_save_of_one_operation_is_taken()
+    ensures { (w : World) (number place : ℕ) (e : Refusal) →
+        IsReached w → stepped w (SaveOne number place) ≢ Err (Store e) }
+{}
+
+/// A save of one operation is an append of its line to the log, which ends in a newline or is empty.
+pub fn a_save_of_one_operation_is_an_append_of_its_line()
+    ensures { (w v : World) (number place : ℕ) (s t : Site) (op : Op) (bytes : List ℕ) →
+        IsReached w → stepped w (SaveOne number place) ≡ Ok v →
+        slice_get w.sites number ≡ Some s → slice_get v.sites number ≡ Some t →
+        slice_get (operations s.content) place ≡ Some op →
+        StandsFor bytes s.saved → rest_of bytes ≡ [] →
+        StandsFor (bytes ++ log_text (op ∷ [])) t.saved }
 {}
 
 /// A restart is a reading of the log: what holds nothing, and reads a log that stands for what the

@@ -5,7 +5,7 @@ ghost use Rattle.rga_doc.specs.LocalEdit.{room_answer};
 ghost use Rattle.rga_store.specs.Limit.{is_limit};
 ghost use Rattle.rga_world.specs.Outcomes.{Happens};
 ghost use Rattle.rga_world.specs.SiteStates.{new_site};
-ghost use Rattle.rga_world.specs.Steps.{edited, reverted, delivered, list_delivered, saved_list, saved_site, restarted};
+ghost use Rattle.rga_world.specs.Steps.{edited, reverted, delivered, list_delivered, saved_list, saved_site, saved_one, restarted};
 ghost use Rattle.std.specs.Prelude.{Ok, Err};
 
 use crate::refusal::WorldRefusal;
@@ -86,6 +86,17 @@ impl<S: TextStore> Site<S> {
         Ok(())
     }
 
+    /// One of the operations that are held is saved.
+    pub(crate) fn save_one(&mut self, place: usize) -> Result<(), WorldRefusal>
+        ensures happens { Happens result self.old.site self.new.site
+            (saved_one self.old.limit place self.old.site) }
+        ensures rest { self.new ≡ record self.old { site = self.new.site } }
+    {
+        let op = self.held_operation(place)?;
+        let _taken = self.saved.apply(op)?;
+        Ok(())
+    }
+
     /// What is saved is held, and nothing else.
     pub(crate) fn restart(&mut self, alloc: Global) -> Result<(), WorldRefusal>
         ensures happens { Happens result self.old.site self.new.site
@@ -139,6 +150,20 @@ impl<S: TextStore> Site<S> {
             ⊎ ((e ≡ WorldRefusal.NoOperation) × (op ≡ None))) }
     {
         let ops = self.saved_ops()?;
+        match ops.as_slice().get(place) {
+            Some(op) => Ok(*op),
+            None => Err(WorldRefusal::NoOperation),
+        }
+    }
+
+    /// The one at a place of the operations that are held.
+    fn held_operation(&self, place: usize) -> Result<Op, WorldRefusal>
+        ensures { let op = slice_get (operations self.now.site.content) place in MatchResult result
+            (λ o. op ≡ Some o)
+            (λ e. (e ≡ WorldRefusal.Store Refusal.Memory)
+            ⊎ ((e ≡ WorldRefusal.NoOperation) × (op ≡ None))) }
+    {
+        let ops = self.document.store().ops()?;
         match ops.as_slice().get(place) {
             Some(op) => Ok(*op),
             None => Err(WorldRefusal::NoOperation),

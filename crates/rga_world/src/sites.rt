@@ -3,7 +3,7 @@ ghost use Rattle.std.specs.Prelude.{◌≡◌, ◌<◌, ◌≤◌, Some, None, O
 ghost use Rattle.rga_store.specs.Limit.{is_limit};
 ghost use Rattle.rga_world.specs.Outcomes.{Happens, HasRoomAt, MayWantMemory};
 ghost use Rattle.rga_world.specs.Sites.{new_world};
-ghost use Rattle.rga_world.specs.Steps.{edited, reverted, delivered, list_delivered, saved_site, restarted, replica_of, changed, given, stepped, saved_operation, saved_list};
+ghost use Rattle.rga_world.specs.Steps.{edited, reverted, delivered, list_delivered, saved_site, saved_one, restarted, replica_of, changed, given, stepped, saved_operation, saved_list};
 ghost use Rattle.rga_ops.specs.declared.refusal.Refusal.TheVariants.{Memory};
 ghost use Rattle.rga_world.specs.declared.refusal.WorldRefusal.TheVariants.{Store};
 
@@ -112,6 +112,17 @@ impl<S: TextStore> Sites<S> {
         self.all[number].save()
     }
 
+    fn save_one(&mut self, number: usize, place: usize) -> Result<(), WorldRefusal>
+        ensures happens { Happens result self.old self.new
+            (changed self.old number (saved_one self.old.limit place)) }
+        ensures memory { result ≡ Err (Store Memory) → number < length self.old.sites }
+    {
+        if number >= self.all.as_slice().len() {
+            return Err(WorldRefusal::NoSite);
+        }
+        self.all[number].save_one(place)
+    }
+
     fn restart(&mut self, number: usize) -> Result<(), WorldRefusal>
         ensures happens { Happens result self.old self.new
             (changed self.old number (λ s. Ok (restarted s))) }
@@ -181,6 +192,7 @@ impl<S: TextStore> Sites<S> {
             Event::Edit { site, lo, hi, put } => self.edit(*site, *lo, *hi, put),
             Event::Revert { site, gone, back } => self.revert(*site, gone, back),
             Event::Save { site } => self.save(*site),
+            Event::SaveOne { site, place } => self.save_one(*site, *place),
             Event::Deliver {
                 taker,
                 giver,

@@ -66,8 +66,9 @@ impl<S: TextStore> World<S> {
     ///
     /// Refusals, in this order: `NoSite` if a site does not exist; `NoOperation` if the giver has
     /// saved none at that place, or fewer than a list asks for, or if the places of a list are out of
-    /// order; `Store` if the site's store refuses, never with `Conflict`. `Store` with `Memory` may
-    /// come in the place of `NoOperation`, unless the places are out of order.
+    /// order, or if the site holds none at the place of the one to be saved; `Store` if the site's
+    /// store refuses, never with `Conflict`, and to a save with `Memory` alone. `Store` with `Memory`
+    /// may come in the place of `NoOperation`, unless the places are out of order.
     pub fn step(&mut self, event: &Event) -> Result<(), WorldRefusal>
         ensures happened { OnOk result (stepped self.old event.now ≡ Ok self.new) }
         ensures refused { IfErr result (λ e.
