@@ -16,20 +16,20 @@ use Rattle.mg_files.specs.declared.port.CallKind.TheVariants.{Connect, Accept, F
 use Rattle.mg_files.specs.declared.port.PortFault.{PortFault}
 use Rattle.mg_held.specs.Held.{Held, MayLead}
 use Rattle.mg_held.specs.Kept.{IsWritableWhole}
-use Rattle.mg_held.specs.Run.{BufferStep, Saves, Takes, Rests, ChangesAlone, SavesOnce, TakesAll, MayGo}
+use Rattle.mg_held.specs.Run.{BufferStep, Saves, Takes, Rests, ChangesAlone, SavesOnce, TakesAll, MayGo, TakesOnly}
 use Rattle.mg_sync.specs.Asking.{Role, Connects, Waits}
 use Rattle.mg_sync.specs.Linking.{Account, PassesOver}
 use Rattle.mg_sync.specs.Talking.{HearsOver}
 use Rattle.mg_sync.specs.Meeting.{Ending, Unsaved, Unopened, Unasked, Unsent, Unended, Met, Came, EndsBehind, Meets, opening}
 use Rattle.mg_editor.proofs.CallLaws.{AllSpare, all_spared, both_spare, leads_split, saves_spare, failed_spare, opening_spares, unopened_spare, unended_spare}
 
--- ---- what becomes of a buffer while calls are made
+-- ---- what becomes of a buffer while calls are made, and these operations may be taken
 
-pub record Course (before : List Call) (new : Option (List Call)) (b d : OpenState) : Type 0 where
+pub record Course (ops : List Op) (before : List Call) (new : Option (List Call)) (b d : OpenState) : Type 0 where
   pub made : List Call
   pub told : new ≡ Some (before ++ made)
   pub spares : (name : List ℕ) → b.buffer.name ≢ name → AllSpare name made
-  pub goes : (s t : Held) → MayLead made s t → (steps : List BufferStep) × MayGo steps b s d t
+  pub goes : (s t : Held) → MayLead made s t → (steps : List BufferStep) × TakesOnly ops steps × MayGo steps b s d t
 
 -- a save told these calls
 record Saving (answer : Result Bool PortFault) (before : List Call) (new : Option (List Call)) (b d : OpenState) : Type 0 where
@@ -52,14 +52,14 @@ saving (Err fault) before old new b d is (step, h) = record {
   saves = (step, record { due = h.due; calls = refl; left = h.left });
 }
 
-pub save_goes : (answer : Result Bool PortFault) (before : List Call) (old new : Option (List Call)) (b d : OpenState) → old ≡ Some before → SavesTo answer old new b d → Course before new b d
+pub save_goes : (answer : Result Bool PortFault) (before : List Call) (old new : Option (List Call)) (b d : OpenState) → old ≡ Some before → SavesTo answer old new b d → Course [] before new b d
 save_goes answer before old new b d is h =
     let save = saving answer before old new b d is h in
     record {
       made = save.made;
       told = save.told;
       spares = save.spares;
-      goes = λ s t leads. (Saves answer ∷ [], (d, t, record { before = before; made = save.made; saves = save.saves; leads = leads }, (refl, refl)));
+      goes = λ s t leads. (Saves answer ∷ [], tt, (d, t, record { before = before; made = save.made; saves = save.saves; leads = leads }, (refl, refl)));
     }
 
 -- what a save leaves of a buffer
@@ -89,7 +89,7 @@ saved_once b s t leads = record { before = []; made = save_calls b; saves = reco
 -- ---- a peer
 
 -- no more was done than these calls
-ends_behind : (before made : List Call) (old new : Option (List Call)) (b d : OpenState) → old ≡ Some before → IsWritableWhole d.buffer.content → ((name : List ℕ) → AllSpare name made) → EndsBehind old new b d made → Course before new b d
+ends_behind : (before made : List Call) (old new : Option (List Call)) (b d : OpenState) → old ≡ Some before → IsWritableWhole d.buffer.content → ((name : List ℕ) → AllSpare name made) → EndsBehind old new b d made → Course [] before new b d
 ends_behind before made old new b d is writable spare h = record {
   made = save_calls b ++ made;
   told = subst (λ o. Adds o new (save_calls b ++ made)) is h.calls;
@@ -99,36 +99,40 @@ ends_behind before made old new b d is writable spare h = record {
       let quiet : t (saved b).buffer.name ≡ split.0 (saved b).buffer.name = all_spared (saved b).buffer.name made split.0 t (spare (saved b).buffer.name) split.2 in
       let alone : ChangesAlone (saved b) (saved b) split.0 t = record { rest = refl; writable = subst (λ (x : OpenState). IsWritableWhole x.buffer.content) h.left writable; held = quiet } in (
         Saves (Ok (is_changed b)) ∷ Rests ∷ [],
-        (saved b, split.0, saved_once b s split.0 split.1, (saved b, t, (alone, record { name = refl; content = refl; unsaved = refl; limit = refl }), (h.left, refl))),
+        tt,
+        (saved b, split.0, saved_once b s split.0 split.1, (saved b, t, (alone, record { name = refl; content = refl; unsaved = refl; limit = refl; replica = refl }), (h.left, refl))),
       );
 }
 
 -- a peer was heard, of which these operations were taken
 meets : (before made : List Call) (kept : Result Bool PortFault) (old new : Option (List Call)) (b d : OpenState) → old ≡ Some before → IsWritableWhole d.buffer.content → ((name : List ℕ) → AllSpare name made)
-    → (m : Meets old new b d made kept) → (ops : List Op) × TakesAll (saved b).buffer ops m.met.buffer → Course before new b d
+    → (m : Meets old new b d made kept) → (ops : List Op) × TakesAll (saved b).buffer ops m.met.buffer → (ops : List Op) × Course ops before new b d
 meets before made kept old new b d is writable spare m (ops, takes) =
     let first : m.mid ≡ Some (before ++ (save_calls b ++ made)) = subst (λ o. Adds o m.mid (save_calls b ++ made)) is m.calls in
     let save = saving kept (before ++ (save_calls b ++ made)) m.mid new m.met d first m.saves in
-    let named : m.met.buffer.name ≡ b.buffer.name = ap (λ (x : State). x.name) takes.follows.rest ∙ (saved_keeps b).name in
-    record {
-      made = (save_calls b ++ made) ++ save.made;
-      told = save.told ∙ ap (λ (l : List Call). Some l) (append_assoc before (save_calls b ++ made) save.made);
-      spares = λ name other. both_spare name (save_calls b ++ made) save.made
-          (both_spare name (save_calls b) made (saves_spare name b other) (spare name))
-          (save.spares name (λ e. other (sym named ∙ e)));
-      goes = λ s t leads.
-          let last = leads_split (save_calls b ++ made) save.made s t leads in
-          let split = leads_split (save_calls b) made s last.0 last.1 in
-          let content : IsWritableWhole m.met.buffer.content = subst IsWritableWhole (save_keeps kept m.mid new m.met d m.saves).content writable in
-          let alone : ChangesAlone (saved b) m.met split.0 last.0 = record {
-            rest = m.rest;
-            writable = content;
-            held = all_spared (saved b).buffer.name made split.0 last.0 (spare (saved b).buffer.name) split.2;
-          } in (
-            Saves (Ok (is_changed b)) ∷ Takes ops ∷ Saves kept ∷ [],
-            (saved b, split.0, saved_once b s split.0 split.1, (m.met, last.0, (alone, takes), (d, t, record { before = before ++ (save_calls b ++ made); made = save.made; saves = save.saves; leads = last.2 }, (refl, refl)))),
-          );
-    }
+    let named : m.met.buffer.name ≡ b.buffer.name = ap (λ (x : State). x.name) takes.follows.rest ∙ (saved_keeps b).name in (
+      ops,
+      record {
+        made = (save_calls b ++ made) ++ save.made;
+        told = save.told ∙ ap (λ (l : List Call). Some l) (append_assoc before (save_calls b ++ made) save.made);
+        spares = λ name other. both_spare name (save_calls b ++ made) save.made
+            (both_spare name (save_calls b) made (saves_spare name b other) (spare name))
+            (save.spares name (λ e. other (sym named ∙ e)));
+        goes = λ s t leads.
+            let last = leads_split (save_calls b ++ made) save.made s t leads in
+            let split = leads_split (save_calls b) made s last.0 last.1 in
+            let content : IsWritableWhole m.met.buffer.content = subst IsWritableWhole (save_keeps kept m.mid new m.met d m.saves).content writable in
+            let alone : ChangesAlone (saved b) m.met split.0 last.0 = record {
+              rest = m.rest;
+              writable = content;
+              held = all_spared (saved b).buffer.name made split.0 last.0 (spare (saved b).buffer.name) split.2;
+            } in (
+              Saves (Ok (is_changed b)) ∷ Takes ops ∷ Saves kept ∷ [],
+              ((λ op c. c), tt),
+              (saved b, split.0, saved_once b s split.0 split.1, (m.met, last.0, (alone, takes), (d, t, record { before = before ++ (save_calls b ++ made); made = save.made; saves = save.saves; leads = last.2 }, (refl, refl)))),
+            );
+      },
+    )
 
 all_taken : (b d : State) (ops : List Op) → TakesOperations b ops d → known_count b.content ≤ b.limit → taken_one_by_one b.limit b.content ops ≡ Ok d.content → (ops : List Op) × TakesAll b ops d
 all_taken b d ops takes fits taken = (ops, record { allowed = one_by_one_list b.limit b.content d.content ops fits taken; follows = takes })
@@ -144,16 +148,16 @@ fits_saved b fits =
     subst (λ n. known_count (saved b).buffer.content ≤ n) (sym k.limit) (subst (λ c. known_count c ≤ b.buffer.limit) (sym k.content) fits)
 
 pub exchange_goes : {L : Type 0} (a : Account L) (role : Role) (ending : Ending) (before : List Call) (b d : OpenState) → a.calls ≡ Some before → IsWritableWhole d.buffer.content → known_count b.buffer.content ≤ b.buffer.limit
-    → (came : Came a.calls a.made b d role ending) → PassesOver a b d role ending came → Course before a.made b d
-exchange_goes a role (Unsaved fault) before b d is writable fits came passes = save_goes (Err fault) before a.calls a.made b d is came
+    → (came : Came a.calls a.made b d role ending) → PassesOver a b d role ending came → (ops : List Op) × Course ops before a.made b d
+exchange_goes a role (Unsaved fault) before b d is writable fits came passes = ([], save_goes (Err fault) before a.calls a.made b d is came)
 exchange_goes a role (Unopened fault) before b d is writable fits came passes =
-    ends_behind before (link_refusals fault (opening role)) a.calls a.made b d is writable (λ name. unopened_spare name role fault) came
+    ([], ends_behind before (link_refusals fault (opening role)) a.calls a.made b d is writable (λ name. unopened_spare name role fault) came)
 exchange_goes a role (Unasked fault) before b d is writable fits (brief, (talk, came)) passes =
-    ends_behind before (opening role ∷ []) a.calls a.made b d is writable (λ name. (opening_spares name role, tt)) came
+    ([], ends_behind before (opening role ∷ []) a.calls a.made b d is writable (λ name. (opening_spares name role, tt)) came)
 exchange_goes a Connects (Unsent fault) before b d is writable fits came passes =
-    ends_behind before (link_call Connect ∷ []) a.calls a.made b d is writable (λ name. (opening_spares name Connects, tt)) came
+    ([], ends_behind before (link_call Connect ∷ []) a.calls a.made b d is writable (λ name. (opening_spares name Connects, tt)) came)
 exchange_goes a Connects (Unended fault) before b d is writable fits came passes =
-    ends_behind before (link_call Connect ∷ link_refusals fault (link_call Finish)) a.calls a.made b d is writable (λ name. (opening_spares name Connects, unended_spare name fault)) came
+    ([], ends_behind before (link_call Connect ∷ link_refusals fault (link_call Finish)) a.calls a.made b d is writable (λ name. (opening_spares name Connects, unended_spare name fault)) came)
 exchange_goes a Connects (Met (Ok sent) heard kept) before b d is writable fits came passes =
     meets before (link_call Connect ∷ link_call Finish ∷ []) kept a.calls a.made b d is writable (λ name. (opening_spares name Connects, (inr (λ f g e. e), tt))) came
     (heard_takes a.wire.remaining _ _ heard (saved b) came.met (fits_saved b fits) passes.hears)

@@ -1,16 +1,21 @@
--- What actions and presses leave of each buffer, as steps of what is held.
-use Rattle.std.proofs.Common.{◌≡◌, ◌⊎◌, inl, inr, ℕ, ◌<◌, List, [], ◌∷◌, ◌++◌, length, set, Option, Some, None, Ok, Err, refl, sym, ap, subst}
+-- What actions, presses, pastes and operations of others leave of each buffer, as steps of what is held.
+use Rattle.std.proofs.Common.{◌≡◌, ◌⊎◌, inl, inr, ℕ, ◌<◌, ◌≤◌, List, [], ◌∷◌, ◌++◌, length, set, Option, Some, None, Result, Ok, Err, refl, sym, ap, subst}
 use Rattle.std.specs.List.{Contains}
 use Rattle.std.proofs.lemmas.List.{length-set}
 use Rattle.std.proofs.lemmas.List.Elements.{Contains-get_or}
-use Rattle.rga_ops.specs.Content.{Content, IsWithin, content_of}
+use Rattle.rga_ops.specs.Answer.{after_answer, and_take, answer, taken_one_by_one}
+use Rattle.rga_ops.specs.Content.{Content, IsWithin, content_of, join, known_count, single}
+use Rattle.rga_ops.specs.ListAnswer.{list_answer}
+use Rattle.rga_ops.specs.declared.op.Op.{Op}
+use Rattle.rga_ops.specs.declared.refusal.Refusal.{Refusal}
+use Rattle.rga_ops.specs.declared.refusal.Taken.{Taken}
+use Rattle.rga_ops.specs.declared.refusal.Taken.TheVariants.{New, Known}
 use Rattle.rga_ops.proofs.ContentLaws.{within_join}
+use Rattle.rga_ops.proofs.ListAnswerLaws.{one_by_one_list}
 use Rattle.rga_ops.proofs.TakenLaws.{held_stays}
-use Rattle.mg_plain.specs.Matches.{found_match}
 use Rattle.mg_plain.specs.declared.command.Command.{Command}
-use Rattle.mg_plain.specs.declared.steps.Direction.TheVariants.{Forward}
-use Rattle.mg_plain.specs.declared.command.Command.TheVariants.{ReplaceOne, SearchForward}
 use Rattle.mg_buffer.specs.Faults.{run_answer, undo_answer}
+use Rattle.mg_buffer.specs.Following.{with_operations}
 use Rattle.mg_buffer.specs.OpenState.{OpenState}
 use Rattle.mg_buffer.specs.Ran.{Ran, operations_of_splices}
 use Rattle.mg_buffer.specs.Sight.{command_call}
@@ -18,32 +23,47 @@ use Rattle.mg_buffer.specs.State.{State}
 use Rattle.mg_buffer.specs.Undid.{Undid}
 use Rattle.mg_held.specs.Held.{Held}
 use Rattle.mg_held.specs.Kept.{IsWritableWhole}
-use Rattle.mg_held.specs.Run.{BufferStep, Runs, Undoes, Rests, ChangesAlone, MayStep, MayGo}
+use Rattle.mg_held.specs.Run.{BufferStep, Saves, Runs, Undoes, Takes, Rests, ChangesAlone, MayStep, MayGo, TakesOnly}
 use Rattle.mg_minibuffer.specs.declared.ending.Action.{Action}
 use Rattle.mg_minibuffer.specs.declared.ending.Action.TheVariants.{Nothing, EndRun, Run, Undo, Arrange, Switch, Kill}
 use Rattle.mg_minibuffer.specs.declared.ending.Ending.{Ending}
 use Rattle.mg_minibuffer.specs.declared.ending.Reaction.{Reaction}
 use Rattle.mg_minibuffer.specs.declared.ending.Reaction.TheVariants.{Ends, Replaces, Accepts}
 use Rattle.mg_minibuffer.specs.declared.ending.Request.{Request}
-use Rattle.mg_minibuffer.specs.declared.ending.Next.TheVariants.{Closed, Open}
-use Rattle.mg_minibuffer.specs.declared.message.Message.TheVariants as message
-use Rattle.mg_minibuffer.specs.declared.prompt.Prompt.TheVariants.{Replacing}
-use Rattle.mg_minibuffer.specs.Endings.{ending_of}
-use Rattle.mg_minibuffer.specs.ReplacementStep.{asks_at_next_match, sum}
-use Rattle.mg_minibuffer.specs.Scenes.{Scene}
 use Rattle.mg_workspace.specs.Actions.{ActionOutcome, ActionVerdict, Done, current_state}
-use Rattle.mg_workspace.specs.Buffers.{idled, no_buffer}
+use Rattle.mg_workspace.specs.AtIndex.{RunsAt, state_at, with_operations_at}
+use Rattle.mg_workspace.specs.Buffers.{buffer_at, idled, no_buffer}
 use Rattle.mg_workspace.specs.Names.{asked, next_round}
-use Rattle.mg_workspace.specs.Workspaces.{Workspace, scene_of, workspace_buffer}
-use Rattle.mg_workspace.specs.declared.fault.ActionFault.TheVariants.{Refused}
+use Rattle.mg_workspace.specs.Workspaces.{Workspace, workspace_buffer}
 use Rattle.mg_editor.specs.Editors.{Editor}
 use Rattle.mg_editor.specs.Holding.{AreOpen, GoesOn}
-use Rattle.mg_editor.specs.Presses.{PressAnswer, Ended, FollowsReaction, Pressed, ending_without_memory}
-use Rattle.mg_editor.proofs.ActionCases.{acted, switches, kills}
-use Rattle.mg_editor.proofs.PressCases.{behind_a_press}
+use Rattle.mg_editor.specs.LiveTaking.{taking}
+use Rattle.mg_editor.specs.Pasting.{PasteAnswer, Pasted}
+use Rattle.mg_editor.specs.Presses.{PressAnswer, Ended, FollowsReaction, Pressed}
+use Rattle.mg_editor.proofs.ActionCases.{RunsOne, acted, acted_at, ended_so, kills, switches}
+use Rattle.mg_editor.proofs.PasteCases.{behind_a_paste}
+use Rattle.mg_editor.proofs.PressCases.{behind_a_press, replaces}
 use Rattle.mg_editor.proofs.SetLaws.{set_cases, set_has, still_there, was_there}
 
-module _ (s : Held) where
+-- what was taken in two parts
+takes_both : (ops : List Op) (xs ys : List BufferStep) → TakesOnly ops xs → TakesOnly ops ys → TakesOnly ops (xs ++ ys)
+takes_both ops [] ys one two = two
+takes_both ops (Saves answer ∷ xs) ys one two = takes_both ops xs ys one two
+takes_both ops (Runs call old new ∷ xs) ys one two = takes_both ops xs ys one two
+takes_both ops (Undoes old new ∷ xs) ys one two = takes_both ops xs ys one two
+takes_both ops (Takes os ∷ xs) ys (here, one) two = (here, takes_both ops xs ys one two)
+takes_both ops (Rests ∷ xs) ys one two = takes_both ops xs ys one two
+
+-- one that is allowed is a list that is allowed
+one_allowed : (limit : ℕ) (c : Content) (op : Op) (r : Taken) → known_count c ≤ limit → answer limit c op ≡ Ok r → list_answer limit c (op ∷ []) ≡ Ok tt
+one_allowed limit c op r fits is = by r (ap (λ (a : Result Taken Refusal). and_take (after_answer c op a) (λ d. taken_one_by_one limit d [])) is)
+  where
+    by : (r : Taken) → taken_one_by_one limit c (op ∷ []) ≡ and_take (after_answer c op (Ok r)) (λ d. taken_one_by_one limit d []) → list_answer limit c (op ∷ []) ≡ Ok tt
+    by New took = one_by_one_list limit c (join c (single op)) (op ∷ []) fits took
+    by Known took = one_by_one_list limit c c (op ∷ []) fits took
+
+-- these operations may be taken
+module _ (ops : List Op) (s : Held) where
   -- ---- steps while nothing is asked of the port
 
   abbrev MayGoHere : List BufferStep → OpenState → OpenState → Type 0
@@ -54,6 +74,7 @@ module _ (s : Held) where
     b : OpenState
     was : Contains before b
     steps : List BufferStep
+    takes : TakesOnly ops steps
     goes : MayGoHere steps b d
 
   here_goes : (steps : List BufferStep) (b d : OpenState) → MayGoHere steps b d → MayGo steps b s d s
@@ -65,9 +86,7 @@ module _ (s : Held) where
   goes_further (step ∷ xs) ys b c d (o, first, more) later = (o, first, goes_further xs ys o c d more later)
 
   stays : (before : List OpenState) (d : OpenState) → Contains before d → Comes before d
-  stays before d c = record { b = d; was = c; steps = []; goes = refl }
-
-  -- ---- an action
+  stays before d c = record { b = d; was = c; steps = []; takes = tt; goes = refl }
 
   abbrev AllCome : Workspace → Workspace → Type 0
   AllCome w v = (d : OpenState) → Contains v.buffers.all d → Comes w.buffers.all d
@@ -75,44 +94,69 @@ module _ (s : Held) where
   abbrev AllWritable : Workspace → Type 0
   AllWritable w = (b : OpenState) → Contains w.buffers.all b → IsWritableWhole b.buffer.content
 
+  abbrev HasCurrent : Workspace → Type 0
+  HasCurrent w = w.buffers.current < length w.buffers.all
+
   same_all : (w v : Workspace) → v.buffers.all ≡ w.buffers.all → AllCome w v
   same_all w v e d c = stays w.buffers.all d (subst (λ l. Contains l d) e c)
 
   same_work : (w v : Workspace) → v ≡ w → AllCome w v
   same_work w v e = same_all w v (ap (λ (u : Workspace). u.buffers.all) e)
 
-  -- the current buffer took a step
-  one_step : (w v : Workspace) (step : BufferStep) (b : State) → w.buffers.current < length w.buffers.all
-      → v.buffers.all ≡ set w.buffers.all w.buffers.current (record (workspace_buffer w) { buffer = b }) → AllWritable v
-      → (ChangesAlone (workspace_buffer w) (record (workspace_buffer w) { buffer = b }) s s → MayStep step (workspace_buffer w) s (record (workspace_buffer w) { buffer = b }) s)
+  comes_again : (w u v : Workspace) → AllCome w u → AllCome u v → AllCome w v
+  comes_again w u v first second d c =
+      let two = second d c in
+      let one = first two.b two.was in
+      record {
+        b = one.b;
+        was = one.was;
+        steps = one.steps ++ two.steps;
+        takes = takes_both ops one.steps two.steps one.takes two.takes;
+        goes = goes_further one.steps two.steps one.b two.b d one.goes two.goes;
+      }
+
+  come_on : (old new : Editor) → AllCome old.work new.work → (d : OpenState) → Contains new.work.buffers.all d → GoesOn ops old.work.buffers s d s
+  come_on old new all d c =
+      let come = all d c in
+      record { b = come.b; was = come.was; steps = come.steps; takes = come.takes; goes = here_goes come.steps come.b d come.goes }
+
+  -- ---- an action
+
+  -- the buffer at an index took a step
+  one_step : (w v : Workspace) (i : ℕ) (step : BufferStep) (b : State) → TakesOnly ops (step ∷ []) → i < length w.buffers.all
+      → v.buffers.all ≡ set w.buffers.all i (record (buffer_at i w.buffers) { buffer = b }) → AllWritable v
+      → (ChangesAlone (buffer_at i w.buffers) (record (buffer_at i w.buffers) { buffer = b }) s s → MayStep step (buffer_at i w.buffers) s (record (buffer_at i w.buffers) { buffer = b }) s)
       → AllCome w v
-  one_step w v step b there e writable may d c =
-      let x : OpenState = record (workspace_buffer w) { buffer = b } in
-      let has : Contains v.buffers.all x = subst (λ l. Contains l x) (sym e) (set_has w.buffers.all w.buffers.current x there) in
-      let alone : ChangesAlone (workspace_buffer w) x s s = record { rest = refl; writable = writable x has; held = refl } in
-      elim (set_cases w.buffers.all w.buffers.current x d (subst (λ l. Contains l d) e c)) [
-        | inl is ↦ record { b = workspace_buffer w; was = Contains-get_or w.buffers.all w.buffers.current no_buffer there; steps = step ∷ []; goes = (x, may alone, sym is) }
+  one_step w v i step b takes there e writable may d c =
+      let x : OpenState = record (buffer_at i w.buffers) { buffer = b } in
+      let has : Contains v.buffers.all x = subst (λ l. Contains l x) (sym e) (set_has w.buffers.all i x there) in
+      let alone : ChangesAlone (buffer_at i w.buffers) x s s = record { rest = refl; writable = writable x has; held = refl } in
+      elim (set_cases w.buffers.all i x d (subst (λ l. Contains l d) e c)) [
+        | inl is ↦ record { b = buffer_at i w.buffers; was = Contains-get_or w.buffers.all i no_buffer there; steps = step ∷ []; takes = takes; goes = (x, may alone, sym is) }
         | inr o ↦ stays w.buffers.all d (o.0, o.1, o.3)
       ]
 
-  idles : (w v : Workspace) → w.buffers.current < length w.buffers.all → v.buffers.all ≡ (idled w.buffers).all → AllWritable v → AllCome w v
+  idles : (w v : Workspace) → HasCurrent w → v.buffers.all ≡ (idled w.buffers).all → AllWritable v → AllCome w v
   idles w v there e writable =
-      one_step w v Rests (record (workspace_buffer w).buffer { undone = None }) there e writable
-      (λ alone. (alone, record { name = refl; content = refl; unsaved = refl; limit = refl }))
+      one_step w v w.buffers.current Rests (record (workspace_buffer w).buffer { undone = None }) tt there e writable
+      (λ alone. (alone, record { name = refl; content = refl; unsaved = refl; limit = refl; replica = refl }))
 
-  runs : (command : Command) (n : ℕ) (w v : Workspace) (r : ActionVerdict) → w.buffers.current < length w.buffers.all → AllWritable v → Done (Run command n) w (v, r) → AllCome w v
-  runs command n w v r there writable did =
+  runs_at : (i : ℕ) (command : Command) (n : ℕ) (w v : Workspace) (r : ActionVerdict) → i < length w.buffers.all → AllWritable v → RunsAt i command n w (v, r) → AllCome w v
+  runs_at i command n w v r there writable did =
       let call = command_call command n w.fill in
-      elim (acted (Ran call (current_state w) w.notes) w v r (run_answer call (current_state w) w.notes) did) [
+      elim (acted_at i (Ran call (state_at i w) w.notes) w v r (run_answer call (state_at i w) w.notes) did) [
         | inl e ↦ same_work w v e
-        | inr t ↦ one_step w v (Runs call w.notes t.2) t.1 there (ap (λ (u : Workspace). u.buffers.all) t.4) writable (λ alone. (alone, t.3))
+        | inr t ↦ one_step w v i (Runs call w.notes t.2) t.1 tt there (ap (λ (u : Workspace). u.buffers.all) t.4) writable (λ alone. (alone, t.3))
       ]
+
+  runs : (command : Command) (n : ℕ) (w v : Workspace) (r : ActionVerdict) → HasCurrent w → AllWritable v → Done (Run command n) w (v, r) → AllCome w v
+  runs command n w v r there writable did = runs_at w.buffers.current command n w v r there writable did
 
   undoes : (w v : Workspace) (r : ActionVerdict) → AreOpen w.buffers → AllWritable v → Done Undo w (v, r) → AllCome w v
   undoes w v r old writable did =
       elim (acted (Undid (current_state w) w.notes) w v r (undo_answer (current_state w)) did) [
         | inl e ↦ same_work w v e
-        | inr t ↦ one_step w v (Undoes w.notes t.2) t.1 old.current (ap (λ (u : Workspace). u.buffers.all) t.4) writable
+        | inr t ↦ one_step w v w.buffers.current (Undoes w.notes t.2) t.1 tt old.current (ap (λ (u : Workspace). u.buffers.all) t.4) writable
             (λ alone. (alone, record { revertible = old.revertible (workspace_buffer w) (Contains-get_or w.buffers.all w.buffers.current no_buffer old.current); allowed = t.0; undid = t.3 }))
       ]
 
@@ -126,16 +170,16 @@ module _ (s : Held) where
   acts (Switch name) w v r old writable e = same_all w v (switches w v r (asked name (next_round (length w.buffers.all) w.buffers.current) w.buffers.all) e)
   acts (Kill name) w v r old writable e = elim (kills w v r (asked name w.buffers.current w.buffers.all) e) [
     | inl same ↦ same_all w v same
-    | inr o ↦ λ d c. stays w.buffers.all d (was_there w.buffers.all o.0 d (subst (λ (l : List OpenState). Contains l d) o.1 c))
+    | inr o ↦ λ d c. stays w.buffers.all d (was_there w.buffers.all o.0 d (subst (λ (l : List OpenState). Contains l d) o.2 c))
   ]
 
-  -- ---- the match at point was replaced, and the next one looked for
+  -- ---- commands in a row
 
   within_writable : (c d : Content) → IsWithin c d → IsWritableWhole d → IsWritableWhole c
   within_writable c d within writable op h = writable op (held_stays c d op within h)
 
   -- a command leaves a buffer what it had
-  writable_before : (command : Command) (n : ℕ) (w v : Workspace) (r : ActionVerdict) → w.buffers.current < length w.buffers.all → AllWritable v → Done (Run command n) w (v, r) → AllWritable w
+  writable_before : (command : Command) (n : ℕ) (w v : Workspace) (r : ActionVerdict) → HasCurrent w → AllWritable v → Done (Run command n) w (v, r) → AllWritable w
   writable_before command n w v r there writable did b c =
       let call = command_call command n w.fill in
       elim (acted (Ran call (current_state w) w.notes) w v r (run_answer call (current_state w) w.notes) did) [
@@ -152,65 +196,75 @@ module _ (s : Held) where
             ]
       ]
 
-  -- what comes of a search for the next match
-  pub searches : (pattern put : List ℕ) (count : ℕ) (scene : Scene) (e : Ending) → (e ≡ asks_at_next_match pattern put count scene) ⊎ (e ≡ ending_without_memory)
-      → (e.action ≡ Nothing) ⊎ ((command : Command) × (e.action ≡ Run command 1))
-  searches pattern put count scene e (inr is) = inl (ap (λ (x : Ending). x.action) is)
-  searches pattern put count scene e (inl is) = by (found_match Forward pattern scene.text scene.point) is
-    where
-      by : (o : Option ℕ) → e ≡ elim o [
-        | Some i ↦ ending_of (Run (SearchForward pattern scene.point) 1) (Open (Replacing pattern put count)) message.Nothing
-        | None ↦ ending_of Nothing Closed (message.Replaced count)
-      ] → (e.action ≡ Nothing) ⊎ ((command : Command) × (e.action ≡ Run command 1))
-      by (Some i) found = inr (SearchForward pattern scene.point, ap (λ (x : Ending). x.action) found)
-      by None found = inl (ap (λ (x : Ending). x.action) found)
+  current_stays : (command : Command) (n : ℕ) (w v : Workspace) (r : ActionVerdict) → HasCurrent w → Done (Run command n) w (v, r) → HasCurrent v
+  current_stays command n w v r there did =
+      let call = command_call command n w.fill in
+      elim (acted (Ran call (current_state w) w.notes) w v r (run_answer call (current_state w) w.notes) did) [
+        | inl e ↦ subst HasCurrent (sym e) there
+        | inr t ↦ subst HasCurrent (sym t.4) (subst (λ k. w.buffers.current < k) (sym (length-set w.buffers.all w.buffers.current (record (workspace_buffer w) { buffer = t.1 }))) there)
+      ]
 
-  comes_again : (w u v : Workspace) → AllCome w u → AllCome u v → AllCome w v
-  comes_again w u v first second d c =
-      let two = second d c in
-      let one = first two.b two.was in
-      record { b = one.b; was = one.was; steps = one.steps ++ two.steps; goes = goes_further one.steps two.steps one.b two.b d one.goes two.goes }
+  -- with a current buffer one is current still, and if all can be written then, all could be before
+  abbrev Leads : Workspace → Workspace → Type 0
+  Leads w v = HasCurrent w → HasCurrent v × (AllWritable v → AllWritable w × AllCome w v)
 
-  -- a quiet action behind a command
-  quietly : (first : Command) (e : Ending) (w u v : Workspace) (r : ActionVerdict) → (e.action ≡ Nothing) ⊎ ((command : Command) × (e.action ≡ Run command 1)) → w.buffers.current < length w.buffers.all
-      → AllWritable v → Done (Run first 1) w (u, Ok tt) → Done e.action u (v, r) → AllCome w v
-  quietly first e w u v r (inl is) there writable did next =
-      let same : v ≡ u = ap (λ (o : ActionOutcome). o.0) (subst (λ a. Done a u (v, r)) is next) in
-      comes_again w u v (runs first 1 w u (Ok tt) there (λ b c. writable b (subst (λ (x : Workspace). Contains x.buffers.all b) (sym same) c)) did) (same_work u v same)
-  quietly first e w u v r (inr (command, is)) there writable did next =
-      let ran : Done (Run command 1) u (v, r) = subst (λ a. Done a u (v, r)) is next in
-      let still : u.buffers.current < length u.buffers.all = current_stays first 1 w u (Ok tt) there did in
-      comes_again w u v (runs first 1 w u (Ok tt) there (writable_before command 1 u v r still writable ran) did) (runs command 1 u v r still writable ran)
-    where
-      current_stays : (command : Command) (n : ℕ) (w v : Workspace) (r : ActionVerdict) → w.buffers.current < length w.buffers.all → Done (Run command n) w (v, r) → v.buffers.current < length v.buffers.all
-      current_stays command n w v r there did =
-          let call = command_call command n w.fill in
-          elim (acted (Ran call (current_state w) w.notes) w v r (run_answer call (current_state w) w.notes) did) [
-            | inl e ↦ subst (λ (x : Workspace). x.buffers.current < length x.buffers.all) (sym e) there
-            | inr t ↦ subst (λ (x : Workspace). x.buffers.current < length x.buffers.all) (sym t.4)
-                (subst (λ k. w.buffers.current < k) (sym (length-set w.buffers.all w.buffers.current (record (workspace_buffer w) { buffer = t.1 }))) there)
-          ]
+  leads_one : (w v : Workspace) → RunsOne w v → Leads w v
+  leads_one w v (inl same) there = (subst HasCurrent (sym same) there, λ writable. (subst AllWritable same writable, same_work w v same))
+  leads_one w v (inr (command, r, did)) there =
+      (current_stays command 1 w v r there did, λ writable. (writable_before command 1 w v r there writable did, runs command 1 w v r there writable did))
+
+  leads_both : (w u v : Workspace) → Leads w u → Leads u v → Leads w v
+  leads_both w u v first second there =
+      let one = first there in
+      let two = second one.0 in
+      (two.0, λ writable. let later = two.1 writable in let earlier = one.1 later.0 in (earlier.0, comes_again w u v earlier.1 later.1))
+
+  led : (w v : Workspace) → HasCurrent w → AllWritable v → Leads w v → AllCome w v
+  led w v there writable leads = let it = leads there in (it.1 writable).1
 
   -- ---- a press
 
   ended : (e : Ending) (old new : Editor) (request : Request) → AreOpen old.work.buffers → AllWritable new.work → Ended e old new request → AllCome old.work new.work
-  ended e old new request are writable (inl t) = acts e.action old.work new.work (Ok tt) are writable t.0
-  ended e old new request are writable (inr t) = acts e.action old.work new.work (Err (Refused t.0)) are writable t.1
+  ended e old new request are writable it = let did = ended_so e old new request it in acts e.action old.work new.work did.0 are writable did.1
 
   follows : (reaction : Reaction) (old new : Editor) (request : Request) → AreOpen old.work.buffers → AllWritable new.work → FollowsReaction reaction old new request → AllCome old.work new.work
   follows (Ends e) old new request are writable it = ended e old new request are writable it
-  follows (Replaces pattern put count) old new request are writable (inl t) =
-      let quiet = searches pattern put (sum count 1) (scene_of t.0.work) t.1 t.4 in
-      elim t.5 [
-        | inl did ↦ quietly (ReplaceOne pattern put) t.1 old.work t.0.work new.work (Ok tt) quiet are.current writable t.2 did.0
-        | inr refuses ↦ quietly (ReplaceOne pattern put) t.1 old.work t.0.work new.work (Err (Refused refuses.0)) quiet are.current writable t.2 refuses.1
-      ]
-  follows (Replaces pattern put count) old new request are writable (inr t) = runs (ReplaceOne pattern put) 1 old.work new.work (Err (Refused t.0)) are.current writable t.1
+  follows (Replaces pattern put count) old new request are writable it =
+      let two = replaces pattern put count old new request it in
+      led old.work new.work are.current writable (leads_both old.work two.0 new.work (leads_one old.work two.0 two.1) (leads_one two.0 new.work two.2))
   follows Accepts old new request are writable it = same_work old.work new.work (ap (λ (e : Editor). e.work) it.0)
 
   pub pressed_on : (byte : ℕ) (old new : Editor) (r : PressAnswer) → AreOpen old.work.buffers → AreOpen new.work.buffers → Pressed byte old new r
-      → (d : OpenState) → Contains new.work.buffers.all d → GoesOn old.work.buffers s d s
-  pressed_on byte old new r are now p d c =
-      let come = behind_a_press (AllCome old.work) byte old new r (same_work old.work old.work refl)
-      (λ reaction request read it. follows reaction (record old { talk = read }) new request are now.writable it) p d c in
-      record { b = come.b; was = come.was; steps = come.steps; goes = here_goes come.steps come.b d come.goes }
+      → (d : OpenState) → Contains new.work.buffers.all d → GoesOn ops old.work.buffers s d s
+  pressed_on byte old new r are now p =
+      come_on old new
+      (behind_a_press (AllCome old.work) byte old new r (same_work old.work old.work refl)
+      (λ reaction request read it. follows reaction (record old { talk = read }) new request are now.writable it) p)
+
+  -- ---- what is taken, and a splice
+
+  takes_at : (i : ℕ) (w v : Workspace) → i < length w.buffers.all → AllWritable v → list_answer (state_at i w).limit (state_at i w).content ops ≡ Ok tt → v ≡ with_operations_at i ops w → AllCome w v
+  takes_at i w v there writable allowed is =
+      one_step w v i (Takes ops) (with_operations ops (state_at i w)) ((λ op c. c), tt) there (ap (λ (u : Workspace). u.buffers.all) is) writable
+      (λ alone. (alone, record { allowed = allowed; follows = record { content = refl; unsaved = refl; rest = refl } }))
+
+  pub taken_on : (i : ℕ) (old new : Editor) → i < length old.work.buffers.all → AreOpen new.work.buffers → list_answer (state_at i old.work).limit (state_at i old.work).content ops ≡ Ok tt
+      → new ≡ taking i ops old → (d : OpenState) → Contains new.work.buffers.all d → GoesOn ops old.work.buffers s d s
+  taken_on i old new there now allowed is = come_on old new (takes_at i old.work new.work there now.writable allowed (ap (λ (e : Editor). e.work) is))
+
+  pub spliced_on : (i : ℕ) (command : Command) (n : ℕ) (old new : Editor) (r : ActionVerdict) → i < length old.work.buffers.all → AreOpen new.work.buffers
+      → RunsAt i command n old.work (new.work, r) → (d : OpenState) → Contains new.work.buffers.all d → GoesOn ops old.work.buffers s d s
+  spliced_on i command n old new r there now did = come_on old new (runs_at i command n old.work new.work r there now.writable did)
+
+  -- ---- a text that is pasted
+
+  pub pasted_on : (put : List ℕ) (old new : Editor) (r : PasteAnswer) → AreOpen old.work.buffers → AreOpen new.work.buffers → Pasted put old new r
+      → (d : OpenState) → Contains new.work.buffers.all d → GoesOn ops old.work.buffers s d s
+  pasted_on put old new r are now p = come_on old new (led old.work new.work are.current now.writable (behind_a_paste Leads leads_one leads_both put old new r p))
+
+-- one operation of others
+pub one_taken_on : (i : ℕ) (op : Op) (taken : Taken) (old new : Editor) (s : Held) → i < length old.work.buffers.all → AreOpen old.work.buffers → AreOpen new.work.buffers
+    → answer (state_at i old.work).limit (state_at i old.work).content op ≡ Ok taken → new ≡ taking i (op ∷ []) old → (d : OpenState) → Contains new.work.buffers.all d → GoesOn (op ∷ []) old.work.buffers s d s
+one_taken_on i op taken old new s there are now answered is =
+    let fits = are.fits (buffer_at i old.work.buffers) (Contains-get_or old.work.buffers.all i no_buffer there) in
+    taken_on (op ∷ []) s i old new there now (one_allowed (state_at i old.work).limit (state_at i old.work).content op taken fits answered) is

@@ -13,7 +13,10 @@ pub mod EachLaws
 pub mod RequestLaws
 pub mod MeetingLaws
 pub mod LoggedLaws
+pub mod PasteCases
+pub mod RequestCases
 pub mod NamesLaws
+pub mod RemovalLaws
 pub mod SweepLaws
 pub mod LiveLaws
 pub mod TypingLaws

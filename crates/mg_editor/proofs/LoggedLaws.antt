@@ -1,6 +1,7 @@
 -- Buffers beside their logs, where steps lead to them or they are opened.
 use Rattle.std.proofs.Common.{◌≡◌, ◌⊎◌, inl, inr, ◌∙◌, ℕ, ◌≤◌, List, sym, ap, subst}
 use Rattle.rga_ops.specs.Content.{IsSound, known_count}
+use Rattle.rga_ops.specs.declared.op.Op.{Op}
 use Rattle.mg_buffer.specs.OpenState.{OpenState, with_brief, with_runs}
 use Rattle.mg_buffer.specs.State.{State}
 use Rattle.mg_files.specs.Files.{Files}
@@ -11,12 +12,12 @@ use Rattle.mg_held.proofs.RunSteps.{after_run}
 use Rattle.mg_workspace.specs.Workspaces.{Workspace}
 use Rattle.mg_editor.specs.Holding.{AreLogged, GoesOn, IsOpenedBy}
 
-pub stays_logged : (name : List ℕ) (w : Workspace) (s t : Held) (d : OpenState) → AreLogged w.buffers s → GoesOn w.buffers s d t ⊎ IsOpenedBy name w s d t → IsBuffer d → IsLoggedBy d (t d.buffer.name).log
-stays_logged name w s t d are (inl g) is =
+pub stays_logged : (ops : List Op) (name : List ℕ) (w : Workspace) (s t : Held) (d : OpenState) → AreLogged w.buffers s → GoesOn ops w.buffers s d t ⊎ IsOpenedBy name w s d t → IsBuffer d → IsLoggedBy d (t d.buffer.name).log
+stays_logged ops name w s t d are (inl g) is =
     let l = are g.b g.was in
     let more = after_run g.steps l.held g.b d s t l.logged g.goes in
     record { held = more.now; logged = more.logged }
-stays_logged name w s t d are (inr o) is =
+stays_logged ops name w s t d are (inr o) is =
     let same : d.buffer ≡ o.loaded.buffer = ap (λ (x : OpenState). x.buffer) o.is in
     let buffer : IsBuffer o.loaded = record {
       sound = subst (λ (b : State). IsSound b.content) same is.sound;

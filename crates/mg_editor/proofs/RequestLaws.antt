@@ -34,7 +34,7 @@ use Rattle.mg_editor.proofs.EachLaws.{all_go, stay_here, nothing_made}
 -- ---- a buffer that is asked for
 
 abbrev Open : List ℕ → Editor → OpenState → Held → Held → Type 0
-Open name old d s t = GoesOn old.work.buffers s d t ⊎ IsOpenedBy name old.work s d t
+Open name old d s t = GoesOn [] old.work.buffers s d t ⊎ IsOpenedBy name old.work s d t
 
 nothing_opened : (at : Option ℕ) (old now : Editor) → unopened at old ≡ Some now → now.work.buffers.all ≡ old.work.buffers.all
 nothing_opened (Some i) old now is = ap (λ (e : Editor). e.work.buffers.all) (sym (same_Some _ _ is))
@@ -89,14 +89,14 @@ opens name before made s t r old v (inr (Ok found, adds, (is, answer))) leads d 
 
 pub request_goes : (carried : Request) (before made : List Call) (old new : Editor) (r : CarryAnswer) (s t : Held) → role_of carried ≡ None → AreOpen old.work.buffers → HaveOwnNames old.work.buffers
     → Carried carried (Some before) (Some (before ++ made)) old new r → MayLead made s t → (d : OpenState) → Contains new.work.buffers.all d
-    → GoesOn old.work.buffers s d t ⊎ ((name : List ℕ) × (carried ≡ request.Find name) × IsOpenedBy (encode_utf8_all name) old.work s d t)
+    → GoesOn [] old.work.buffers s d t ⊎ ((name : List ℕ) × (carried ≡ request.Find name) × IsOpenedBy (encode_utf8_all name) old.work s d t)
 request_goes request.Idle before made old new r s t alone are own (more, is, answer) leads d c =
     inl (stay_here old.work.buffers new.work.buffers.all s t (ap (λ (e : Editor). e.work.buffers.all) is) (nothing_made before made s t more leads) d c)
 request_goes request.Quit before made old new r s t alone are own (more, is, answer) leads d c =
     inl (stay_here old.work.buffers new.work.buffers.all s t (ap (λ (e : Editor). e.work.buffers.all) is) (nothing_made before made s t more leads) d c)
 request_goes request.Save before made old new r s t alone are own h leads d c =
     let after = h.became.0 in
-    inl (all_go before made s t old.work.buffers after new.work.buffers.all are.current own (ap (λ (w : Workspace). w.buffers.all) h.became.1)
+    inl (all_go [] before made s t old.work.buffers after new.work.buffers.all are.current own (ap (λ (w : Workspace). w.buffers.all) h.became.1)
     (save_goes h.came before (Some before) (Some (before ++ made)) (workspace_buffer old.work) after refl h.became.2) leads d c)
 request_goes (request.Find name) before made old new r s t alone are own h leads d c =
     by (unopened (buffer_named name old.work.buffers.all) old) refl h
@@ -104,7 +104,7 @@ request_goes (request.Find name) before made old new r s t alone are own h leads
     by : (o : Option Editor) → unopened (buffer_named name old.work.buffers.all) old ≡ o → elim o as (λ _. Type 0) [
       | None ↦ TellsOutcome (Loads (encode_utf8_all name) (Some before) (Some (before ++ made))) opening_outcome old new r
       | Some now ↦ (Some (before ++ made) ≡ Some before) × (new ≡ now) × (r ≡ Ok tt)
-    ] → GoesOn old.work.buffers s d t ⊎ ((other : List ℕ) × (request.Find name ≡ request.Find other) × IsOpenedBy (encode_utf8_all other) old.work s d t)
+    ] → GoesOn [] old.work.buffers s d t ⊎ ((other : List ℕ) × (request.Find name ≡ request.Find other) × IsOpenedBy (encode_utf8_all other) old.work s d t)
     by None e told = elim (opens (encode_utf8_all name) before made s t told.came old new.work told.became leads d c) [
       | inl goes ↦ inl goes
       | inr opened ↦ inr (name, refl, opened)

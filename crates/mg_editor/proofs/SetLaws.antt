@@ -41,3 +41,17 @@ module _ {X : Type 0} where
     | inl front ↦ subst (λ l. Contains l x) (take-append-drop i xs) (Contains-append_left (take i xs) (drop i xs) x front)
     | inr back ↦ subst (λ l. Contains l x) (take-append-drop (suc i) xs) (Contains-append_right (take (suc i) xs) (drop (suc i) xs) x back)
   ]
+
+  -- and so is what is not removed
+  pub still_or_gone : (xs : List X) (i : ℕ) (x d : X) → Contains xs x → Contains (remove xs i) x ⊎ (x ≡ get_or xs i d)
+  still_or_gone xs i x d c = by xs i c.0 c.1 c.2
+    where
+      by : (xs : List X) (i k : ℕ) → k < length xs → get_or xs k x ≡ x → Contains (remove xs i) x ⊎ (x ≡ get_or xs i d)
+      by [] i k lt e = absurd (omega (arith, lt))
+      by (z ∷ xs) zero zero lt e = inr (sym e)
+      by (z ∷ xs) zero (suc k) lt e = inl (k, omega (arith, lt), e)
+      by (z ∷ xs) (suc i) zero lt e = inl (zero, omega arith, e)
+      by (z ∷ xs) (suc i) (suc k) lt e = elim (by xs i k (omega (arith, lt)) e) [
+        | inl o ↦ inl (suc o.0, omega (arith, o.1), o.2)
+        | inr is ↦ inr is
+      ]

@@ -1,4 +1,4 @@
--- Characters that are typed at a prompt: nothing is requested, and a prompt that takes text is takes still.
+-- Characters that are typed at a prompt: nothing is requested, the prompt takes text still, and no more than one command runs.
 use Rattle.std.proofs.Common.{◌≡◌, ◌⊎◌, inl, inr, ◌∙◌, ℕ, suc, ◌+◌, ◌<◌, Bool, true, false, List, [], ◌∷◌, ◌++◌, length, get_or, drop, is_some, ◌≤◌, Option, Some, None, Ok, Err, refl, sym, ap, subst, true≢false, drop-cons, arith}
 use Rattle.std.specs.Prelude.{nat_lt, if◌then◌else◌}
 use Rattle.std.proofs.lemmas.List.{drop_all}
@@ -26,37 +26,44 @@ use Rattle.mg_editor.specs.Pasting.{PasteAnswer, PastedAt, Inserts, IsBusy, Type
 use Rattle.mg_editor.specs.Presses.{Ended, FollowsReaction, StepTaken, editor_reaction}
 use Rattle.mg_editor.specs.declared.fault.Fault.TheVariants as fault
 use Rattle.mg_editor.specs.declared.pasting.PasteFault.TheVariants.{Memory}
+use Rattle.mg_editor.proofs.ActionCases.{IsQuiet, RunsOne, ended_so, quiet_runs}
 
 -- ---- one character
 
-abbrev Stays : Editor → Request → Type 0
-Stays new request = (request ≡ Idle) × (takes_text new.talk.prompt ≡ true)
+abbrev Stays : Editor → Editor → Request → Type 0
+Stays old new request = (request ≡ Idle) × (takes_text new.talk.prompt ≡ true) × RunsOne old.work new.work
 
-stays : (e : Ending) (old new : Editor) (request : Request) → e.request ≡ Idle → takes_text (prompt_after e.next old.talk.prompt) ≡ true → takes_text (prompt_after e.refused old.talk.prompt) ≡ true
-    → Ended e old new request → Stays new request
-stays e old new request idle ready still (inl t) = (t.2 ∙ idle, ap (λ (d : Dialogue). takes_text d.prompt) t.1 ∙ ready)
-stays e old new request idle ready still (inr t) = (t.3, ap (λ (d : Dialogue). takes_text d.prompt) t.2 ∙ still)
+stays : (e : Ending) (old new : Editor) (request : Request) → IsQuiet e → e.request ≡ Idle → takes_text (prompt_after e.next old.talk.prompt) ≡ true → takes_text (prompt_after e.refused old.talk.prompt) ≡ true
+    → Ended e old new request → Stays old new request
+stays e old new request quiet idle ready still it =
+    let talked = by it in
+    let did = ended_so e old new request it in
+    (talked.0, talked.1, quiet_runs e old.work new.work did.0 quiet did.1)
+  where
+    by : Ended e old new request → (request ≡ Idle) × (takes_text new.talk.prompt ≡ true)
+    by (inl t) = (t.2 ∙ idle, ap (λ (d : Dialogue). takes_text d.prompt) t.1 ∙ ready)
+    by (inr t) = (t.3, ap (λ (d : Dialogue). takes_text d.prompt) t.2 ∙ still)
 
 searches : (s : Search) (more : Bool) (found : Option (ℕ × ℕ)) (old new : Editor) (request : Request) → takes_text old.talk.prompt ≡ true
-    → FollowsReaction (if more then elim found [ Some (i, m) ↦ goes_to s i m | None ↦ failed Same ] else shows Same message.Nothing) old new request → Stays new request
-searches s true (Some (i, m)) old new request takes it = stays (ending_of (Run (command s i) 1) (Open (Searching (with_match s m))) message.Nothing) old new request refl refl takes it
-searches s true None old new request takes it = stays (ending_of Nothing Same (message.Refused SearchFailed)) old new request refl takes takes it
-searches s false found old new request takes it = stays (ending_of Nothing Same message.Nothing) old new request refl takes takes it
+    → FollowsReaction (if more then elim found [ Some (i, m) ↦ goes_to s i m | None ↦ failed Same ] else shows Same message.Nothing) old new request → Stays old new request
+searches s true (Some (i, m)) old new request takes it = stays (ending_of (Run (command s i) 1) (Open (Searching (with_match s m))) message.Nothing) old new request (inr (command s i, refl)) refl refl takes it
+searches s true None old new request takes it = stays (ending_of Nothing Same (message.Refused SearchFailed)) old new request (inl refl) refl takes takes it
+searches s false found old new request takes it = stays (ending_of Nothing Same message.Nothing) old new request (inl refl) refl takes takes it
 
 at_prompt : (c : ℕ) (p : Prompt) (scene : Scene) (last : List ℕ) (old new : Editor) (request : Request) → takes_text (Some p) ≡ true → takes_text old.talk.prompt ≡ true
-    → FollowsReaction (prompt_step p (Text c) scene last) old new request → Stays new request
-at_prompt c (Line asked answer) scene last old new request is takes it = stays (ending_of Nothing (Open (Line asked (typed answer c))) message.Nothing) old new request refl refl takes it
-at_prompt c (Replacement pattern answer) scene last old new request is takes it = stays (ending_of Nothing (Open (Replacement pattern (typed answer c))) message.Nothing) old new request refl refl takes it
+    → FollowsReaction (prompt_step p (Text c) scene last) old new request → Stays old new request
+at_prompt c (Line asked answer) scene last old new request is takes it = stays (ending_of Nothing (Open (Line asked (typed answer c))) message.Nothing) old new request (inl refl) refl refl takes it
+at_prompt c (Replacement pattern answer) scene last old new request is takes it = stays (ending_of Nothing (Open (Replacement pattern (typed answer c))) message.Nothing) old new request (inl refl) refl refl takes it
 at_prompt c (Searching s) scene last old new request is takes it =
     let longer : Search = with_pattern s (s.pattern ++ c ∷ []) in
     searches longer (nat_lt (length s.pattern) longest_answer) (sought scene.text longer (from_match s)) old new request takes it
 at_prompt c (Replacing pattern put count) scene last old new request is takes it = absurd (true≢false (sym is))
 at_prompt c Quitting scene last old new request is takes it = absurd (true≢false (sym is))
 
-pub typed_one : (c : ℕ) (old new : Editor) (request : Request) → takes_text old.talk.prompt ≡ true → FollowsReaction (editor_reaction (Text c) old) old new request → Stays new request
+pub typed_one : (c : ℕ) (old new : Editor) (request : Request) → takes_text old.talk.prompt ≡ true → FollowsReaction (editor_reaction (Text c) old) old new request → Stays old new request
 typed_one c old new request takes it = by old.talk.prompt takes it
   where
-    by : (p : Option Prompt) → takes_text p ≡ true → FollowsReaction (editor_reaction (Text c) (record old { talk = record old.talk { prompt = p } })) old new request → Stays new request
+    by : (p : Option Prompt) → takes_text p ≡ true → FollowsReaction (editor_reaction (Text c) (record old { talk = record old.talk { prompt = p } })) old new request → Stays old new request
     by None is it = absurd (true≢false (sym is))
     by (Some p) is it = at_prompt c p (scene_of old.work) old.talk.last old new request is takes it
 

@@ -2,6 +2,7 @@
 use Rattle.std.specs.Prelude.{◌≡◌, ◌<◌, ◌≤◌, ℕ, true, List, length, Ok}
 use Rattle.std.specs.List.{Contains}
 use Rattle.rga_ops.specs.Content.{known_count}
+use Rattle.rga_ops.specs.declared.op.Op.{Op}
 use Rattle.rga_exchange.specs.declared.log.LogEnd.{LogEnd}
 use Rattle.mg_buffer.specs.Groups.{are_revertible}
 use Rattle.mg_buffer.specs.OpenState.{OpenState, with_brief, with_runs}
@@ -9,7 +10,7 @@ use Rattle.mg_files.specs.Files.{Files}
 use Rattle.mg_files.specs.Loading.{load_outcome}
 use Rattle.mg_held.specs.Held.{Held, AnswersLoad}
 use Rattle.mg_held.specs.Kept.{IsWritableWhole, IsLoggedBy}
-use Rattle.mg_held.specs.Run.{BufferStep, MayGo}
+use Rattle.mg_held.specs.Run.{BufferStep, MayGo, TakesOnly}
 use Rattle.mg_workspace.specs.Buffers.{Buffers, buffer_at}
 use Rattle.mg_workspace.specs.Workspaces.{Workspace}
 
@@ -26,11 +27,17 @@ abbrev pub HaveOwnNames : Buffers → Type 0
 HaveOwnNames bs =
     (i j : ℕ) → i < length bs.all → j < length bs.all → (buffer_at i bs).buffer.name ≡ (buffer_at j bs).buffer.name → i ≡ j
 
--- The buffer d was open before, and steps lead from it and from what was held to d and what is held.
-pub record GoesOn (before : Buffers) (s : Held) (d : OpenState) (t : Held) : Type 0 where
+-- a buffer of that name is open
+abbrev pub IsOpen : List ℕ → Buffers → Type 0
+IsOpen name bs = (d : OpenState) × Contains bs.all d × (d.buffer.name ≡ name)
+
+-- The buffer d was open before, and steps lead from it and from what was held to d and what is held. What they take of
+-- others is among those operations.
+pub record GoesOn (ops : List Op) (before : Buffers) (s : Held) (d : OpenState) (t : Held) : Type 0 where
   pub b : OpenState
   pub was : Contains before.all b
   pub steps : List BufferStep
+  pub takes : TakesOnly ops steps
   pub goes : MayGo steps b s d t
 
 -- It was opened by what a load of that name answered of what was held, which is held still.

@@ -13,11 +13,12 @@
 //! makes of a port, and what that leaves; on the theorems of `laws`; and on those of `held`, which
 //! tie presses and requests to the steps of mg_held. `log_made` and `save_touched` write, of each
 //! buffer in turn, what a live session made: `Sweeps` says what that leaves, and `live_laws` what
-//! stays. `frame` shows the editor's own windows. Any open buffer takes operations of others, and splices that are undo groups: `taking` and
-//! `with_changed` say what that leaves, and where an open search goes then. A text that is pasted
-//! is one command, or is typed at the open prompt: `Pasted`. `live_frame` shows the windows so that
-//! point is in sight, with the cells of elements beside: `live_rows`, `live_cursor`, `place_cells`.
-//! What a status of a live session says of the editor, `specs/LiveStatus.antt` has.
+//! stays. `frame` shows the editor's own windows. Any open buffer takes operations of others, and
+//! splices that are undo groups: `taking` and `with_changed` say what that leaves, and where an open
+//! search goes then. A text that is pasted is one command, or is typed at the open prompt: `Pasted`.
+//! `live_frame` shows the windows so that point is in sight, with the cells of elements beside:
+//! `live_rows`, `live_cursor`, `place_cells`. What a status of a live session says of the editor,
+//! `specs/LiveStatus.antt` has.
 #![tactic(auto)]
 
 mod carrying;

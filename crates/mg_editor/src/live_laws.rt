@@ -1,6 +1,6 @@
 //! Theorems about what a live session writes. Each function does nothing: its contract is the
 //! theorem.
-ghost use Rattle.std.specs.Prelude.{◌≡◌, ◌⊎◌, ◌++◌, ℕ, Bool, List, Option, Result, Some, true, false, length, slice_get};
+ghost use Rattle.std.specs.Prelude.{◌≡◌, ◌⊎◌, ◌++◌, ℕ, Bool, List, [], Option, Result, Some, true, false, length, slice_get};
 ghost use Rattle.std.specs.List.{Contains};
 ghost use Rattle.mg_buffer.specs.OpenState.{OpenState};
 ghost use Rattle.mg_files.specs.Calls.{Call};
@@ -56,7 +56,7 @@ pub fn a_sweep_takes_steps_of_buffers()
         (ds : List OpenState) (old new : Course) (s t : Held) → AreOpen bs → HaveOwnNames bs →
         old.calls ≡ Some before → new.calls ≡ Some (before ++ made) →
         Sweeps writing 0 bs.all ds old new → MayLead made s t →
-        (d : OpenState) → Contains ds d → GoesOn bs s d t }
+        (d : OpenState) → Contains ds d → GoesOn [] bs s d t }
     ensures names { (writing : Writing) (bs : Buffers) (ds : List OpenState) (old new : Course) →
         HaveOwnNames bs → Sweeps writing 0 bs.all ds old new →
         HaveOwnNames (record bs { all = ds }) }

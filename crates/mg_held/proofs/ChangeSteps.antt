@@ -117,16 +117,21 @@ stored_well : (v : Verdict) → stored v ≡ Ok tt → v ≡ Ok tt
 stored_well (Ok u) h = refl
 stored_well (Err e) h = absurd (let clash : ill (Store e) ≡ well = h in cc)
 
-pub undid_joins : (b : State) (old : Notes) (d : State) (new : Notes) (u : UndoesOne b old d new) → Joins b d (undo_operations b u.undid.group)
-undid_joins b old d new u =
+-- what is reverted may be
+pub undo_allowed : (b : State) (old : Notes) (d : State) (new : Notes) (u : UndoesOne b old d new) → revert_answer b.limit b.content u.undid.group.deleted ≡ Ok tt
+undo_allowed b old d new u =
     let g : Past = u.undid.group in
     let at : slice_get b.groups u.undid.index ≡ Some g = last_at b.groups (unwrap_or b.undone (length b.groups)) u.undid.index g u.undid.due in
     let fits : growth_answer b (length g.deleted) ≡ Ok tt = stored_well (growth_answer b (length g.deleted)) (rw (u.undid.due, undo_answer) at u.allowed) in
     let restorable : are_restorable b.content g.deleted ≡ true =
     ap (λ (x : Past). are_restorable b.content x.deleted) (sym (get_or_from_slice_get b.groups u.undid.index g _ at)) ∙ past_restorable b.content b.groups u.undid.index u.revertible in
-    let allowed : revert_answer b.limit b.content g.deleted ≡ Ok tt = ap (λ t. edit_answer b.limit b.content t (length g.deleted)) restorable ∙ fits in
+    ap (λ t. edit_answer b.limit b.content t (length g.deleted)) restorable ∙ fits
+
+pub undid_joins : (b : State) (old : Notes) (d : State) (new : Notes) (u : UndoesOne b old d new) → Joins b d (undo_operations b u.undid.group)
+undid_joins b old d new u =
+    let g : Past = u.undid.group in
     let r = u.undid.reverted in
-    joined b d (undo_operations b g) r.name r.content r.unsaved r.limit (revert_taken b.limit b.replica b.content g.inserted g.deleted allowed)
+    joined b d (undo_operations b g) r.name r.content r.unsaved r.limit (revert_taken b.limit b.replica b.content g.inserted g.deleted (undo_allowed b old d new u))
 
 -- ---- operations of others
 

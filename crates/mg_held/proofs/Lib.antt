@@ -6,3 +6,15 @@ pub mod RunSteps
 pub mod OpenSteps
 pub mod TextSteps
 pub mod ChangeSteps
+pub mod JoinSteps
+pub mod OwnSteps
+pub mod WorldSteps
+pub mod EditEvents
+pub mod RevertEvents
+pub mod TakeEvents
+pub mod OpenEvents
+pub mod WriterSteps
+pub mod ActSteps
+pub mod FreshSteps
+pub mod SharedSteps
+pub mod GoodSteps

@@ -116,13 +116,13 @@ failed e = Err e
 abbrev Opening : Type 0
 Opening = Result (Unit {0}) LoadFault
 
-record IsOpenedBy (name : List ℕ) (replica limit : ℕ) (found : Files) (b : OpenState) : Type 0 where
-  loaded : Loaded
-  opening : opening_answer replica limit ≡ Ok tt
-  files : files_loaded replica limit found ≡ Ok loaded
-  is : b ≡ opened name replica limit loaded
+pub record IsOpenedBy (name : List ℕ) (replica limit : ℕ) (found : Files) (b : OpenState) : Type 0 where
+  pub loaded : Loaded
+  pub opening : opening_answer replica limit ≡ Ok tt
+  pub files : files_loaded replica limit found ≡ Ok loaded
+  pub is : b ≡ opened name replica limit loaded
 
-opened_by : (name : List ℕ) (replica limit : ℕ) (found : Files) (b : OpenState) (end : LogEnd) → load_outcome name replica limit found ≡ Ok (b, end) → IsOpenedBy name replica limit found b
+pub opened_by : (name : List ℕ) (replica limit : ℕ) (found : Files) (b : OpenState) (end : LogEnd) → load_outcome name replica limit found ≡ Ok (b, end) → IsOpenedBy name replica limit found b
 opened_by name replica limit found b end h = by (opening_answer replica limit) (files_loaded replica limit found) refl refl h
   where
     first : Outcome → OpenState
@@ -138,16 +138,16 @@ opened_by name replica limit found b end h = by (opening_answer replica limit) (
 pub opened_name : (name : List ℕ) (replica limit : ℕ) (found : Files) (b : OpenState) (end : LogEnd) → load_outcome name replica limit found ≡ Ok (b, end) → b.buffer.name ≡ name
 opened_name name replica limit found b end h = ap (λ (x : OpenState). x.buffer.name) (opened_by name replica limit found b end h).is
 
-abbrev Answer : Type 0
+abbrev pub Answer : Type 0
 Answer = Result Loaded LoadFault
 
-abbrev good : Loaded → Answer
+abbrev pub good : Loaded → Answer
 good l = Ok l
 
-abbrev bad : LoadFault → Answer
+abbrev pub bad : LoadFault → Answer
 bad e = Err e
 
-same_loaded : (x y : Loaded) → good x ≡ good y → x ≡ y
+pub same_loaded : (x y : Loaded) → good x ≡ good y → x ≡ y
 same_loaded x y h = cc
 
 abbrev Buffered : (name : List ℕ) (replica limit : ℕ) → Loaded → Type 0
@@ -169,10 +169,10 @@ log_read name replica limit bytes l h is = by (log_outcome limit nothing bytes) 
         (record { held = d; logged = log_opened name replica limit d read bytes p none_known here.sound here.writable here.fits })
     by (d, Err e) p g = absurd (let clash : bad (Log (receive_fault e)) ≡ good l = g in cc)
 
-abbrev full : Verdict
+abbrev pub full : Verdict
 full = Err Full
 
-abbrev fine : Verdict
+abbrev pub fine : Verdict
 fine = Ok tt
 
 -- a text that was read

@@ -1,8 +1,9 @@
 -- A buffer and what is held, through saves and changes.
-use Rattle.std.specs.Prelude.{◌≡◌, Bool, true, List, [], ◌∷◌, ◌++◌, Some, Result, Ok}
+use Rattle.std.specs.Prelude.{◌≡◌, ◌⊎◌, ℕ, Bool, true, List, [], ◌∷◌, ◌++◌, Contains, Some, Result, Ok}
 use Rattle.rga_ops.specs.Content.{Content, IsWithin}
 use Rattle.rga_ops.specs.ListAnswer.{list_answer}
 use Rattle.rga_ops.specs.declared.op.Op.{Op}
+use Rattle.rga_ops.specs.declared.op.Op.TheVariants.{Insert, Delete}
 use Rattle.mg_buffer.specs.Faults.{undo_answer}
 use Rattle.mg_buffer.specs.Following.{TakesOperations}
 use Rattle.mg_buffer.specs.Groups.{are_revertible}
@@ -33,12 +34,13 @@ pub record ChangesAlone (b d : OpenState) (s t : Held) : Type 0 where
   pub writable : IsWritableWhole d.buffer.content
   pub held : t b.buffer.name ≡ s b.buffer.name
 
--- the same name, operations and limit
+-- the same name, operations, limit and replica
 pub record KeepsOperations (b d : State) : Type 0 where
   pub name : d.name ≡ b.name
   pub content : d.content ≡ b.content
   pub unsaved : d.unsaved ≡ b.unsaved
   pub limit : d.limit ≡ b.limit
+  pub replica : d.replica ≡ b.replica
 
 -- An undo that was not refused. Each group can be reverted, as the type of buffers keeps.
 pub record UndoesOne (b : State) (old : Notes) (d : State) (new : Notes) : Type 0 where
@@ -68,6 +70,32 @@ MayStep Rests b s d t = ChangesAlone b d s t × KeepsOperations b.buffer d.buffe
 abbrev pub MayGo : List BufferStep → OpenState → Held → OpenState → Held → Type 0
 MayGo [] b s d t = (d ≡ b) × (t b.buffer.name ≡ s b.buffer.name)
 MayGo (step ∷ steps) b s d t = (c : OpenState) × (u : Held) × MayStep step b s c u × MayGo steps c u d t
+
+-- ---- the operations of steps
+
+-- each operation that one of the steps takes is one of these
+abbrev pub TakesOnly : List Op → List BufferStep → Type 0
+TakesOnly ops [] = Unit {0}
+TakesOnly ops (Saves answer ∷ steps) = TakesOnly ops steps
+TakesOnly ops (Runs call old new ∷ steps) = TakesOnly ops steps
+TakesOnly ops (Undoes old new ∷ steps) = TakesOnly ops steps
+TakesOnly ops (Takes taken ∷ steps) = ((op : Op) → Contains taken op → Contains ops op) × TakesOnly ops steps
+TakesOnly ops (Rests ∷ steps) = TakesOnly ops steps
+
+-- What a step joins to the content: what a command or an undo made is unsaved then; a save and a rest join nothing.
+abbrev pub StepOperations : BufferStep → OpenState → OpenState → List Op → Type 0
+StepOperations (Saves answer) b d ops = ops ≡ []
+StepOperations (Runs call old new) b d ops = d.buffer.unsaved ≡ b.buffer.unsaved ++ ops
+StepOperations (Undoes old new) b d ops = d.buffer.unsaved ≡ b.buffer.unsaved ++ ops
+StepOperations (Takes taken) b d ops = ops ≡ taken
+StepOperations Rests b d ops = ops ≡ []
+
+-- what was inserted is of the replica's own making or was taken; a deletion may be either
+abbrev pub IsMadeOrTaken : ℕ → List Op → Op → Type 0
+IsMadeOrTaken replica taken (Insert id parent ch) = (id.replica ≡ replica) ⊎ Contains taken (Insert id parent ch)
+IsMadeOrTaken replica taken (Delete id) = Unit {0}
+
+-- ---- what is held after them
 
 -- the log stands for all of what was held before, and more, if anything
 pub record HoldsMore (held : Content) (d : OpenState) (t : Held) : Type 0 where

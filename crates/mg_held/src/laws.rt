@@ -1,7 +1,8 @@
 //! Theorems about what is held. The first is of a buffer that there is; each other function does
 //! nothing: its contract is the theorem.
-ghost use Rattle.std.specs.Prelude.{◌≡◌, ◌⊎◌, ◌≤◌, ℕ, true, Bool, List, Some, None, Result, Ok};
-ghost use Rattle.rga_ops.specs.Content.{Content, IsSound, known_count};
+ghost use Rattle.std.specs.Prelude.{◌≡◌, ◌⊎◌, ◌≤◌, ℕ, true, Bool, List, Contains, Some, None, Result, Ok};
+ghost use Rattle.rga_ops.specs.Content.{Content, IsSound, known_count, join, content_of};
+ghost use Rattle.rga_ops.specs.declared.op.Op.{Op};
 ghost use Rattle.rga_exchange.specs.declared.log.LogEnd.{LogEnd};
 ghost use Rattle.mg_files.specs.Calls.{refusals, found_call};
 ghost use Rattle.mg_files.specs.Files.{Files, text_bytes};
@@ -11,7 +12,7 @@ ghost use Rattle.mg_files.specs.Saving.{written, saved, save_calls, log_call};
 ghost use Rattle.mg_files.specs.declared.port.PortFault.{PortFault};
 ghost use Rattle.mg_held.specs.Held.{Held, AnswersLoad, MayLeave, MayLead};
 ghost use Rattle.mg_held.specs.Kept.{IsThere, IsBuffer, IsLogged, IsLoggedBy, OpensSaved};
-ghost use Rattle.mg_held.specs.Run.{BufferStep, SavesOnce, MayStep, MayGo, HoldsMore};
+ghost use Rattle.mg_held.specs.Run.{BufferStep, TakesOnly, StepOperations, IsMadeOrTaken, SavesOnce, MayStep, MayGo, HoldsMore};
 
 use mg_buffer::VisitedBuffer;
 use rga_store::TextStore;
@@ -69,6 +70,23 @@ pub fn a_save_loses_nothing()
 pub fn what_is_held_stays_held()
     ensures { (step : BufferStep) (held : Content) (b d : OpenState) (s t : Held)
         → IsLogged held b (s b.buffer.name).log → MayStep step b s d t → HoldsMore held d t }
+{}
+
+/// A step joins operations to what the buffer holds: those that it takes, or those that a command or
+/// an undo makes, which then are unsaved. A save joins none, nor does what leaves the operations.
+pub fn a_step_joins_operations()
+    ensures { (step : BufferStep) (b d : OpenState) (s t : Held) → MayStep step b s d t
+        → (ops : List Op) × (d.buffer.content ≡ join b.buffer.content (content_of ops))
+        × StepOperations step b d ops }
+{}
+
+/// So do steps in a row. What they insert was made under the number of the buffer's replica, or was
+/// taken.
+pub fn steps_join_operations()
+    ensures { (steps : List BufferStep) (taken : List Op) (b d : OpenState) (s t : Held)
+        → MayGo steps b s d t → TakesOnly taken steps
+        → (ops : List Op) × (d.buffer.content ≡ join b.buffer.content (content_of ops))
+        × ((op : Op) → Contains ops op → IsMadeOrTaken b.buffer.replica taken op) }
 {}
 
 /// Through any list of steps, what was held once is held ever after.
