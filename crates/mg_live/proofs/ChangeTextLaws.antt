@@ -1,13 +1,14 @@
 -- A change makes the text.
 use Rattle.std.proofs.Common.{◌≡◌, ◌≤◌, ◌+◌, ◌-◌, ℕ, suc, Bool, true, false, List, [], ◌∷◌, ◌++◌, length, take, drop, reverse, nat_eq, if◌then◌else◌, arith, refl, ap, sym, subst, ◌∙◌, true≢false}
-use Rattle.std.specs.Prelude.{Some, None, slice_range}
+use Rattle.std.specs.Prelude.{Option, Some, None, slice_range}
 use Rattle.std.proofs.Math.Seq.{drop-append_seam}
 use Rattle.std.proofs.lemmas.Bool.{eq-eqb, eqb-true}
 use Rattle.std.proofs.lemmas.List.{append_assoc, reverse-reverse, reverse-append, length-reverse, length-drop, length-take, take-append-drop, drop-drop, nil_from_length}
 use Rattle.std.proofs.lemmas.List.Folds.{drop_split}
 use Rattle.std.proofs.lemmas.Option.{none-some, same_Some}
 use Rattle.rga_ops.specs.Splice.{Splice, spliced}
-use Rattle.mg_live.specs.Changes.{common_front, common_end, splice_between, change_between}
+use Rattle.rga_devices.specs.Counting.{one_more}
+use Rattle.mg_live.specs.Changes.{Changes, common_front, common_end, splice_between, change_between, noted}
 
 -- ---- what two texts have in common
 
@@ -43,7 +44,7 @@ front_in_new (x ∷ xs) (y ∷ ys) =
     let step = bound_step (nat_eq x y) (common_front xs ys) (length ys) (front_in_new xs ys) in
     omega (arith, step, length_more y ys)
 
-tail_reversed : (xs : List ℕ) (n : ℕ) → drop (length xs - n) xs ≡ reverse (take n (reverse xs))
+pub tail_reversed : (xs : List ℕ) (n : ℕ) → drop (length xs - n) xs ≡ reverse (take n (reverse xs))
 tail_reversed xs n =
     let front = reverse (drop n (reverse xs)) in
     let back = reverse (take n (reverse xs)) in
@@ -148,3 +149,10 @@ no_change_of_itself text =
     let nothing : length (put text text) ≡ 0 =
     omega (arith, length-take (length text - same text text - n) (drop n text), length-drop n text, whole) in
     left_out_if (nat_eq t.lo t.hi) (nat_eq (length t.put) 0) t (eq-eqb t.lo t.hi at) (eq-eqb (length t.put) 0 nothing)
+
+-- ---- a change that is noted
+
+pub noted_change : (text : List ℕ) (c : Changes) (s : Splice) → change_between c.text text ≡ Some s
+    → noted text c ≡ record { text = text; count = one_more c.count; list = c.list ++ s ∷ [] }
+noted_change text c s is =
+    ap (λ (o : Option Splice). elim o [ None ↦ c | Some t ↦ record { text = text; count = one_more c.count; list = c.list ++ t ∷ [] } ]) is

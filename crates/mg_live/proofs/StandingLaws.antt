@@ -223,10 +223,10 @@ module _ (keys rest old : Calls Known) where
       let f : IsFine keys rest old a.screen = stands_fine a.course a.screen can s in
       subst (StandsAt keys rest old) (sym same) f
 
-  writes_stand : (writing : Option Writing) (failures faults : ℕ) (a b : Moment) → StandsAt keys rest old a → Writes writing failures faults a b
+  writes_stand : (writing : Option Writing) (a b : Moment) → StandsAt keys rest old a → Writes writing a b
       → StandsAt keys rest old b
-  writes_stand None failures faults a b s (same, counts) = subst (StandsAt keys rest old) (sym same) s
-  writes_stand (Some writing) failures faults a b s (swept, same) =
+  writes_stand None a b s same = subst (StandsAt keys rest old) (sym same) s
+  writes_stand (Some writing) a b s (swept, same) =
       same_standing a b (ap (λ (m : Moment). m.course) same) (ap (λ (m : Moment). m.screen) same) s
 
   tells_stand : (fresh : Bool) (a b : Moment) → can_show a.course ≡ true → StandsAt keys rest old a → Tells fresh a b → StandsAt keys rest old b
@@ -237,7 +237,7 @@ module _ (keys rest old : Calls Known) where
   end_stands {a} {b} s e =
       let shown : StandsAt keys rest old e.shown =
       after_step (StandsAt keys rest old) (Shows true (has_more a.live a.editor) []) (can_show a.course) a e.shown s (λ can. shows_stand can s) e.shows in
-      let written : StandsAt keys rest old e.written = writes_stand (writing_due a.live a.editor) e.failed e.faults _ e.written shown e.writes in
+      let written : StandsAt keys rest old e.written = writes_stand (writing_due a.live a.editor) _ e.written shown e.writes in
       let fresh = saves_due a.live a.editor in
       let more = has_more a.live a.editor in
       let told : StandsAt keys rest old e.told =

@@ -25,9 +25,9 @@ is_off course off = refl
 
 -- ---- events
 
-pub noted_so : {e f : Editor} {calls : ToldCalls} {screen : Calls Known} (before : Course) (live : Live) {after : Course} {next : Live}
-    → NotesChanges e before live next after → f ≡ e → Noted (moment e calls screen before live) (moment f calls screen after next)
-noted_so {e} {f} {calls} {screen} before live {after} {next} notes same = (notes, λ k. moment (same k) calls screen after next)
+pub noted_so : {e f : Editor} {calls : ToldCalls} {faults : ℕ} {screen : Calls Known} (before : Course) (live : Live) {after : Course} {next : Live}
+    → NotesChanges e before live next after → f ≡ e → Noted (moment e calls faults screen before live) (moment f calls faults screen after next)
+noted_so {e} {f} {calls} {faults} {screen} before live {after} {next} notes same = (notes, λ k. moment (same k) calls faults screen after next)
 
 -- ---- bytes
 

@@ -67,17 +67,18 @@ writing_of None = None
 writing_of (Some due.Logs) = Some Log
 writing_of (Some (due.Saves live)) = Some (LogAndText live)
 
--- Each buffer had its turn, if there is something to write. How many calls failed is told beside.
-abbrev pub Writes : Option Writing → ℕ → ℕ → Moment → Moment → Type 0
-Writes None failed faults before after = (after ≡ before) × (faults ≡ failed)
-Writes (Some writing) failed faults before after =
+-- Each buffer had its turn, if there is something to write.
+abbrev pub Writes : Option Writing → Moment → Moment → Type 0
+Writes None before after = after ≡ before
+Writes (Some writing) before after =
     let old = before.editor.work in
     let new = after.editor.work in
     saving.Sweeps writing 0 old.buffers.all new.buffers.all
-    (saving.course before.calls failed old.failures before.live.saved) (saving.course after.calls faults new.failures after.live.saved)
+    (saving.course before.calls before.faults old.failures before.live.saved) (saving.course after.calls after.faults new.failures after.live.saved)
     × (after ≡ record before {
       editor = record before.editor { work = saving.with_swept new.buffers.all new.failures old };
       calls = after.calls;
+      faults = after.faults;
       live = record before.live { saved = after.live.saved };
     })
 
@@ -102,8 +103,6 @@ pub record EndsBlock (before after : Moment) : Type 0 where
   pub written : Moment
   pub told : Moment
   pub shows : StepIf (can_show before.course) (Shows true (has_more before.live before.editor) []) before shown
-  pub failed : ℕ
-  pub faults : ℕ
-  pub writes : Writes (writing_due before.live before.editor) failed faults (record shown { live = reported shown.live }) written
+  pub writes : Writes (writing_due before.live before.editor) (record shown { live = reported shown.live }) written
   pub tells : StepIf (has_more before.live before.editor && can_show written.course) (Tells (saves_due before.live before.editor)) written told
   pub left : after ≡ record told { live = ended told.live }

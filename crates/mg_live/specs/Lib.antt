@@ -10,3 +10,4 @@ pub mod Reports
 pub mod Statuses
 pub mod Blocks
 pub mod Running
+pub mod Standing

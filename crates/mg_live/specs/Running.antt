@@ -11,7 +11,7 @@ use Rattle.mg_workspace.specs.Failures.{first_standing}
 use Rattle.mg_editor.specs.Editors.{Editor}
 use Rattle.mg_session.specs.Courses.{is_on, SessionAnswer, session_answer}
 use Rattle.mg_session.specs.Moments.{Known, ToldCalls, seen}
-use Rattle.mg_session.specs.Opening.{LoadsTo}
+use Rattle.mg_session.specs.Opening.{LoadsTo, opening_failures}
 use Rattle.mg_session.specs.Running.{Devices}
 use Rattle.mg_session.specs.declared.course.Course.{Course}
 use Rattle.mg_session.specs.declared.course.Course.TheVariants.{On, Quit, NoKeys}
@@ -161,18 +161,20 @@ pub record Runs {R : Type 0} (remaining : R → Known) (before after : Moment) (
   pub reads : ReadsKeys fresh begun left read (seen remaining keys) (seen remaining rest)
   pub finishes : StepIf (not (quits read.course)) (Finishes (is_in_report left.phase)) read after
 
--- A live session of these settings. Where an editor opened the session is answered by how it stands in the end, and, if it is strict, by the
--- first save or exchange that failed and stands then; where none did, for a fault, that is answered, no key was read, and nothing was written.
-pub record IsLiveSession {R W : Type 0} (remaining : R → Known) (contents : W → Known) (v : Values) (r : SessionAnswer) (before after : Devices R W) : Type 0 where
+-- A live session of these settings, before and after which so many calls of the port had failed. Where an editor opened the session is answered
+-- by how it stands in the end, and, if it is strict, by the first save or exchange that failed and stands then; where none did, for a fault,
+-- that is answered, no key was read, and nothing was written.
+pub record IsLiveSession {R W : Type 0} (remaining : R → Known) (contents : W → Known) (v : Values) (r : SessionAnswer) (failed faults : ℕ) (before after : Devices R W) : Type 0 where
   pub told : ToldCalls
   pub opened : Result Editor SessionFault
   pub loads : LoadsTo v before.calls told opened
   pub ran : MatchResult opened
       (λ first. (noted : Bool) × (last : Editor) × (next : Live) × (course : Course)
       × (r ≡ session_answer v.strict (first_standing last.work.failures) course)
-      × Runs remaining (moment first told (seen contents before.screen) (if_memory noted On) (live_at_start noted v first))
-      (moment last after.calls (seen contents after.screen) course next) before.keys after.keys)
-      (λ fault. (r ≡ Err fault) × (after ≡ record before { calls = told }))
+      × Runs remaining
+      (moment first told failed (seen contents before.screen) (if_memory noted On) (live_at_start noted v first))
+      (moment last after.calls faults (seen contents after.screen) course next) before.keys after.keys)
+      (λ fault. (r ≡ Err fault) × (faults ≡ opening_failures opened failed) × (after ≡ record before { calls = told }))
 
 -- of the code: how a session stands at its start, and what it keeps then
 abbrev pub StartsWith : Values → Editor → Live → Course → Type 0

@@ -41,16 +41,17 @@ pub record Live : Type 0 where
   pub saved : Option WriteAnswer
   pub shown : Shown
 
--- the editor, the calls that the port has told, the screen, how the session stands, and what it keeps
+-- the editor, the calls that the port has told, how many of its calls failed, the screen, how the session stands, and what it keeps
 pub record Moment : Type 0 where
   pub editor : Editor
   pub calls : ToldCalls
+  pub faults : ℕ
   pub screen : Calls Known
   pub course : Course
   pub live : Live
 
-abbrev pub moment : Editor → ToldCalls → Calls Known → Course → Live → Moment
-moment editor calls screen course live = record { editor = editor; calls = calls; screen = screen; course = course; live = live }
+abbrev pub moment : Editor → ToldCalls → ℕ → Calls Known → Course → Live → Moment
+moment editor calls faults screen course live = record { editor = editor; calls = calls; faults = faults; screen = screen; course = course; live = live }
 
 -- what is done from one moment to another where that is asked for, and else nothing
 abbrev pub StepIf : Bool → (Moment → Moment → Type 0) → Moment → Moment → Type 0

@@ -1,5 +1,5 @@
 //! The ends of blocks: statuses, and logs between them.
-ghost use Rattle.std.specs.Prelude.{◌≡◌, ◌&&◌, [], true, IfSome};
+ghost use Rattle.std.specs.Prelude.{◌≡◌, ◌&&◌, ℕ, [], true, IfSome};
 ghost use Rattle.rga_devices.specs.Counting.{Calls};
 ghost use Rattle.rga_exchange.specs.RunLines.{runs_text};
 ghost use Rattle.mg_session.specs.Moments.{Known, ToldCalls, seen};
@@ -105,9 +105,8 @@ fn write<S: TextStore, P: Port>(
     writing: Option<Due>,
 )
     ensures { (screen : Calls Known) → (course : Course) → spec.Writes (spec.writing_of writing)
-        (P.failures port.old) (P.failures port.new)
-        (moment editor.old (P.calls port.old) screen course live.old)
-        (moment editor.new (P.calls port.new) screen course live.new) }
+        (moment editor.old (P.calls port.old) (P.failures port.old) screen course live.old)
+        (moment editor.new (P.calls port.new) (P.failures port.new) screen course live.new) }
 {
     live.saved = match writing {
         None => live.saved,
@@ -154,9 +153,9 @@ fn tell<S: TextStore, W: Write>(
     fresh: bool,
     course: Course,
 ) -> Course
-    ensures { (calls : ToldCalls) → spec.Tells fresh
-        (moment editor.old calls (seen W.contents screen.old) course live.old)
-        (moment editor.new calls (seen W.contents screen.new) result live.new) }
+    ensures { (calls : ToldCalls) (faults : ℕ) → spec.Tells fresh
+        (moment editor.old calls faults (seen W.contents screen.old) course live.old)
+        (moment editor.new calls faults (seen W.contents screen.new) result live.new) }
 {
     let is_told = can_tell(live, editor);
     let Some(told) = told_lines(live.alloc, told_operations(live, editor)) else {
@@ -190,9 +189,9 @@ fn show_if<S: TextStore, W: Write>(
     more: bool,
     course: Course,
 ) -> Course
-    ensures { (calls : ToldCalls) → StepIf (can_show course) (Shows true more [])
-        (moment editor.old calls (seen W.contents screen.old) course live.old)
-        (moment editor.new calls (seen W.contents screen.new) result live.new) }
+    ensures { (calls : ToldCalls) (faults : ℕ) → StepIf (can_show course) (Shows true more [])
+        (moment editor.old calls faults (seen W.contents screen.old) course live.old)
+        (moment editor.new calls faults (seen W.contents screen.new) result live.new) }
 {
     if !can_show(course) {
         return course;
@@ -214,9 +213,9 @@ fn tell_if<S: TextStore, W: Write>(
     fresh: bool,
     course: Course,
 ) -> Course
-    ensures { (calls : ToldCalls) → StepIf (more && can_show course) (spec.Tells fresh)
-        (moment editor.old calls (seen W.contents screen.old) course live.old)
-        (moment editor.new calls (seen W.contents screen.new) result live.new) }
+    ensures { (calls : ToldCalls) (faults : ℕ) → StepIf (more && can_show course) (spec.Tells fresh)
+        (moment editor.old calls faults (seen W.contents screen.old) course live.old)
+        (moment editor.new calls faults (seen W.contents screen.new) result live.new) }
 {
     if more && can_show(course) {
         tell(live, editor, screen, fresh, course)
@@ -243,8 +242,10 @@ pub(crate) fn end_block<S: Teller, W: Write, P: Port>(
     course: Course,
 ) -> Course
     ensures { spec.EndsBlock
-        (moment editor.old (P.calls port.old) (seen W.contents screen.old) course live.old)
-        (moment editor.new (P.calls port.new) (seen W.contents screen.new) result live.new) }
+        (moment editor.old (P.calls port.old) (P.failures port.old)
+        (seen W.contents screen.old) course live.old)
+        (moment editor.new (P.calls port.new) (P.failures port.new)
+        (seen W.contents screen.new) result live.new) }
 {
     let more = has_more(live, editor);
     let fresh = are_saves_due(live, editor);

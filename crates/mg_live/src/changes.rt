@@ -1,7 +1,8 @@
 //! Changes of the live buffer's text, as splices.
-ghost use Rattle.std.specs.Prelude.{◌≡◌, ◌≤◌, [], length, drop, IfOk, OnOk, OnErr};
+ghost use Rattle.std.specs.Prelude.{◌≡◌, ◌≤◌, ◌<◌, ◌+◌, ◌-◌, ◌++◌, ◌∷◌, [], true, length, reverse, take, drop, vec_capacity, IfOk, OnOk, OnErr};
 ghost use Rattle.mg_live.specs.Changes as spec;
 
+use rga_characters::Characters;
 use rga_ops::Splice;
 use std::alloc::{AllocError, Global};
 use std::marker::Model;
@@ -10,7 +11,7 @@ use std::marker::Model;
 #[derive(Drop)]
 pub(crate) struct Changes {
     alloc: Global,
-    text: Vec<char>,
+    text: Characters,
     count: u64,
     list: Vec<Splice>,
 }
@@ -30,7 +31,7 @@ impl Changes {
     {
         Changes {
             alloc,
-            text: Vec::new(alloc),
+            text: Characters::of(Vec::new(alloc)),
             count: 0,
             list: Vec::new(alloc),
         }
@@ -45,9 +46,12 @@ impl Changes {
         let Some(change) = change_between(self.alloc, self.text.as_slice(), text)? else {
             return Ok(());
         };
-        let now = Vec::from_slice(self.alloc, text)?;
-        self.list.push(change)?;
-        self.text = now;
+        self.list.reserve(1)?;
+        let Ok(()) = self.text.make_room(change.put.len()) else {
+            return Err(AllocError);
+        };
+        self.text.replace(change.lo, change.hi, &change.put);
+        push_change(&mut self.list, change);
         self.count = self.count.saturating_add(1);
         Ok(())
     }
@@ -72,13 +76,91 @@ impl Changes {
     }
 }
 
-/// How many characters two texts have in common at their begins.
+/// Adds a change, for which there is room.
+fn push_change(changes: &mut Vec<Splice>, change: Splice)
+    requires { length changes.old.items < vec_capacity changes.old }
+    ensures { changes.new.items ≡ changes.old.items ++ change ∷ [] }
+{
+    let _ = changes.push(change);
+}
+
+/// How many characters are compared at once: most of two texts is alike.
+const BLOCK: usize = 64;
+
+/// Whether two texts of one length are the same. Each character is looked at, so that a processor
+/// compares many at once.
+fn are_alike(old: &[char], new: &[char]) -> bool
+    requires { length old.now ≡ length new.now }
+    ensures { result ≡ true → old.now ≡ new.now }
+{
+    let mut alike = true;
+    for (one, other) in old.iter().zip(new) {
+        alike &= *one == *other;
+    }
+    alike
+}
+
+/// Whether two texts have a block in common at their beginnings.
+fn begin_alike(old: &[char], new: &[char]) -> bool
+    ensures old { result ≡ true → 64 ≤ length old.now }
+    ensures new { result ≡ true → 64 ≤ length new.now }
+    ensures alike { result ≡ true → take 64 old.now ≡ take 64 new.now }
+{
+    if old.len() < BLOCK || new.len() < BLOCK {
+        return false;
+    }
+    are_alike(&old[..BLOCK], &new[..BLOCK])
+}
+
+/// Whether they have one in common at their ends.
+fn end_alike(old: &[char], new: &[char]) -> bool
+    ensures old { result ≡ true → 64 ≤ length old.now }
+    ensures new { result ≡ true → 64 ≤ length new.now }
+    ensures alike { result ≡ true →
+        drop (length old.now - 64) old.now ≡ drop (length new.now - 64) new.now }
+{
+    if old.len() < BLOCK || new.len() < BLOCK {
+        return false;
+    }
+    are_alike(&old[old.len() - BLOCK..], &new[new.len() - BLOCK..])
+}
+
+/// How many characters two texts have in common at their beginnings, by whole blocks.
+fn common_blocks(old: &[char], new: &[char]) -> usize
+    ensures exact { result + spec.common_front (drop result old.now) (drop result new.now)
+        ≡ spec.common_front old.now new.now }
+    ensures old { result ≤ length old.now }
+    ensures new { result ≤ length new.now }
+{
+    let mut count = 0;
+    'blocks: while begin_alike(&old[count..], &new[count..]) {
+        count += BLOCK;
+    }
+    count
+}
+
+/// The same at their ends.
+fn common_end_blocks(old: &[char], new: &[char]) -> usize
+    ensures exact { result
+        + spec.common_front (drop result (reverse old.now)) (drop result (reverse new.now))
+        ≡ spec.common_end old.now new.now }
+    ensures old { result ≤ length old.now }
+    ensures new { result ≤ length new.now }
+{
+    let mut count = 0;
+    'blocks: while end_alike(&old[..old.len() - count], &new[..new.len() - count]) {
+        count += BLOCK;
+    }
+    count
+}
+
+/// How many characters two texts have in common at their beginnings.
 fn common_front(old: &[char], new: &[char]) -> usize
     ensures exact { result ≡ spec.common_front old.now new.now }
     ensures old { result ≤ length old.now }
     ensures new { result ≤ length new.now }
 {
-    let mut count = 0;
+    let mut count = common_blocks(old, new);
     'alike: while count < old.len() && count < new.len() && old[count] == new[count] {
         count += 1;
     }
@@ -91,7 +173,7 @@ fn common_end(old: &[char], new: &[char]) -> usize
     ensures old { result ≤ length old.now }
     ensures new { result ≤ length new.now }
 {
-    let mut count = 0;
+    let mut count = common_end_blocks(old, new);
     'alike: while count < old.len()
         && count < new.len()
         && old[old.len() - 1 - count] == new[new.len() - 1 - count]

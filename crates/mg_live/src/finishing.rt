@@ -68,8 +68,10 @@ pub(crate) fn finish<S: Teller, W: Write, P: Port>(
     course: Course,
 ) -> Course
     ensures { spec.Finishes is_within
-        (moment editor.old (P.calls port.old) (seen W.contents screen.old) course live.old)
-        (moment editor.new (P.calls port.new) (seen W.contents screen.new) result live.new) }
+        (moment editor.old (P.calls port.old) (P.failures port.old)
+        (seen W.contents screen.old) course live.old)
+        (moment editor.new (P.calls port.new) (P.failures port.new)
+        (seen W.contents screen.new) result live.new) }
 {
     let course = cut_on(live, is_within, course);
     live.telling.rest();

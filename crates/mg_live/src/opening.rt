@@ -26,7 +26,8 @@ pub(crate) fn note_start<S: TextStore>(
     values: &Values,
 ) -> Course
     requires { 0 < length editor.now.work.buffers.all }
-    ensures { live.old ≡ spec.fresh_live values.now → spec.StartsWith values.now editor.now live.new result }
+    ensures { live.old ≡ spec.fresh_live values.now →
+        spec.StartsWith values.now editor.now live.new result }
 {
     live.loaded = was_loaded(editor, 0);
     match live.telling.add(editor.unsaved_at(0)) {

@@ -1,5 +1,5 @@
 //! Statuses, with what stands after them.
-ghost use Rattle.std.specs.Prelude.{◌≡◌, ◌∷◌, ◌++◌, [], IfOk, IfSome, OnOk, OnSome, None, true, false, string_bytes, map};
+ghost use Rattle.std.specs.Prelude.{◌≡◌, ◌∷◌, ◌++◌, [], ℕ, IfOk, IfSome, OnOk, OnSome, None, true, false, string_bytes, map};
 ghost use Rattle.mg_live.specs.Made.{live_index};
 ghost use Rattle.mg_status.specs.StatusText.{status_text};
 ghost use Rattle.rga_devices.specs.Counting.{Counts, Writes, WritesFront};
@@ -236,9 +236,10 @@ pub(crate) fn show<S: TextStore, W: Write>(
     line: Line<'_>,
     course: Course,
 ) -> Course
-    ensures { (calls : ToldCalls) → spec.Shows line.entry.fresh line.entry.more line.entry.told.now
-        (moment editor.old calls (seen W.contents screen.old) course live.old)
-        (moment editor.new calls (seen W.contents screen.new) result live.new) }
+    ensures { (calls : ToldCalls) (faults : ℕ) →
+        spec.Shows line.entry.fresh line.entry.more line.entry.told.now
+        (moment editor.old calls faults (seen W.contents screen.old) course live.old)
+        (moment editor.new calls faults (seen W.contents screen.new) result live.new) }
 {
     let Some(is_new) = ready(live, editor, line.fresh) else {
         return Course::NoMemory;

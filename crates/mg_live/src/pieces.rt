@@ -92,7 +92,8 @@ pub(crate) fn splice<S: TextStore>(
     text: &[char],
     more: bool,
 ) -> Result<bool, ReportFault>
-    ensures { spec.TakesSplice base lo hi text.now more editor.old live.old result editor.new live.new }
+    ensures { spec.TakesSplice base lo hi text.now more
+        editor.old live.old result editor.new live.new }
 {
     match live.splice.gather(text, more) {
         Piece::Held => Ok(true),

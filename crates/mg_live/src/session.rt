@@ -40,8 +40,10 @@ fn run<S: Teller, R: Read, W: Write, P: Port>(
     course: Course,
 ) -> Course
     ensures { spec.Runs R.remaining
-        (moment editor.old (P.calls port.old) (seen W.contents screen.old) course live.old)
-        (moment editor.new (P.calls port.new) (seen W.contents screen.new) result live.new)
+        (moment editor.old (P.calls port.old) (P.failures port.old)
+        (seen W.contents screen.old) course live.old)
+        (moment editor.new (P.calls port.new) (P.failures port.new)
+        (seen W.contents screen.new) result live.new)
         keys.old keys.new }
 {
     let noted = note_changes(live, editor, course);
@@ -71,6 +73,7 @@ pub fn run_live<S: Teller, R: Read, W: Write, P: Port>(
     settings: &Settings,
 ) -> Result<(), SessionFault>
     ensures ran { spec.IsLiveSession R.remaining W.contents settings.now result
+        (P.failures port.old) (P.failures port.new)
         (devices keys.old screen.old (P.calls port.old))
         (devices keys.new screen.new (P.calls port.new)) }
 

@@ -1,5 +1,5 @@
 //! Keys and reports of a live session, block by block.
-ghost use Rattle.std.specs.Prelude.{◌≡◌, ◌<◌, ◌≤◌, ◌+◌, ◌||◌, length, take, IfOk, OnOk, OnErr, false};
+ghost use Rattle.std.specs.Prelude.{◌≡◌, ◌<◌, ◌≤◌, ◌+◌, ◌||◌, ℕ, length, take, IfOk, OnOk, OnErr, false};
 ghost use Rattle.std.specs.Io.KnownBytes.{Consumes, Keeps};
 ghost use Rattle.rga_devices.specs.Counting.{Calls, Counts, IsReadToEnd};
 ghost use Rattle.mg_events.specs.Reading.{Reading, key, report, told_by};
@@ -33,8 +33,8 @@ fn take_noted_key<S: Teller, P: Port>(
     port: &mut P,
 ) -> Course
     ensures { (screen : Calls Known) → spec.TakesEvent (key byte)
-        (moment editor.old (P.calls port.old) screen On live.old)
-        (moment editor.new (P.calls port.new) screen result live.new) }
+        (moment editor.old (P.calls port.old) (P.failures port.old) screen On live.old)
+        (moment editor.new (P.calls port.new) (P.failures port.new) screen result live.new) }
 {
     let course = take_key(live, editor, byte, port);
     note_changes(live, editor, course)
@@ -42,9 +42,10 @@ fn take_noted_key<S: Teller, P: Port>(
 
 /// Takes a report, and notes how the text changed by it.
 fn take_noted_line<S: TextStore>(live: &mut Live, editor: &mut Editor<S>, line: &[u8]) -> Course
-    ensures { (calls : ToldCalls) (screen : Calls Known) → spec.TakesEvent (report line.now)
-        (moment editor.old calls screen On live.old)
-        (moment editor.new calls screen result live.new) }
+    ensures { (calls : ToldCalls) (faults : ℕ) (screen : Calls Known) →
+        spec.TakesEvent (report line.now)
+        (moment editor.old calls faults screen On live.old)
+        (moment editor.new calls faults screen result live.new) }
 {
     let course = take_line(live, editor, line);
     note_changes(live, editor, course)
@@ -60,8 +61,8 @@ fn take_event<S: Teller, P: Port>(
 ) -> Course
     ensures { (screen : Calls Known) (left : Reading) → left.line ≡ line.now →
         spec.TakesEvents (told_by event left)
-        (moment editor.old (P.calls port.old) screen On live.old)
-        (moment editor.new (P.calls port.new) screen result live.new) }
+        (moment editor.old (P.calls port.old) (P.failures port.old) screen On live.old)
+        (moment editor.new (P.calls port.new) (P.failures port.new) screen result live.new) }
 {
     match event {
         Event::Nothing => Course::On,
@@ -97,8 +98,9 @@ fn take_bytes<S: Teller, P: Port>(
     port: &mut P,
 ) -> Taken
     ensures { (screen : Calls Known) → spec.TakesBytes block.now reader.old false
-        (moment editor.old (P.calls port.old) screen On live.old) reader.new result.any
-        (moment editor.new (P.calls port.new) screen result.course live.new) }
+        (moment editor.old (P.calls port.old) (P.failures port.old)
+        screen On live.old) reader.new result.any
+        (moment editor.new (P.calls port.new) (P.failures port.new) screen result.course live.new) }
 {
     let mut any = false;
     for byte in block {
@@ -125,8 +127,10 @@ fn take_block<S: Teller, W: Write, P: Port>(
     port: &mut P,
 ) -> Course
     ensures { spec.TakesBlock block.now reader.old
-        (moment editor.old (P.calls port.old) (seen W.contents screen.old) On live.old) reader.new
-        (moment editor.new (P.calls port.new) (seen W.contents screen.new) result live.new) }
+        (moment editor.old (P.calls port.old) (P.failures port.old)
+        (seen W.contents screen.old) On live.old) reader.new
+        (moment editor.new (P.calls port.new) (P.failures port.new)
+        (seen W.contents screen.new) result live.new) }
 {
     let taken = take_bytes(live, editor, reader, block, port);
     if taken.any {
@@ -163,9 +167,11 @@ pub(crate) fn take_keys<S: Teller, R: Read, W: Write, P: Port>(
     begun: Course,
 ) -> Course
     ensures { spec.ReadsKeys reader.old
-        (moment editor.old (P.calls port.old) (seen W.contents screen.old) begun live.old)
+        (moment editor.old (P.calls port.old) (P.failures port.old)
+        (seen W.contents screen.old) begun live.old)
         reader.new
-        (moment editor.new (P.calls port.new) (seen W.contents screen.new) result live.new)
+        (moment editor.new (P.calls port.new) (P.failures port.new)
+        (seen W.contents screen.new) result live.new)
         (seen R.remaining keys.old) (seen R.remaining keys.new) }
 {
     let mut course = begun;

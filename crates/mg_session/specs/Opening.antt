@@ -1,5 +1,6 @@
 -- How a session begins.
-use Rattle.std.specs.Prelude.{◌≡◌, ◌≢◌, ◌⊎◌, [], ◌∷◌, Result, Ok, Err}
+use Rattle.std.specs.Prelude.{◌≡◌, ◌≢◌, ◌⊎◌, ℕ, [], ◌∷◌, Result, Ok, Err}
+use Rattle.rga_devices.specs.Counting.{one_more}
 use Rattle.mg_files.specs.Calls.{Adds, load_call, found_call, refused}
 use Rattle.mg_files.specs.Files.{Files}
 use Rattle.mg_files.specs.Loading.{MayWantMemory}
@@ -21,3 +22,8 @@ LoadsTo v calls told (Err File) = Adds calls told (refused (load_call v.name) �
 LoadsTo v calls told (Err Memory) =
     Adds calls told [] ⊎ ((found : Files) × Adds calls told (found_call v.name found ∷ []) × MayWantMemory v.replica v.limit found)
 LoadsTo v calls told (Err fault) = ⊥
+
+-- how many calls of a port failed, once an editor was opened, or none for this fault
+abbrev pub opening_failures : Result Editor SessionFault → ℕ → ℕ
+opening_failures (Err File) failed = one_more failed
+opening_failures opened failed = failed

@@ -1,9 +1,9 @@
 //! How a session begins.
-ghost use Rattle.std.specs.Prelude.{◌≡◌, ◌≢◌, ◌∷◌, [], Err};
+ghost use Rattle.std.specs.Prelude.{◌≡◌, ◌≢◌, ◌∷◌, [], ℕ, Err};
 ghost use Rattle.rga_devices.specs.Counting.{one_more};
 ghost use Rattle.mg_files.specs.Calls.{Adds, found_call};
 ghost use Rattle.mg_session.specs.Moments.{ToldCalls};
-ghost use Rattle.mg_session.specs.Opening.{LoadsTo};
+ghost use Rattle.mg_session.specs.Opening.{LoadsTo, opening_failures};
 ghost use Rattle.mg_session.specs.declared.fault.SessionFault.TheVariants.{File};
 
 use crate::fault::{SessionFault, of_load, of_port};
@@ -24,6 +24,7 @@ pub fn open<S: TextStore, P: Port>(
 ) -> Result<Editor<S>, SessionFault>
     ensures loaded { LoadsTo settings.now (P.calls port.old) (P.calls port.new) result }
     ensures file { result ≡ Err File → P.failures port.new ≡ one_more (P.failures port.old) }
+    ensures device { P.failures port.new ≡ opening_failures result (P.failures port.old) }
 {
     match port.load(settings.values().name.as_str()) {
         Ok(found) => edit(alloc, settings, found),
@@ -40,6 +41,7 @@ fn edit<S: TextStore>(
     ensures loaded { (calls told : ToldCalls) →
         Adds calls told (found_call settings.now.name found ∷ []) →
         LoadsTo settings.now calls told result }
+    ensures device { (failed : ℕ) → opening_failures result failed ≡ failed }
     ensures file { result ≢ Err File }
 {
     match Editor::new(alloc, settings, found) {

@@ -319,10 +319,10 @@ module _ {P W : Type 0} (calls : P → Option (List Call)) (standing : P → Lis
     pub others : SameElsewhere name (standing before.port) (standing between) × SameElsewhere name (refused before.port) (refused between)
     pub device : log_failures between ≡ failures_after_compaction answer (log_failures before.port)
 
--- a live session, or one of keys, as the settings say
-abbrev pub IsEdited : {R W : Type 0} → (R → Option (List ℕ)) → (W → Option (List ℕ)) → Values → Result (Unit {0}) SessionFault → Devices R W → Devices R W → Type 0
-IsEdited remaining contents settings answer before after =
-    MatchBool settings.live (IsLiveSession remaining contents settings answer before after) (IsSession remaining contents settings answer before after)
+-- a live session, or one of keys, as the settings say; how many calls of the port had failed before and after it
+abbrev pub IsEdited : {R W : Type 0} → (R → Option (List ℕ)) → (W → Option (List ℕ)) → Values → Result (Unit {0}) SessionFault → ℕ → ℕ → Devices R W → Devices R W → Type 0
+IsEdited remaining contents settings answer failed faults before after =
+    MatchBool settings.live (IsLiveSession remaining contents settings answer failed faults before after) (IsSession remaining contents settings answer before after)
 
 module _ {R W P : Type 0} (k : Knowledge R W P) where
   -- That of an answer of a session, which says what became of the keys, which device failed and what is told.
@@ -330,7 +330,8 @@ module _ {R W P : Type 0} (k : Knowledge R W P) where
     pub answer : Result (Unit {0}) SessionFault
     pub exact : status ≡ edited_status answer
     pub told_line : TellsMore before.told after.told (edited_telling answer)
-    pub ran : IsEdited k.remaining k.contents settings answer (devices before.input before.output (k.calls before.port)) (devices after.input after.output (k.calls after.port))
+    pub ran : IsEdited k.remaining k.contents settings answer (k.failures before.port) (k.failures after.port)
+        (devices before.input before.output (k.calls before.port)) (devices after.input after.output (k.calls after.port))
     pub flushed : StaysFlushed session.Screen answer before.output after.output
     pub keys : CountsAs session.Keys answer before.input after.input
     pub screen : CountsAs session.Screen answer before.output after.output

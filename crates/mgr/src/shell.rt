@@ -201,6 +201,7 @@ fn run_session<R: Read, W: Write, P: Port>(
     port: &mut P,
 ) -> Result<(), SessionFault>
     ensures ran { status.IsEdited R.remaining W.contents settings.now result
+        (P.failures port.old) (P.failures port.new)
         (devices reader.old writer.old (P.calls port.old))
         (devices reader.new writer.new (P.calls port.new)) }
     ensures flushed { StaysFlushed session.Screen result writer.old writer.new }

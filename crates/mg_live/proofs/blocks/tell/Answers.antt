@@ -7,17 +7,17 @@ use Rattle.mg_live.specs.Statuses.{unmade}
 use Rattle.mg_live.proofs.blocks.tell.Goals as goal
 
 pub returns-in_default : goal.returns-in_default
-returns-in_default g c = λ calls. record {
-  shown = moment c.args.editor.now calls (seen g.W.Write.contents c.args.screen.now) NoMemory c.args.live.now;
+returns-in_default g c = λ calls faults. record {
+  shown = moment c.args.editor.now calls faults (seen g.W.Write.contents c.args.screen.now) NoMemory c.args.live.now;
   shows = unmade c.args.live.now c.args.editor.now (inl (refl, refl)) refl;
   left = refl;
 }
 
 pub returns : goal.returns
-returns g c = λ calls.
+returns g c = λ calls faults.
     let text = c.deref.ensures.value ∙ c.in-Some.ensures ∙ ap runs_text c.told_operations.ensures in
     record {
-      shown = moment c.show-course.new.editor calls (seen g.W.Write.contents c.show-course.new.screen) c.show-course.result c.show-course.new.live;
-      shows = rw text at (c.show-course.ensures calls);
-      left = ap (moment c.show-course.new.editor calls _ c.show-course.result) (rw c.can_tell-is_told.ensures at c.mark_told.ensures);
+      shown = moment c.show-course.new.editor calls faults (seen g.W.Write.contents c.show-course.new.screen) c.show-course.result c.show-course.new.live;
+      shows = rw text at (c.show-course.ensures calls faults);
+      left = ap (moment c.show-course.new.editor calls faults _ c.show-course.result) (rw c.can_tell-is_told.ensures at c.mark_told.ensures);
     }

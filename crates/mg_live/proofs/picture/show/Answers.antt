@@ -6,30 +6,30 @@ use Rattle.mg_live.specs.Statuses.{whole, begun, unmade}
 use Rattle.mg_live.proofs.picture.show.Goals as goal
 
 pub returns-in_default : goal.returns-in_default
-returns-in_default g c = λ calls.
+returns-in_default g c = λ calls faults.
     let screen = seen g.W.Write.contents c.args.screen.now in
     unmade c.ready.new.live c.ready.new.editor (inl (c.ready.ensures.same c.in_default.is))
-    (refl {a = moment c.ready.new.editor calls screen NoMemory c.ready.new.live})
+    (refl {a = moment c.ready.new.editor calls faults screen NoMemory c.ready.new.live})
 
 pub returns-in_default-picture : goal.returns-in_default-picture
-returns-in_default-picture g c = λ calls.
+returns-in_default-picture g c = λ calls faults.
     let screen = seen g.W.Write.contents c.args.screen.now in
     unmade c.ready.new.live c.ready.new.editor (inr (c.in-Some.is_new, c.in-Some.ensures.drawn))
-    (refl {a = moment c.ready.new.editor calls screen NoMemory c.ready.new.live})
+    (refl {a = moment c.ready.new.editor calls faults screen NoMemory c.ready.new.live})
 
 pub returns-in-Ok-write : goal.returns-in-Ok-write
-returns-in-Ok-write g c = λ calls.
+returns-in-Ok-write g c = λ calls faults.
     let screen = seen g.W.Write.contents c.write.new.screen in
     let written = rw c.deref.ensures.value at c.in-Ok-write.ensures.bytes in
     whole _ screen c.ready.new.live c.ready.new.editor (record { is_new = c.in-Some.is_new; drawn = c.in-Some.ensures.drawn; is = c.in-Ok.ensures })
     written c.in-Ok-write.ensures.device c.in-Ok-write.ensures.flushed
-    (refl {a = moment c.ready.new.editor calls screen c.args.course c.ready.new.live})
+    (refl {a = moment c.ready.new.editor calls faults screen c.args.course c.ready.new.live})
 
 pub returns : goal.returns
-returns g c = λ calls.
+returns g c = λ calls faults.
     let screen = seen g.W.Write.contents c.write.new.screen in
     let front = c.in-Err.ensures.begun in
     let is = rw (← c.deref.ensures.value, front.parts) at c.in-Ok.ensures in
     begun front.front front.rest screen c.ready.new.live c.ready.new.editor
     (record { is_new = c.in-Some.is_new; drawn = c.in-Some.ensures.drawn; is = is }) front.written c.in-Err.ensures.device
-    (refl {a = moment c.ready.new.editor calls screen NoScreen c.ready.new.live})
+    (refl {a = moment c.ready.new.editor calls faults screen NoScreen c.ready.new.live})

@@ -10,7 +10,7 @@ note_start-begun-requires g c =
 
 pub returns-in_default : goal.returns-in_default
 returns-in_default g c = record {
-  ran = record { told = _; opened = Err Memory; loads = inl (adds_nothing (g.P.Port.calls c.args.port.now)); ran = (refl, refl) };
+  ran = record { told = _; opened = Err Memory; loads = inl (adds_nothing (g.P.Port.calls c.args.port.now)); ran = (refl, refl, refl) };
   flushed = λ _ was. was;
   keys = search rules;
   screen = search rules;
@@ -21,7 +21,8 @@ pub returns-in-Ok : goal.returns-in-Ok
 returns-in-Ok g c =
     let has_run =
     session_ran g.R.Read.remaining g.W.Write.contents c.args.settings.now c.args.keys.now c.run-course.new.keys c.args.screen.now c.run-course.new.screen
-    (g.P.Port.calls c.args.port.now) (g.P.Port.calls c.run-course.new.port) c.values-asked.result.now c.is_strict.result c.failure.result c.session_answer.result
-    c.values-asked.ensures.exact c.is_strict.ensures c.in-Ok.ensures.loaded (c.note_start-begun.ensures c.in-Some.ensures) c.run-course.ensures c.failure.ensures
+    (g.P.Port.calls c.args.port.now) (g.P.Port.calls c.run-course.new.port) (g.P.Port.failures c.args.port.now) (g.P.Port.failures c.run-course.new.port)
+    c.values-asked.result.now c.is_strict.result c.failure.result c.session_answer.result (g.P.Port.failures c.open.new.port)
+    c.values-asked.ensures.exact c.is_strict.ensures c.in-Ok.ensures.loaded c.in-Ok.ensures.device (c.note_start-begun.ensures c.in-Some.ensures) c.run-course.ensures c.failure.ensures
     c.session_answer.ensures in
     record { ran = has_run.ran; flushed = has_run.flushed; keys = has_run.reads; screen = has_run.writes; file = λ is. absurd (has_run.file is) }

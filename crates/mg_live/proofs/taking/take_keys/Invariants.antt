@@ -7,9 +7,9 @@ use Rattle.mg_live.proofs.taking.take_keys.Given as goal
 
 abbrev pub invariant-reads : goal.invariant-reads
 invariant-reads g l = (left : Reading) (after : Moment) (rest : Calls Known)
-    → ReadsKeys l.reader (moment l.editor (g.P.Port.calls l.port) (seen g.W.Write.contents l.screen) l.course l.live) left after
+    → ReadsKeys l.reader (moment l.editor (g.P.Port.calls l.port) (g.P.Port.failures l.port) (seen g.W.Write.contents l.screen) l.course l.live) left after
     (seen g.R.Read.remaining l.keys) rest
-    → ReadsKeys l.fn.reader (moment l.fn.editor (g.P.Port.calls l.fn.port) (seen g.W.Write.contents l.fn.screen) l.fn.begun l.fn.live) left after
+    → ReadsKeys l.fn.reader (moment l.fn.editor (g.P.Port.calls l.fn.port) (g.P.Port.failures l.fn.port) (seen g.W.Write.contents l.fn.screen) l.fn.begun l.fn.live) left after
     (seen g.R.Read.remaining l.fn.keys) rest
 
 abbrev pub decreases-reads : goal.decreases-reads

@@ -1,0 +1,136 @@
+-- What is made and not told stays safe.
+use Rattle.std.proofs.Common.{◌≡◌, ◌⊎◌, inl, inr, ◌∙◌, ◌<◌, ◌++◌, ◌&&◌, arith, ℕ, Bool, true, false, List, [], length, take, drop, Option, Some, None, refl, sym, ap, subst, append-nil, true≢false}
+use Rattle.std.specs.Prelude.{if◌then◌else◌, encode_utf8_all, nat_eq}
+use Rattle.std.specs.List.{Contains}
+use Rattle.std.specs.Option.{is_some}
+use Rattle.std.proofs.lemmas.Bool.{eqb-true}
+use Rattle.std.proofs.lemmas.List.{take-append-drop}
+use Rattle.std.proofs.lemmas.List.Elements.{Contains-append_right, Contains-get_or}
+use Rattle.rga_ops.specs.declared.op.Op.{Op}
+use Rattle.mg_held.specs.Held.{Held}
+use Rattle.mg_workspace.specs.Buffers.{buffer_at, no_buffer}
+use Rattle.mg_session.specs.declared.course.Course.{Course}
+use Rattle.mg_editor.specs.Editors.{Editor}
+use Rattle.mg_editor.specs.Holding.{AreLogged, HaveOwnNames}
+use Rattle.mg_live.specs.Changes.{Changes}
+use Rattle.mg_live.specs.Keys.{with_opened}
+use Rattle.mg_live.specs.Made.{is_live, live_index, made_at, opened_operations, unsaved_at, with_made}
+use Rattle.mg_live.specs.Reports.{NotesChanges}
+use Rattle.mg_live.specs.Standing.{AreHeld, AreSafe}
+use Rattle.mg_live.specs.States.{Live}
+use Rattle.mg_live.proofs.GrowingLaws.{unsaved_held}
+use Rattle.mg_live.proofs.NameLaws.{AreNamed, found_so}
+use Rattle.mg_live.proofs.ShapeLaws.{SameNames}
+use Rattle.mg_live.proofs.StageLaws.{safe_more}
+
+among : (n : ℕ) (ops : List Op) (op : Op) → Contains (drop n ops) op → Contains ops op
+among n ops op has = subst (λ l. Contains l op) (take-append-drop n ops) (Contains-append_right (take n ops) (drop n ops) op has)
+
+-- what the load of a buffer made that was not open, and is
+abbrev opened_now : Editor → Option ℕ → List Op
+opened_now e (Some i) = unsaved_at i e
+opened_now e None = []
+
+abbrev opened_from : List ℕ → Editor → Option ℕ → List Op
+opened_from name e (Some k) = []
+opened_from name e None = opened_now e (live_index name e)
+
+opened_is : (name : List ℕ) (old e : Editor) (i : ℕ) → live_index name old ≡ None → live_index name e ≡ Some i → opened_operations name old e ≡ unsaved_at i e
+opened_is name old e i was now = ap (opened_from name e) was ∙ ap (opened_now e) now
+
+module _ (name : List ℕ) (s : Held) (e : Editor) (own : HaveOwnNames e.work.buffers) (named : AreNamed e.work.buffers) (logged : AreLogged e.work.buffers s) where
+  abbrev IsSafe : List Op → Type 0
+  IsSafe ops = AreSafe (encode_utf8_all name) ops e.work.buffers s
+
+  -- some of what is unsaved in the buffer at an index, which has the name
+  safe_with : (i : ℕ) (untold made : List Op) → i < length e.work.buffers.all → (buffer_at i e.work.buffers).buffer.name ≡ encode_utf8_all name
+      → ((op : Op) → Contains made op → Contains (unsaved_at i e) op) → IsSafe untold → IsSafe (untold ++ made)
+  safe_with i untold made lt is some safe =
+      let x = buffer_at i e.work.buffers in
+      let there = Contains-get_or e.work.buffers.all i no_buffer lt in
+      let held : AreHeld made x.buffer.content = λ op has. unsaved_held x (s x.buffer.name).log (logged x there) op (some op has) in
+      safe_more (encode_utf8_all name) untold made e.work.buffers s x own there is held safe
+
+  -- what was made at an index, which was that of the live buffer
+  made_there : (old : Editor) (i : ℕ) (untold : List Op) → AreNamed old.work.buffers → live_index name old ≡ Some i
+      → (length e.work.buffers.all ≡ length old.work.buffers.all → SameNames old.work e.work) → IsSafe untold → IsSafe (untold ++ made_at i old e)
+  made_there old i untold texts at same safe = by (nat_eq (length e.work.buffers.all) (length old.work.buffers.all)) refl
+    where
+      by : (as_many : Bool) → nat_eq (length e.work.buffers.all) (length old.work.buffers.all) ≡ as_many → IsSafe (untold ++ made_at i old e)
+      by false other = rw other (subst IsSafe (sym (append-nil untold)) safe)
+      by true is =
+          let count = eqb-true (length e.work.buffers.all) (length old.work.buffers.all) is in
+          let f = found_so name old.work.buffers i texts at in
+          let names = same count in
+          rw is
+          (safe_with i untold (drop (length (unsaved_at i old)) (unsaved_at i e)) (subst (λ n. i < n) (sym count) f.within) (names.names i ∙ f.named)
+          (among (length (unsaved_at i old)) (unsaved_at i e)) safe)
+
+  pub made_safe : (told noted : Bool) (old : Editor) (i : ℕ) (live : Live) → AreNamed old.work.buffers → (told ≡ true → live_index name old ≡ Some i)
+      → (length e.work.buffers.all ≡ length old.work.buffers.all → SameNames old.work e.work) → IsSafe live.telling.untold
+      → IsSafe (with_made told noted (made_at i old e) live).telling.untold
+  made_safe true true old i live texts at same safe = made_there old i live.telling.untold texts (at refl) same safe
+  made_safe true false old i live texts at same safe = safe
+  made_safe false noted old i live texts at same safe = safe
+
+  -- what the load of the live buffer made is noted
+  pub opened_safe : (noted : Bool) (old : Editor) (live : Live) → live.name ≡ name → IsSafe live.telling.untold → IsSafe (with_opened noted old e live).telling.untold
+  opened_safe noted old live is safe = by (live_index live.name old) (live_index live.name e) refl refl
+    where
+      by : (was now : Option ℕ) → live_index live.name old ≡ was → live_index live.name e ≡ now → IsSafe (with_opened noted old e live).telling.untold
+      by (Some k) now at to = rw at safe
+      by None None at to = rw (at, to) safe
+      by None (Some i) at to = by_memory noted
+        where
+          by_memory : (noted : Bool) → IsSafe (with_opened noted old e live).telling.untold
+          by_memory false = rw (at, to) safe
+          by_memory true =
+              let f = found_so name e.work.buffers i named (subst (λ n. live_index n e ≡ Some i) is to) in
+              rw (at, to)
+              (subst (λ (ops : List Op). IsSafe (live.telling.untold ++ ops)) (sym (opened_is live.name old e i at to))
+              (safe_with i live.telling.untold (unsaved_at i e) f.within f.named (λ op has. has) safe))
+
+-- the live buffer is at that index
+pub live_there : (name : List ℕ) (i : ℕ) (e : Editor) → is_live name i e ≡ true → live_index name e ≡ Some i
+live_there name i e is = by (live_index name e) refl is
+  where
+    by : (o : Option ℕ) → live_index name e ≡ o → elim o [ Some k ↦ nat_eq k i | None ↦ false ] ≡ true → live_index name e ≡ Some i
+    by (Some k) at same = at ∙ ap Some (eqb-true k i same)
+    by None at same = absurd (true≢false (sym same))
+
+pub opened_keeps_name : (noted : Bool) (old e : Editor) (live : Live) → (with_opened noted old e live).name ≡ live.name
+opened_keeps_name noted old e live = by (is_some (live_index live.name old)) (is_some (live_index live.name e))
+  where
+    by : (was now : Bool) → (if was then live else (if now then record live {
+      telling = record live.telling {
+        untold = if noted then live.telling.untold ++ opened_operations live.name old e else live.telling.untold;
+        took = false;
+      };
+    } else live)).name ≡ live.name
+    by true now = refl
+    by false true = refl
+    by false false = refl
+
+-- what is noted of changes is noted beside
+pub record KeepsTelling (live next : Live) : Type 0 where
+  pub telling : next.telling ≡ live.telling
+  pub name : next.name ≡ live.name
+
+telling_stays : (live next : Live) → next ≡ live → KeepsTelling live next
+telling_stays live next is = record { telling = ap (λ (l : Live). l.telling) is; name = ap (λ (l : Live). l.name) is }
+
+pub notes_keep : (e : Editor) (before after : Course) (live next : Live) → NotesChanges e before live next after → KeepsTelling live next
+notes_keep e before after live next notes = by live.changes (live_index live.name e) refl refl notes
+  where
+    by : (changes : Option Changes) (index : Option ℕ) → live.changes ≡ changes → live_index live.name e ≡ index → NotesChanges e before live next after → KeepsTelling live next
+    by None index none at notes =
+        let notes : (next ≡ record live { changes = None }) × (after ≡ before) = rw none at notes in
+        record { telling = ap (λ (l : Live). l.telling) notes.0; name = ap (λ (l : Live). l.name) notes.0 }
+    by (Some c) None some none notes =
+        let notes : (next ≡ live) × (after ≡ before) = rw (some, none, NotesChanges) at notes in
+        telling_stays live next notes.0
+    by (Some c) (Some i) some found notes = either (rw (some, found, NotesChanges) at notes)
+      where
+        either : {A B : Type 0} {changes : Option Changes} → ((next ≡ record live { changes = changes }) × A) ⊎ ((next ≡ live) × B) → KeepsTelling live next
+        either (inl (is, a)) = record { telling = ap (λ (l : Live). l.telling) is; name = ap (λ (l : Live). l.name) is }
+        either (inr (is, b)) = telling_stays live next is

@@ -1,0 +1,301 @@
+-- A session stands after a report.
+use Rattle.std.proofs.Common.{◌≡◌, ◌≢◌, ◌⊎◌, inl, inr, ◌∙◌, ◌<◌, ℕ, Bool, true, false, List, [], ◌∷◌, length, Option, Some, None, Result, Ok, Err, MatchResult, refl, sym, ap, subst, nat_eq}
+use Rattle.std.specs.Prelude.{encode_utf8_all}
+use Rattle.std.specs.Bool.{MatchBool}
+use Rattle.std.specs.List.{Contains, list_any}
+use Rattle.std.specs.Str.{all_scalars}
+use Rattle.rga_ops.specs.Answer.{answer}
+use Rattle.rga_ops.specs.ListAnswer.{list_answer}
+use Rattle.rga_ops.specs.declared.op.Op.{Op}
+use Rattle.rga_ops.specs.declared.refusal.Refusal.{Refusal}
+use Rattle.rga_ops.specs.declared.refusal.Refusal.TheVariants as refusal
+use Rattle.rga_ops.specs.declared.refusal.Taken.{Taken}
+use Rattle.rga_table.specs.Runs.{stretch_operations, run_deletions}
+use Rattle.rga_table.specs.declared.fault.LineFault.{LineFault}
+use Rattle.rga_table.specs.declared.fault.LineFault.TheVariants as line
+use Rattle.mg_buffer.specs.OpenState.{OpenState}
+use Rattle.mg_held.specs.Held.{Held}
+use Rattle.mg_events.specs.Reports.{report_at}
+use Rattle.mg_events.specs.declared.report.Report.{Report}
+use Rattle.mg_events.specs.declared.report.Report.TheVariants as report
+use Rattle.mg_plain.specs.declared.command.Command.TheVariants.{ReplaceRange}
+use Rattle.mg_session.specs.declared.course.Course.{Course}
+use Rattle.mg_session.specs.declared.course.Course.TheVariants.{On}
+use Rattle.mg_workspace.specs.AtIndex.{RunsAt, state_at}
+use Rattle.mg_workspace.specs.Workspaces.{Workspace}
+use Rattle.mg_workspace.specs.declared.fault.ActionFault.{ActionFault}
+use Rattle.mg_editor.specs.Editors.{Editor}
+use Rattle.mg_editor.specs.Holding.{GoesOn, HaveOwnNames, IsOpen}
+use Rattle.mg_editor.specs.LiveTaking.{taking, with_changed}
+use Rattle.mg_editor.specs.Pasting.{Pasted}
+use Rattle.mg_editor.specs.declared.pasting.PasteFault.{PasteFault}
+use Rattle.mg_editor.proofs.HoldingLaws.{one_taken_on, pasted_on, spliced_on, taken_on}
+use Rattle.mg_editor.proofs.NamesLaws.{pasted_own, spliced_own, taken_own}
+use Rattle.mg_editor.proofs.RemovalLaws.{pasted_stay, spliced_stay, taken_stay}
+use Rattle.mg_live.specs.Changes.{change_count}
+use Rattle.mg_live.specs.FaultNames.{of_paste}
+use Rattle.mg_live.specs.Gathering.{Gathered}
+use Rattle.mg_live.specs.Made.{is_live, live_index, made_at, with_made}
+use Rattle.mg_live.specs.Reports.{Verdict, clock_at, is_far, with_taken, TakesOperation, TakesList, TakesOthers, Pastes, Splices, TakesPiece, Takes, RefusesReport, Follows, TakesReport, TakesLine, counted, resized, splice_fault}
+use Rattle.mg_live.specs.Standing.{AreKept, AreSafe, operations_of, operations_read, operations_at}
+use Rattle.mg_live.specs.States.{Live}
+use Rattle.mg_live.specs.declared.fault.ReportFault.{ReportFault}
+use Rattle.mg_live.specs.declared.fault.ReportFault.TheVariants.{Line, Refused, Far, Closed, Stale}
+use Rattle.mg_live.specs.declared.gathered.Piece.{Piece}
+use Rattle.mg_live.specs.declared.gathered.Piece.TheVariants.{Held as Waits, Whole, Dropped}
+use Rattle.mg_live.proofs.KeyLaws.{StandsSo, goes_on}
+use Rattle.mg_live.proofs.MadeLaws.{live_there, made_safe}
+use Rattle.mg_live.proofs.NameLaws.{found_so}
+use Rattle.mg_live.proofs.ShapeLaws.{SameNames, paste_same, run_same}
+use Rattle.mg_live.proofs.StageLaws.{GoOn}
+
+-- what is to be told is the same
+pub record KeepsUntold (live next : Live) : Type 0 where
+  pub untold : next.telling.untold ≡ live.telling.untold
+  pub name : next.name ≡ live.name
+
+untold_as : (live next : Live) → next ≡ live → KeepsUntold live next
+untold_as live next is = record { untold = ap (λ (l : Live). l.telling.untold) is; name = ap (λ (l : Live). l.name) is }
+
+pub refused_keeps : (fault : ReportFault) (before : Course) (live next : Live) (after : Course) → RefusesReport fault before live next after → KeepsUntold live next
+refused_keeps fault before live next after (inl (is, same)) = record { untold = ap (λ (l : Live). l.telling.untold) is; name = ap (λ (l : Live). l.name) is }
+refused_keeps fault before live next after (inr (is, same)) = untold_as live next is
+
+follows_keep : (verdict : Verdict) (live next : Live) (after : Course) → Follows verdict live next after → KeepsUntold live next
+follows_keep (Ok noted) live next after (is, same) = untold_as live next is
+follows_keep (Err fault) live next after so = refused_keeps fault On live next after so
+
+abbrev SplicedSo : ℕ → Editor → Live → Editor → Live → Verdict → Result (Unit {0}) ActionFault → Type 0
+SplicedSo i e live f next verdict r = MatchResult r
+    (λ _. (noted : Bool) × (f ≡ with_changed i f.work e) × (verdict ≡ Ok noted) × (next ≡ with_made true noted (made_at i e f) live))
+    (λ fault. (f ≡ e) × (verdict ≡ Err (splice_fault fault)) × (next ≡ live))
+
+abbrev PastedSo : Editor → Live → Editor → Live → Verdict → Result (Unit {0}) PasteFault → Type 0
+PastedSo e live f next verdict a = MatchResult a
+    (λ _. (noted : Bool) × (verdict ≡ Ok noted) × (next ≡ with_made (is_live live.name e.work.buffers.current e) noted (made_at e.work.buffers.current e f) live))
+    (λ fault. (verdict ≡ Err (of_paste fault)) × (next ≡ live))
+
+abbrev SplicesAt : ℕ → ℕ → ℕ → List ℕ → Editor → Live → Editor → Live → Verdict → Option ℕ → Type 0
+SplicesAt base lo hi put e live f next verdict None = (verdict ≡ Err Closed) × (f ≡ e) × (next ≡ live)
+SplicesAt base lo hi put e live f next verdict (Some i) = MatchBool (nat_eq base (change_count live.changes))
+    ((r : Result (Unit {0}) ActionFault) × RunsAt i (ReplaceRange lo hi put) 1 e.work (f.work, r) × SplicedSo i e live f next verdict r)
+    ((verdict ≡ Err Stale) × (f ≡ e) × (next ≡ live))
+
+abbrev read_well : Report → Result Report LineFault
+read_well told = Ok told
+
+abbrev read_badly : Result Report LineFault
+read_badly = Err line.Memory
+
+-- ---- what stands of a session then, and how each open buffer came to be
+
+module _ (name : List ℕ) (right : all_scalars name ≡ true) (s : Held) (e : Editor) where
+  pub record Came (ops : List Op) (f : Editor) (next : Live) : Type 0 where
+    pub stands : StandsSo name next.telling.untold f s
+    pub named : next.name ≡ name
+    pub each : (d : OpenState) → Contains f.work.buffers.all d → GoesOn ops e.work.buffers s d s
+
+  pub keeps_came : (ops : List Op) (f : Editor) (live next : Live) → KeepsUntold live next → Came ops f live → Came ops f next
+  keeps_came ops f live next keeps came = record {
+    stands = subst (λ (xs : List Op). StandsSo name xs f s) (sym keeps.untold) came.stands;
+    named = keeps.name ∙ came.named;
+    each = came.each;
+  }
+
+  -- the buffers are as they were
+  module _ (live : Live) (stands : StandsSo name live.telling.untold e s) (named : live.name ≡ name) where
+    here : (ops : List Op) → Came ops e live
+    here ops = record {
+      stands = stands;
+      named = named;
+      each = λ d c. record { b = d; was = c; steps = []; takes = tt; goes = (refl, refl) };
+    }
+
+    stays : (ops : List Op) (f : Editor) (next : Live) → f ≡ e → next ≡ live → Came ops f next
+    stays ops f next same still = subst (λ (g : Editor). Came ops g next) (sym same) (keeps_came ops e live next (untold_as live next still) (here ops))
+
+    stays_with : (ops : List Op) (f : Editor) (next : Live) → f ≡ e → KeepsUntold live next → Came ops f next
+    stays_with ops f next same keeps = subst (λ (g : Editor). Came ops g next) (sym same) (keeps_came ops e live next keeps (here ops))
+
+    -- they went on, and what was made is noted or not
+    went : (ops : List Op) (f : Editor) (next : Live) → AreKept f.work.buffers → HaveOwnNames f.work.buffers
+        → ((d : OpenState) → Contains f.work.buffers.all d → GoesOn ops e.work.buffers s d s)
+        → ((b : OpenState) → Contains e.work.buffers.all b → IsOpen b.buffer.name f.work.buffers)
+        → (StandsSo name live.telling.untold f s → StandsSo name next.telling.untold f s) → next.name ≡ live.name → Came ops f next
+    went ops f next later own each stay noted same =
+        let go : GoOn (encode_utf8_all name) e.work f.work s s = record {
+          each = λ d c. inl (ops, each d c);
+          removed = λ b c at none. absurd (none (subst (λ n. IsOpen n f.work.buffers) at (stay b c)));
+          spared = λ closed. refl;
+        } in
+        record { stands = noted (goes_on name live.telling.untold e f s s right stands later own go); named = same ∙ named; each = each }
+
+    -- ---- operations of others
+
+    taken : (ops : List Op) (i : ℕ) (f : Editor) (next : Live) → AreKept f.work.buffers → f ≡ taking i ops e
+        → ((d : OpenState) → Contains f.work.buffers.all d → GoesOn ops e.work.buffers s d s) → KeepsUntold live next → Came ops f next
+    taken ops i f next later same each keeps =
+        went ops f next later (taken_own i ops e f stands.own same) each (taken_stay i ops e f same)
+        (λ so. subst (λ (xs : List Op). StandsSo name xs f s) (sym keeps.untold) so) keeps.name
+
+    takes_one : (op : Op) (i : ℕ) (r : Result Taken Refusal) (f : Editor) (next : Live) → i < length e.work.buffers.all → AreKept f.work.buffers → TakesOperation op i e r f
+        → KeepsUntold live next → Came (op ∷ []) f next
+    takes_one op i (Ok known) f next there later takes keeps =
+        let answered : answer (state_at i e.work).limit (state_at i e.work).content op ≡ Ok known = sym (takes.exact (λ bad. absurd cc)) in
+        taken (op ∷ []) i f next later takes.left (one_taken_on i op known e f s there stands.kept.are later.are answered takes.left) keeps
+    takes_one op i (Err why) f next there later takes keeps = stays_with (op ∷ []) f next takes.left keeps
+
+    takes_list : (ops : List Op) (i : ℕ) (r : Result (Unit {0}) Refusal) (f : Editor) (next : Live) → i < length e.work.buffers.all → AreKept f.work.buffers → TakesList ops i e r f
+        → KeepsUntold live next → Came ops f next
+    takes_list ops i (Ok u) f next there later takes keeps =
+        let answered : list_answer (state_at i e.work).limit (state_at i e.work).content ops ≡ Ok tt = sym (takes.exact (λ bad. absurd cc)) in
+        taken ops i f next later takes.left (taken_on ops s i e f there later.are answered takes.left) keeps
+    takes_list ops i (Err why) f next there later takes keeps = stays_with ops f next takes.left keeps
+
+    module _ {A : Type 0} (ops : List Op) (Each : ℕ → Editor → Result A Refusal → Editor → Type 0) (f : Editor) (next : Live) (verdict : Verdict) (each : (i : ℕ) (r : Result A Refusal) → i < length e.work.buffers.all → Each i e r f → KeepsUntold live next → Came ops f next) where
+      abbrev AnsweredSo : Result A Refusal → Type 0
+      AnsweredSo r = MatchResult r (λ _. (verdict ≡ Ok true) × (next ≡ with_taken live)) (λ why. (verdict ≡ Err (Refused why)) × (next ≡ live))
+
+      answered : (i : ℕ) (r : Result A Refusal) → i < length e.work.buffers.all → Each i e r f → AnsweredSo r → Came ops f next
+      answered i (Ok a) there takes (told, is) = each i (Ok a) there takes (record { untold = ap (λ (l : Live). l.telling.untold) is; name = ap (λ (l : Live). l.name) is })
+      answered i (Err why) there takes (told, is) = each i (Err why) there takes (untold_as live next is)
+
+      abbrev OthersAt : Option ℕ → Type 0
+      OthersAt None = (verdict ≡ Err Closed) × (f ≡ e) × (next ≡ live)
+      OthersAt (Some i) = MatchBool (list_any (is_far (clock_at i e)) ops)
+          ((verdict ≡ Err Far) × (f ≡ e) × (next ≡ live))
+          ((r : Result A Refusal) × Each i e r f × AnsweredSo r)
+
+      others_at : (o : Option ℕ) → live_index live.name e ≡ o → OthersAt o → Came ops f next
+      others_at None at (told, same, is) = stays ops f next same is
+      others_at (Some i) at takes =
+          let there = (found_so live.name e.work.buffers i stands.kept.named at).within in
+          by_far (list_any (is_far (clock_at i e)) ops) there takes
+        where
+          by_far : (far : Bool) → i < length e.work.buffers.all
+              → MatchBool far ((verdict ≡ Err Far) × (f ≡ e) × (next ≡ live)) ((r : Result A Refusal) × Each i e r f × AnsweredSo r) → Came ops f next
+          by_far true there (told, same, is) = stays ops f next same is
+          by_far false there (r, takes, so) = answered i r there takes so
+
+      others : TakesOthers ops Each e live verdict f next → Came ops f next
+      others takes = others_at (live_index live.name e) refl takes
+
+    -- ---- pasted text, and splices
+
+    pastes : (put : List ℕ) (f : Editor) (next : Live) (verdict : Verdict) → AreKept f.work.buffers → Pastes put e live verdict f next → Came [] f next
+    pastes put f next verdict later (r, pasted, came) = by r refl came
+      where
+        pasted_so : (StandsSo name live.telling.untold f s → StandsSo name next.telling.untold f s) → next.name ≡ live.name → Came [] f next
+        pasted_so noted same =
+            went [] f next later (pasted_own put e f r stands.own pasted) (pasted_on [] s put e f r stands.kept.are later.are pasted)
+            (pasted_stay put e f r pasted) noted same
+
+        by : (a : Result (Unit {0}) PasteFault) → r ≡ a → PastedSo e live f next verdict a → Came [] f next
+        by (Ok u) at (noted, told, is) =
+            let current = e.work.buffers.current in
+            pasted_so
+            (λ so. record {
+              kept = so.kept;
+              own = so.own;
+              logged = so.logged;
+              safe = subst (λ (l : Live). AreSafe (encode_utf8_all name) l.telling.untold f.work.buffers s) (sym is)
+                  (made_safe name s f so.own later.named so.logged (is_live live.name current e) noted e current live stands.kept.named
+                  (λ there. live_there name current e (subst (λ n. is_live n current e ≡ true) named there)) (λ count. paste_same put e f r pasted) so.safe);
+            })
+            (ap (λ (l : Live). l.name) is)
+        by (Err fault) at (told, is) =
+            pasted_so (λ so. subst (λ (l : Live). StandsSo name l.telling.untold f s) (sym is) so) (ap (λ (l : Live). l.name) is)
+
+    spliced : (base lo hi : ℕ) (put : List ℕ) (i : ℕ) (r : Result (Unit {0}) ActionFault) (f : Editor) (next : Live) (verdict : Verdict) → live_index live.name e ≡ Some i
+        → AreKept f.work.buffers → RunsAt i (ReplaceRange lo hi put) 1 e.work (f.work, r) → SplicedSo i e live f next verdict r → Came [] f next
+    spliced base lo hi put i (Ok u) f next verdict at later did (noted, same, told, is) =
+        let there = (found_so live.name e.work.buffers i stands.kept.named at).within in
+        went [] f next later (spliced_own i (ReplaceRange lo hi put) 1 e f (Ok u) stands.own did) (spliced_on [] s i (ReplaceRange lo hi put) 1 e f (Ok u) there later.are did)
+        (spliced_stay i (ReplaceRange lo hi put) 1 e f (Ok u) did)
+        (λ so. record {
+          kept = so.kept;
+          own = so.own;
+          logged = so.logged;
+          safe = subst (λ (l : Live). AreSafe (encode_utf8_all name) l.telling.untold f.work.buffers s) (sym is)
+              (made_safe name s f so.own later.named so.logged true noted e i live stands.kept.named
+              (λ _. subst (λ n. live_index n e ≡ Some i) named at) (λ count. run_same i (ReplaceRange lo hi put) 1 e.work f.work (Ok u) did) so.safe);
+        })
+        (ap (λ (l : Live). l.name) is)
+    spliced base lo hi put i (Err fault) f next verdict at later did (same, told, is) = stays [] f next same is
+
+    splices : (base lo hi : ℕ) (put : List ℕ) (f : Editor) (next : Live) (verdict : Verdict) → AreKept f.work.buffers → Splices base lo hi put e live verdict f next → Came [] f next
+    splices base lo hi put f next verdict later takes = by (live_index live.name e) refl takes
+      where
+        by_base : (i : ℕ) (same : Bool) → live_index live.name e ≡ Some i
+            → MatchBool same
+            ((r : Result (Unit {0}) ActionFault) × RunsAt i (ReplaceRange lo hi put) 1 e.work (f.work, r) × SplicedSo i e live f next verdict r)
+            ((verdict ≡ Err Stale) × (f ≡ e) × (next ≡ live)) → Came [] f next
+        by_base i true at (r, did, so) = spliced base lo hi put i r f next verdict at later did so
+        by_base i false at (told, same, is) = stays [] f next same is
+
+        by : (o : Option ℕ) → live_index live.name e ≡ o → SplicesAt base lo hi put e live f next verdict o → Came [] f next
+        by None at (told, same, is) = stays [] f next same is
+        by (Some i) at it = by_base i (nat_eq base (change_count live.changes)) at it
+
+    sized : (rows columns : ℕ) (f : Editor) (next : Live) → AreKept f.work.buffers → f ≡ resized rows columns e → next ≡ live → Came [] f next
+    sized rows columns f next later same is =
+        let all : f.work.buffers.all ≡ e.work.buffers.all = ap (λ (g : Editor). g.work.buffers.all) same in
+        let own : HaveOwnNames f.work.buffers = subst (λ (g : Editor). HaveOwnNames g.work.buffers) (sym same) stands.own in
+        went [] f next later own
+        (λ d c. record { b = d; was = subst (λ (l : List OpenState). Contains l d) all c; steps = []; takes = tt; goes = (refl, refl) })
+        (λ b c. (b, subst (λ (l : List OpenState). Contains l b) (sym all) c, refl))
+        (λ so. subst (λ (l : Live). StandsSo name l.telling.untold f s) (sym is) so) (ap (λ (l : Live). l.name) is)
+
+  -- a piece of text, with what is held of it
+  piece_taken : (Each : List ℕ → Editor → Live → Verdict → Editor → Live → Type 0) (piece : Piece) (live : Live) (f : Editor) (next : Live) (verdict : Verdict)
+      → StandsSo name live.telling.untold e s → live.name ≡ name → ((put : List ℕ) → Each put e live verdict f next → Came [] f next)
+      → TakesPiece piece Each e live verdict f next → Came [] f next
+  piece_taken Each Waits live f next verdict stands named each (told, same, is) = stays live stands named [] f next same is
+  piece_taken Each (Dropped fault) live f next verdict stands named each (told, same, is) = stays live stands named [] f next same is
+  piece_taken Each (Whole put) live f next verdict stands named each taken = each put taken
+
+  module _ (live : Live) (stands : StandsSo name live.telling.untold e s) (named : live.name ≡ name) (f : Editor) (next : Live) (verdict : Verdict) (later : AreKept f.work.buffers) where
+    takes : (told : Report) → Takes told e live verdict f next → Came (operations_of told) f next
+    takes (report.One op) it = others live stands named (op ∷ []) (TakesOperation op) f next verdict (λ i r there. takes_one live stands named op i r f next there later) it
+    takes (report.Run run) (inl (told, same, is)) = stays live stands named (stretch_operations run) f next same is
+    takes (report.Run run) (inr it) =
+        others live stands named (stretch_operations run) (TakesList (stretch_operations run)) f next verdict
+        (λ i r there. takes_list live stands named (stretch_operations run) i r f next there later) it
+    takes (report.Deletions run) (inl (told, same, is)) = stays live stands named (run_deletions run) f next same is
+    takes (report.Deletions run) (inr it) =
+        others live stands named (run_deletions run) (TakesList (run_deletions run)) f next verdict
+        (λ i r there. takes_list live stands named (run_deletions run) i r f next there later) it
+    takes (report.Paste text more) (held, piece, gathers, it) =
+        piece_taken Pastes piece (record live { paste = held }) f next verdict stands named (λ put. pastes (record live { paste = held }) stands named put f next verdict later) it
+    takes (report.Splice base lo hi text more) (held, piece, gathers, it) =
+        piece_taken (Splices base lo hi) piece (record live { splice = held }) f next verdict stands named
+        (λ put. splices (record live { splice = held }) stands named base lo hi put f next verdict later) it
+    takes (report.Size rows columns) (told, same, is) = sized live stands named rows columns f next later same is
+    takes (report.Places places) (told, same, is) =
+        stays_with live stands named [] f next same (record { untold = ap (λ (l : Live). l.telling.untold) is; name = ap (λ (l : Live). l.name) is })
+    takes report.Rest (told, same, is) =
+        stays_with live stands named [] f next same (record { untold = ap (λ (l : Live). l.telling.untold) is; name = ap (λ (l : Live). l.name) is })
+
+  -- ---- the line of a report
+
+  module _ (live : Live) (stands : StandsSo name live.telling.untold e s) (named : live.name ≡ name) (f : Editor) (next : Live) (after : Course) (later : AreKept f.work.buffers) where
+    reported : (told : Report) → TakesReport told e (counted live) f next after → Came (operations_of told) f next
+    reported told (verdict, between, taken, follows) =
+        keeps_came (operations_of told) f between next (follows_keep verdict between next after follows)
+        (takes (counted live) stands named f between verdict later told taken)
+
+    pub line_came : (bytes : List ℕ) → TakesLine bytes e live f next after → Came (operations_at bytes) f next
+    line_came bytes (r, exact, taken) = by r refl taken
+      where
+        by : (read : Result Report LineFault) → r ≡ read
+            → MatchResult read (λ told. TakesReport told e (counted live) f next after) (λ fault. (f ≡ e) × RefusesReport (Line fault) On (counted live) next after)
+            → Came (operations_at bytes) f next
+        by (Ok told) at it =
+            let is : report_at bytes ≡ Ok told = sym (exact (λ bad. clash told at bad)) ∙ at in
+            subst (λ (x : Result Report LineFault). Came (operations_read x) f next) (sym is) (reported told it)
+          where
+            clash : (told : Report) → r ≡ Ok told → r ≡ Err line.Memory → ⊥
+            clash told at bad = let both : read_well told ≡ read_badly = sym at ∙ bad in absurd cc
+        by (Err fault) at (same, so) =
+            let keeps = refused_keeps (Line fault) On (counted live) next after so in
+            stays_with live stands named (operations_at bytes) f next same (record { untold = keeps.untold; name = keeps.name })
