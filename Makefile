@@ -19,7 +19,7 @@ NEED_RT = command -v rt >/dev/null || { \
 
 NEED_PYTHON = command -v python3 >/dev/null || { echo "python3 is not installed" >&2; exit 1; }
 
-.PHONY: build try scenes test-front try-live try-hub try-exchange try-sharing crash hostile files test wrong-bodies other-store contracts bench bench-growth install clean help
+.PHONY: build try scenes test-front try-live try-hub try-exchange try-sharing try-engines crash hostile files test wrong-bodies other-store contracts bench bench-growth install clean help
 
 build: build/mgr
 	@echo "build/mgr is up to date"
@@ -55,6 +55,10 @@ try-exchange: build/mgr
 # The ways to share a note that need no exchange: git, sync tools, one plain text.
 try-sharing: build/mgr
 	@scripts/try_sharing.py build/mgr
+
+# Four who write in one note by a folder, a branch of git, a stream of Redis, each disturbed. It takes some three minutes.
+try-engines: build/mgr
+	@scripts/try_engines.py build/mgr
 
 # Saves, compactions, merges and mends that are killed at each call of the system, by strace.
 crash: build/mgr
@@ -113,15 +117,16 @@ build/generate build/native: build/%: bench/%.rs
 	@rustc --edition 2021 -O -o $@ $<
 
 install: build/mgr
-	mkdir -p "$(DESTDIR)$(BINDIR)" "$(DESTDIR)$(MANDIR)/man1" "$(DESTDIR)$(DATADIR)/mgr_front" \
+	mkdir -p "$(DESTDIR)$(BINDIR)" "$(DESTDIR)$(MANDIR)/man1" "$(DESTDIR)$(DATADIR)/mgr_front/channels" \
 		"$(DESTDIR)$(DOCDIR)" "$(DESTDIR)$(COMPDIR)"
 	rm -f "$(DESTDIR)$(BINDIR)/mgr" "$(DESTDIR)$(BINDIR)/mgr-live" "$(DESTDIR)$(BINDIR)/mgr-hub"
 	cp build/mgr "$(DESTDIR)$(BINDIR)"
 	for program in mgr-live mgr-hub; do \
 		sed 's|^INSTALLED = .*|INSTALLED = "$(DATADIR)"|' front/$$program >"$(DESTDIR)$(BINDIR)/$$program" && \
 		chmod 755 "$(DESTDIR)$(BINDIR)/$$program" || exit 1; done
-	rm -f "$(DESTDIR)$(DATADIR)/mgr_front"/*.py
+	rm -f "$(DESTDIR)$(DATADIR)/mgr_front"/*.py "$(DESTDIR)$(DATADIR)/mgr_front"/channels/*.py
 	cp front/mgr_front/*.py "$(DESTDIR)$(DATADIR)/mgr_front"
+	cp front/mgr_front/channels/*.py "$(DESTDIR)$(DATADIR)/mgr_front/channels"
 	cp docs/mgr.1 docs/mgr-live.1 "$(DESTDIR)$(MANDIR)/man1"
 	ln -sf mgr-live.1 "$(DESTDIR)$(MANDIR)/man1/mgr-hub.1"
 	cp docs/guide.md docs/commands.md "$(DESTDIR)$(DOCDIR)"
@@ -145,6 +150,9 @@ help:
 	@echo "make try-sharing"
 	@echo "               shares a note by git, by a sync tool and from one plain text, and shows what two edits of one"
 	@echo "               word become (needs python3 and git); examples/git/README says how to share by git"
+	@echo "make try-engines"
+	@echo "               has four write in one note by a folder, a branch of git and a stream of Redis, which are away, emptied"
+	@echo "               or put back meanwhile (needs python3; git; redis-server and python3-redis)"
 	@echo "make test      looks up each name in the documents, proves all that the kit does not have as proved, runs every"
 	@echo "               test and plays every scene; the last line counts all (needs python3)"
 	@echo "make scenes    plays the scenes with the mgr that make built; those of one file: make scenes FILE=scenes/.."

@@ -35,7 +35,7 @@ _mgr() {
     local word=${COMP_WORDS[COMP_CWORD]} before=${COMP_WORDS[COMP_CWORD - 1]}
     COMPREPLY=()
     # Of a value nothing is known. bash takes = and : as words of their own.
-    if [[ $before == @(--replica|--rows|--cols|--fill|--port|--with|=|:) || $word == [=:] ]]; then
+    if [[ $before == @(--replica|--rows|--cols|--fill|--port|--with|--as|=|:) || $word == [=:] ]]; then
         return
     fi
     # `who --lines` takes no value.
@@ -44,10 +44,10 @@ _mgr() {
     fi
     case ${1##*/} in
         mgr-live)
-            _mgr_word "$word" --replica --fill --port --with --take-file --keep-file --no-autosave --version --help
+            _mgr_word "$word" --replica --fill --port --with --as --adopt --take-file --keep-file --version --help
             ;;
         mgr-hub)
-            _mgr_word "$word" --port --replica --version --help
+            _mgr_word "$word" --port --join --replica --version --help
             ;;
         *)
             if ((COMP_CWORD == 1)); then

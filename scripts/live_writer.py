@@ -106,7 +106,7 @@ class Writer:
 
     def __init__(self, mgr, folder, replica):
         self.mgr, self.folder, self.replica = mgr, folder, replica
-        folder.mkdir()
+        folder.mkdir(exist_ok=True)
         self.log = folder / f"{NAME}.ops"
         # All operations that were told, and lines that nobody was handed yet.
         self.told, self.news = {}, []

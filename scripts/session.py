@@ -14,8 +14,7 @@ import time
 
 sys.path.insert(0, str(pathlib.Path(__file__).resolve().parent.parent / "front"))
 
-from mgr_front.relay import HOST, free_port  # noqa: E402, F401 (for the scripts)
-from play.peers import listens  # noqa: E402
+from play.peers import HOST, free_port, listens  # noqa: F401 (for the scripts)
 
 ROWS, COLUMNS = 6, 60
 SECONDS = 120

@@ -128,13 +128,16 @@ class Terminal:
             time.sleep(0.02)
 
     def see(self, what, rows, place=None, seconds=SECONDS):
-        """Waits for rows, by their numbers, and for this place of the cursor; says what was seen."""
+        """Waits for rows, by their numbers, and for this place of the cursor; says what was seen.
+
+        Whether a mode line says that its buffer is changed is not looked at: that ends by itself.
+        """
 
         def look():
             shown = self.shown()
-            return {i: shown[i] for i in rows}, place and self.cursor()
+            return {i: unmarked(shown[i]) for i in rows}, place and self.cursor()
 
-        self.expect(what, look, (rows, place), seconds)
+        self.expect(what, look, ({i: unmarked(row) for i, row in rows.items()}, place), seconds)
         print(f"{what}: " + ("; ".join(row for row in rows.values() if row) or f"cursor at {place}"))
 
     def left(self, what, *said):
@@ -158,6 +161,11 @@ class Terminal:
         path = self.folder / name
         self.expect(f"the file {name}", lambda: path.read_bytes().decode() if path.exists() else None, wanted)
         print(f"    {name}: {wanted!r}")
+
+
+def unmarked(row):
+    """Returns a row as if its buffer were not changed."""
+    return row.replace("-**-Mg: ", "----Mg: ", 1) if row.startswith("-**-Mg: ") else row
 
 
 def mode_line(mark, place, name="notes", columns=COLUMNS, waiting=0):

@@ -85,7 +85,7 @@ class Copy:
         """
         numbers, written = self.kept["numbers"], log.written if log else {}
         if numbers and written.get(numbers[-1], 0) >= max(1, self.kept["written"]):
-            return numbers[-1]
+            return int(numbers[-1])
         return self.new_number(log)
 
     def new_number(self, log: Log | None) -> int:
@@ -106,4 +106,4 @@ class Copy:
 
     def is_merged(self, text: bytes, log: Log) -> bool:
         """Whether the text is that of the last edit, and the log only grew since, as in a merge."""
-        return digest(text) == self.kept["text"] and log.operations >= self.kept["operations"]
+        return bool(digest(text) == self.kept["text"] and log.operations >= self.kept["operations"])

@@ -13,7 +13,7 @@ from mgr_front.keys import Meta, Named, Pasted, Stroke, Typed
 from mgr_front.minibuffer import Question, ask_for_line
 from mgr_front.statuses import PLAIN, PROMPT, QUERY
 
-REPAINT, SUSPEND = 0x0C, 0x1A
+LEAVE, REPAINT, SUSPEND = 0x03, 0x0C, 0x1A
 # Keys that the front looks at, besides the one that erases.
 SPECIAL = bytes([SUSPEND, ESCAPE, CONTROL_X, TAB, RETURN])
 
@@ -38,6 +38,9 @@ class Desk(Protocol):
 
     def answer(self, byte: int) -> None:
         """Takes a key of the answer to what is asked."""
+
+    def leave(self) -> None:
+        """Has all be saved, and leaves."""
 
     def complete(self) -> None:
         """Completes the answer of the open prompt."""
@@ -92,11 +95,6 @@ class Dispatcher:
         self.strokes.clear()
         self.prefix = b""
         return keys
-
-    @property
-    def is_idle(self) -> bool:
-        """Whether no stroke waits and none is begun."""
-        return not self.strokes and not self.prefix
 
     def _is_clear(self, stroke: Stroke, desk: Desk) -> bool:
         """Whether it is known what a stroke does."""
@@ -159,6 +157,8 @@ class Dispatcher:
             desk.start(kill_word_backward())
         elif not is_meta and byte == ord("g"):
             desk.ask(ask_for_line())
+        elif not is_meta and byte == LEAVE:
+            desk.leave()
         elif not is_meta and byte == SUSPEND:
             desk.suspend()
         else:

@@ -1,16 +1,21 @@
 """A live `mgr edit` that runs: keys and reports go in, statuses come out, and nothing here waits for either."""
 
+import math
 import os
 import re
+import select
 import subprocess
-from collections.abc import Iterator, Sequence
+import time
+from collections.abc import Callable, Iterator, Sequence
 from typing import IO
 
 from mgr_front.program import COLUMNS
 from mgr_front.signals import held_back
-from mgr_front.statuses import COMMAND, PLAIN, Status, Statuses
+from mgr_front.statuses import COMMAND, Status, Statuses
 
 BLOCK = 65536
+# Seconds for which it is waited at once: who waits may have something else to do.
+LOOK = 1.0
 # How many rows the screen of mgr may have.
 LEAST_ROWS, MOST_ROWS = 3, 200
 
@@ -41,12 +46,17 @@ class Talk:
         self.untold += keys
         self.last = (self.last + keys)[-2:]
 
+    def report(self, line: bytes) -> int:
+        """Has a report wait, wherever it stands among the keys, and returns its number."""
+        self.waiting += REPORT + line + b"\n"
+        self.reports += 1
+        return self.reports
+
     def resize(self, rows: int) -> None:
         """Gives the screen so many rows."""
         if rows != self.rows:
             self.rows = rows
-            self.waiting += REPORT + b'{"cols":%d,"op":"size","rows":%d}\n' % (COLUMNS, rows)
-            self.reports += 1
+            self.report(b'{"cols":%d,"op":"size","rows":%d}' % (COLUMNS, rows))
 
     def note(self, status: Status) -> None:
         """Takes note of a status."""
@@ -64,13 +74,13 @@ class Talk:
 
     @property
     def is_settled(self) -> bool:
-        """Whether all keys and reports are answered."""
-        return not self.untold and self.reports == self.status.reports
+        """Whether all keys are answered."""
+        return not self.untold and self.status.reports >= 0
 
     @property
-    def is_at_rest(self) -> bool:
-        """Whether nothing is awaited, asked or begun."""
-        return self.is_settled and not self.status.begun and self.status.mode == PLAIN
+    def is_answered(self) -> bool:
+        """Whether all keys and reports are answered."""
+        return self.is_settled and self.reports == self.status.reports
 
 
 class Editor(Talk):
@@ -117,14 +127,37 @@ class Editor(Talk):
     def has_ended(self) -> bool:
         return self.process.poll() is not None
 
-    def end(self, seconds: float) -> None:
-        """Gives mgr all keys that wait and then the end of them, and waits for its end.
+    def end(self, seconds: float = math.inf, take: Callable[[Status], object] = id) -> bool:
+        """Gives mgr what waits and then the end of the keys, and waits until it has saved and ended.
 
-        One that takes longer is ended.
+        Answers whether it has within so many seconds; it may be asked again. `take` is given its last statuses.
         """
-        os.set_blocking(self.keys, True)
-        try:
-            self.process.communicate(bytes(self.waiting), timeout=seconds)
-        except subprocess.TimeoutExpired:
-            self.process.kill()
-            self.process.communicate()
+        until = time.monotonic() + seconds
+        while (left := until - time.monotonic()) > 0:
+            if not self.waiting and self.process.stdin:
+                self.process.stdin.close()
+                self.process.stdin = None
+            writing = [self.keys] * bool(self.waiting)
+            ready, free, _ = select.select([self.written], writing, [], min(left, LOOK))
+            try:
+                if free:
+                    self.write()
+                for status in self.read() if ready else ():
+                    take(status)
+            except BrokenPipeError:
+                self.waiting.clear()
+            except EOFError:
+                self._close()
+                return True
+        return False
+
+    def kill(self) -> None:
+        """Ends a mgr that does nothing any more."""
+        self.process.kill()
+        self._close()
+
+    def _close(self) -> None:
+        self.process.wait()
+        for pipe in (self.process.stdin, self.process.stdout):
+            if pipe:
+                pipe.close()

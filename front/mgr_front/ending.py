@@ -1,40 +1,53 @@
-"""The end of an edit, whatever brought it: what was typed is taken, and what is changed is saved."""
+"""The end of an edit, whatever brought it: what was typed is taken, mgr saves it, and others are told."""
 
 from mgr_front.keys import NO_KEY
 from mgr_front.notes import Note, keep_keys
-from mgr_front.saving import ACCEPT, CANCEL, SAVE, save_all
+from mgr_front.saving import ACCEPT, CANCEL, SAVE
 from mgr_front.saying import tell
-from mgr_front.session import Session
+from mgr_front.session import UNSAVED, Session
 
-# The seconds that mgr has for its end once it has all keys, and where it does nothing any more.
-LAST_SECONDS, GIVEN_UP = 10, 1
+# Seconds until it is said what is waited for, and that others have to take what was told last.
+PATIENCE, LAST = 5.0, 2.0
 
 
 def finish(session: Session, note: Note) -> None:
-    """Has mgr take all keys that were typed and save each changed buffer, and waits for its end.
+    """Has mgr take all keys that were typed and save each buffer, for as long as that takes.
 
-    Says which buffer could not be saved, and where the keys are that mgr did not take.
+    Says what could not be saved, and where the keys are that mgr did not take.
     """
     editor = session.editor
-    failed: list[str] = []
-    seconds = LAST_SECONDS
+    takes = True
     try:
-        if not editor.has_ended and not session.conclude(save_all(failed)):
-            seconds = GIVEN_UP
+        takes = editor.has_ended or session.conclude()
+        if not takes:
             _keep_keys(session, note)
     except BaseException:
         # Whatever it was: mgr gets what it did not get yet, and saves what it shows.
-        editor.hand_on(session.dispatcher.give_up() + bytes([NO_KEY]) + CANCEL + SAVE)
+        editor.hand_on(session.dispatcher.give_up() + bytes([NO_KEY]) + CANCEL)
         raise
     finally:
-        editor.end(seconds)
+        if not takes:
+            editor.kill()
+        elif not editor.end(PATIENCE, session.note):
+            tell(f"mgr saves {note.name}: this waits for it")
+            editor.end(take=session.note)
+        _leave(session)
     session.note_kept()
-    for said in [*session.put_aside, *(f"{name} was not saved: File fault" for name in failed)]:
+    for said in session.put_aside:
         tell(said)
 
 
+def _leave(session: Session) -> None:
+    """Leaves the others, once they took what was told last, and says what is not well."""
+    company = session.company
+    if company and not company.channel.close(LAST) and company.state.word == "live":
+        tell("others get the last changes at the next start")
+    if session.editor.status.saved in UNSAVED:
+        tell(UNSAVED[session.editor.status.saved])
+
+
 def _keep_keys(session: Session, note: Note) -> None:
-    """Keeps the keys that a mgr did not take which does nothing any more, as one that waits for a peer."""
+    """Keeps the keys that a mgr did not take which waits for a peer."""
     keys = bytes(session.editor.untold)
     if session.editor.command:
         _, _, keys = keys.partition(ACCEPT)

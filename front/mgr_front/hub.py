@@ -1,185 +1,278 @@
-"""The program mgr-hub: a note that peers exchange with, one after another."""
+"""The program mgr-hub: a note in which many write at the same time, each with a copy of their own."""
 
 import os
-import re
 import select
 import socket
-import subprocess
 import sys
 import tempfile
 import time
+from collections import deque
 from collections.abc import Callable, Sequence
+from concurrent.futures import ThreadPoolExecutor
+from functools import partial
+from typing import Any
 
-from mgr_front.copies import Copy
+from mgr_front import meeting
+from mgr_front.copies import Copy, digest
 from mgr_front.editor import Editor
-from mgr_front.live_exchange import CONFLICT, SERVE
-from mgr_front.notes import KeptFiles, Note, Refused, read
+from mgr_front.guests import take_back
+from mgr_front.mailbox import Mailbox
+from mgr_front.notes import KeptFiles, Note, Refused
 from mgr_front.opening import differ, mend
 from mgr_front.options import HubOptions, read_hub
-from mgr_front.program import explained, find, log_of, shell_status
-from mgr_front.relay import HOST, SILENCE, hear_out, held_port, knock, port_of, pump
-from mgr_front.saving import SAVE
+from mgr_front.peers import Peer, listener_at
+from mgr_front.program import edit, explained, find, log_of, shell_status
+from mgr_front.saving import REST, SAVE
 from mgr_front.saying import FAILED, stop, tell
 from mgr_front.screen import write_all
+from mgr_front.shared import SharedNote
 from mgr_front.signals import Signals
+from mgr_front.statuses import Status
+from mgr_front.wire import ALIVE, VERSION, Broken, claims_said, with_ends
 
 PROGRAM = "mgr-hub"
 ROWS = 3
-# Seconds between two tries to reach a mgr that is about to wait, and that it has for its end.
-AGAIN, LAST_SECONDS = 0.005, 10
-# Seconds that a peer has for what it still says once mgr has ended the exchange: others wait.
-REST = 20.0
-# How many connections may wait for their turn.
-BACKLOG = 64
-BEGIN = b"\x1bx" + SERVE.encode() + b"\r"
-REFUSED_LINE = re.compile(rb": line (\d+): Conflict$")
-
-
-def line_of(lines: bytes, number: int | bytes) -> bytes:
-    """Returns a line by its number, from 1."""
-    return b"".join(lines.split(b"\n")[int(number) - 1 : int(number)]) + b"\n"
-
-
-def conflicting(mgr: str, log: str, line: bytes) -> bytes:
-    """Returns the line of a log that is in conflict with one that a peer said, as mgr tells it.
-
-    Sent to the peer it says there what is wrong: else the one that connected would be told nothing.
-    """
-    joined = subprocess.run([mgr, "join", "--", "-", log], input=line, capture_output=True)
-    told = REFUSED_LINE.search(joined.stderr)
-    return line_of(read(log), told[1]) if told else b""
+# So many bytes are given to mgr at once, of one peer after another.
+MOST_GIVEN = 16384
+MOST_PEERS = 200
+# Seconds between two savings, and until mgr is said to save at the end.
+REST_AFTER, PATIENCE = 1.0, 5.0
+CONFLICT = "conflict: two characters have one name; copies of both do not become one"
 
 
 class Hub:
-    """A mgr that serves peers, and the port at which they are met."""
+    """A mgr that has the note, and all who write in it."""
 
-    def __init__(self, editor: Editor, note: Note, listener: socket.socket, inner: int, signals: Signals) -> None:
-        """`inner` is the port at which mgr itself waits."""
-        self.editor, self.note, self.inner = editor, note, inner
-        self.listener, self.signals = listener, signals
+    def __init__(self, editor: Editor, note: SharedNote, listeners: Sequence[socket.socket], signals: Signals) -> None:
+        self.editor, self.note, self.listeners, self.signals = editor, note, listeners, signals
+        self.peers: dict[int, Peer] = {}
+        # What mgr was given of whom, by the numbers of reports, and what it took and has not saved.
+        self.given: deque[tuple[int, Peer, bytes]] = deque()
+        self.unsaved: list[bytes] = []
+        self.saving: tuple[int, int] | None = None
+        self.fails = False
+        self.rested = self.signed = time.monotonic()
+        # What programs that look at the log answer, each for a peer.
+        self.pool = ThreadPoolExecutor(2)
+        self.answers: Mailbox[Callable[[], None]] = Mailbox()
         self.kept = KeptFiles()
+        self.kept.since(note.name)
 
     def run(self) -> None:
-        """Serves peers until a signal comes, and saves; `EOFError` where mgr ends before."""
-        self.kept.since(self.note.name)
+        """Goes on until a signal comes; `EOFError` if mgr ends before."""
         while self.signals.first is None:
-            peer = self._next_peer()
-            if peer:
-                with peer:
-                    self._serve(peer)
-        self.editor.hand_on(SAVE)
+            self._step()
+        for peer in self.peers.values():
+            peer.link.close()
+        while any(peer.lines for peer in self.peers.values()):
+            self._feed(MOST_GIVEN)
 
-    def _next_peer(self) -> socket.socket | None:
-        """Waits for a peer; None where a signal comes.
-
-        mgr reads keys meanwhile. So it ends with this program, whatever ends that, and nobody has the
-        note open then.
-        """
-        while self.signals.first is None:
-            ready, _, _ = select.select([self.listener, self.signals.woken, self.editor.written], [], [])
-            if self.editor.written in ready:
-                self._read()
-            if self.listener in ready:
-                return self.listener.accept()[0]
-        return None
-
-    def _serve(self, peer: socket.socket) -> None:
-        """Passes a peer on to mgr, and prints what came of it."""
-        heard: list[bytes] = []
-        peer.settimeout(SILENCE)
-        said = self._exchange(peer, heard.append)
-        log(said)
-        for kept in self.kept.since(self.note.name):
-            log(f"saved, and {kept}")
-        if told := CONFLICT.match(said):
-            line = line_of(b"".join(heard), int(told[1]))
-            self._tell_peer(peer, conflicting(self.editor.program, self.note.log, line))
-
-    def _tell_peer(self, peer: socket.socket, line: bytes) -> None:
-        """Sends a peer a line, once it has said all: it hears nothing before."""
-        try:
-            hear_out(peer, self.signals.woken, REST)
-            peer.sendall(line)
-        except OSError:
-            pass  # It is gone, or takes too long.
-
-    def _exchange(self, peer: socket.socket, note: Callable[[bytes], object]) -> str:
-        """Has mgr exchange with a peer, whose words are noted, and returns what came of it."""
-        self.editor.hand_on(BEGIN)
-        try:
-            mgr = self._reach()
-            if isinstance(mgr, str):
-                return mgr
-            with mgr:
-                pump(peer, mgr, note, self.signals.woken)
-        except OSError:
-            pass  # mgr says what came of it.
-        return self._outcome()
-
-    def _reach(self) -> socket.socket | str:
-        """Returns a connection to mgr, once it waits, or what it says where it does not come to that."""
-        end = time.monotonic() + SILENCE
-        while True:
-            said = self._hear(AGAIN)
-            if said is not None:
-                return said
-            try:
-                return socket.create_connection((HOST, self.inner), SILENCE)
-            except ConnectionRefusedError:
-                if time.monotonic() > end:
-                    raise
-
-    def _hear(self, seconds: float) -> str | None:
-        """Gives mgr the keys that wait, and returns what it says of an exchange, where it does so in time."""
-        writing = [self.editor.keys] * bool(self.editor.waiting)
-        ready, free, _ = select.select([self.editor.written], writing, [], seconds)
-        if free:
+    def _step(self) -> None:
+        """Waits for what is ready, and does that; nobody is waited for."""
+        heard = [number for number, peer in self.peers.items() if peer.is_heard]
+        reading = [self.signals.woken, self.editor.written, self.answers.woken, *self.listeners, *heard]
+        writing = [number for number, peer in self.peers.items() if peer.has_more]
+        writing += [self.editor.keys] * bool(self.editor.waiting)
+        ready, free, _ = select.select(reading, writing, [], self._patience())
+        if self.editor.keys in free:
             self.editor.write()
-        return self._read() if ready else None
+        if self.editor.written in ready:
+            for status in self.editor.read():
+                self._note(status)
+        for answer in self.answers.take() if self.answers.woken in ready else ():
+            answer()
+        for listener in self.listeners:
+            if listener in ready:
+                self._accept(listener)
+        for number, peer in list(self.peers.items()):
+            if self.peers.get(number) is peer:
+                self._serve(peer, number in ready, number in free)
+        self._work()
 
-    def _outcome(self) -> str:
-        """Waits until mgr says what came of an exchange, and returns that."""
-        while True:
-            if select.select([self.editor.written], [], [], SILENCE)[0]:
-                said = self._read()
-                if said is not None:
-                    return said
+    def _patience(self) -> float:
+        """Returns after how many seconds something is to be done, whatever happens."""
+        return REST_AFTER if self.unsaved or self.peers else ALIVE
+
+    def _accept(self, listener: socket.socket) -> None:
+        link, _ = listener.accept()
+        if len(self.peers) < MOST_PEERS:
+            self.peers[link.fileno()] = Peer(link)
+        else:
+            link.close()
+
+    def _serve(self, peer: Peer, is_ready: bool, is_free: bool) -> None:
+        """Reads of a peer and writes to it what can be now; one that breaks is left."""
+        try:
+            if is_free:
+                peer.write()
+            for told in peer.take() if is_ready and not peer.is_cut else ():
+                self._hear(peer, told)
+            if peer.is_behind:
+                peer.drop()
+            peer.check(time.monotonic())
+            if peer.is_cut and not peer.has_more:
+                raise Broken("")
+        except OSError as error:
+            self._drop(peer, str(error.strerror or error))
+
+    def _drop(self, peer: Peer, why: str) -> None:
+        """Leaves a peer. What came of it whole is still taken."""
+        del self.peers[peer.reading]
+        peer.link.close()
+        if peer.is_known and (peer.is_leaving or not peer.is_cut):
+            log(f"{peer.title} left" + f": {why}" * (why != "" and not peer.is_leaving))
+        while peer.lines:
+            self._give(peer)
+
+    def _hear(self, peer: Peer, told: dict[str, Any]) -> None:
+        """Does what a peer asks for."""
+        if not peer.is_known:
+            self._greet(peer, told)
+        elif told["op"] == "claims":
+            claims = peer.take_claims(told)
+            if claims is not None:
+                self._look(partial(self._missing, claims), partial(self._answer, peer))
+        elif told["op"] == "bye":
+            peer.is_leaving = True
+        elif told["op"] == "refused":
+            log(f"{peer.title}: {CONFLICT if 'Conflict' in str(told.get('why')) else 'it has another note'}")
+
+    def _greet(self, peer: Peer, told: dict[str, Any]) -> None:
+        """Lets a peer in, unless somebody else has its number, and gives it what is not in the log yet."""
+        try:
+            if told["op"] != "hello":
+                raise Broken("no hello")
+            peer.greet(told)
+            for other in list(self.peers.values()):
+                if other is not peer and other.replica == peer.replica and other.token == peer.token:
+                    self._drop(other, "it joins again")
+            others = [other.replica for other in self.peers.values() if other is not peer]
+            if peer.replica in (*others, self.note.replica):
+                raise Broken(f"the number {peer.replica} is in use by somebody who writes now")
+        except Broken as broken:
+            peer.replica = 0
+            peer.cut("refused", str(broken))
+            return
+        peer.say("hello", version=VERSION)
+        peer.pass_on(self.unsaved)
+        log(f"{peer.title} joined")
+
+    def _look(self, look: Callable[[], Any], then: Callable[[Any], None]) -> None:
+        """Looks at the log in a program, and does something with what comes of it: nobody waits for that."""
+
+        def work() -> None:
+            found = look()
+            self.answers.post(lambda: then(found))
+
+        self.pool.submit(work)
+
+    def _missing(self, claims: bytes) -> list[bytes]:
+        """Returns what somebody with these claims lacks of the log, and then what that has, in short."""
+        return [*with_ends(self.note.missing(claims)), *claims_said(self.note.claims())]
+
+    def _answer(self, peer: Peer, lines: list[bytes]) -> None:
+        if self.peers.get(peer.reading) is peer:
+            peer.answer(lines)
+
+    def _note(self, status: Status) -> None:
+        """Passes on what mgr took, and takes note of what it saved."""
+        while self.given and self.given[0][0] <= status.reports:
+            number, peer, line = self.given.popleft()
+            peer.unanswered -= 1
+            fault = status.refused.get(number)
+            if fault:
+                self._refuse(peer, fault)
             else:
-                knock(self.inner)
+                self.unsaved.append(line + b"\n")
+                for other in self.peers.values():
+                    if other is not peer and other.is_known:
+                        other.pass_on([line + b"\n"])
+        if self.saving and status.reports >= self.saving[0] and not status.more:
+            fails, self.fails = self.fails, status.saved != "ok"
+            if self.fails and not fails:
+                log(f"not saved: {status.saved}")
+            if not self.fails:
+                del self.unsaved[: self.saving[1]]
+                for said in self.kept.since(self.note.name):
+                    log(f"saved, and {said}")
+            self.saving = None
 
-    def _read(self) -> str | None:
-        """Returns what the end of an exchange says, if it is there."""
-        said = [status.message for status in self.editor.read() if self.editor.done == SERVE]
-        return said[-1] if said else None
+    def _refuse(self, peer: Peer, fault: str) -> None:
+        """mgr did not take something of a peer: nothing more of it is taken, and both are told."""
+        if peer.is_cut:
+            return
+        is_conflict = fault == "Conflict"
+        log(f"{peer.title}: {CONFLICT if is_conflict else fault}")
+        if is_conflict:
+            peer.cut("conflict", f"what {peer.title} and others wrote: {CONFLICT}")
+        else:
+            peer.cut("refused", f"the hub did not take a line: {fault}")
+
+    def _give(self, peer: Peer) -> int:
+        """Gives mgr the next operation of a peer, and returns how many bytes that has."""
+        line = peer.next_line()
+        self.given.append((self.editor.report(line), peer, line))
+        return len(line)
+
+    def _feed(self, room: int) -> None:
+        """Gives mgr some of what came, of each peer in turn."""
+        while room > 0 and (peers := [peer for peer in self.peers.values() if peer.lines]):
+            for peer in peers:
+                room -= self._give(peer)
+
+    def _work(self) -> None:
+        """Goes on with what waits, and saves and gives signs of life from time to time."""
+        now = time.monotonic()
+        if self.editor.is_answered:
+            self._feed(MOST_GIVEN)
+        if self.unsaved and not self.saving and now > self.rested + REST_AFTER:
+            self.rested, self.saving = now, (self.editor.report(REST), len(self.unsaved))
+        if now > self.signed + ALIVE and self.peers:
+            self.signed = now
+            self._look(self.note.claims, self._sign)
+        for peer in self.peers.values():
+            if peer.is_leaving and not (peer.lines or peer.unanswered or peer.is_cut):
+                peer.cut("bye", "")
+
+    def _sign(self, claims: bytes) -> None:
+        """Gives a sign of life, with what the log has if all is saved."""
+        for peer in self.peers.values():
+            if peer.is_known:
+                peer.say("alive", digest=None if self.unsaved else digest(claims))
 
 
 def log(said: str) -> None:
-    """Prints what came of an exchange, and when."""
-    line = f"{time.strftime('%Y-%m-%d %H:%M:%S')} {said[:1].lower()}{said[1:]}\n"
+    """Prints what happened, and when."""
     try:
         if sys.stdout:  # Else it was closed at the start, and its number may be another file's.
-            write_all(line.encode())
+            write_all(f"{time.strftime('%Y-%m-%d %H:%M:%S')} {said}\n".encode("utf-8", "replace"))
     except OSError:
         pass  # The disk is full, or nobody reads it any more: peers are served all the same.
 
 
-def serve(mgr: str, note: Note, number: int, options: HubOptions) -> int:
-    """Serves a note until a signal comes, and returns the status."""
-    try:
-        listener = socket.create_server((HOST, options.port), backlog=BACKLOG)
-    except OSError as error:
-        stop(f"port {options.port}: {os.strerror(error.errno or 0)}", FAILED, PROGRAM)
+def serve(mgr: str, note: Note, number: int, port: int | None) -> int:
+    """Keeps a note for others until a signal comes, and returns the status."""
     signals = Signals()
-    with listener, held_port() as inner, tempfile.TemporaryFile() as said:
-        words = ["--replica", str(number), "--port", str(port_of(inner)), "--", note.name]
-        editor = Editor(mgr, words, ROWS, said)
-        hub = Hub(editor, note, listener, port_of(inner), signals)
+    listeners: list[socket.socket] = []
+    with tempfile.TemporaryFile() as said:
         try:
-            hub.run()
-        except EOFError:
+            listeners = [listener_at(port)] if port else []
+        except OSError as error:
+            stop(f"port {port}: {os.strerror(error.errno or 0)}", FAILED, PROGRAM)
+        editor = Editor(mgr, ["--replica", str(number), "--", note.name], ROWS, said)
+        try:
+            _await_note(editor)
+            listeners.append(meeting.listen(note.name))
+            log(_served(note, port))
+            Hub(editor, SharedNote(mgr, note, number), listeners, signals).run()
+        except (EOFError, BrokenPipeError):
             pass  # Its status says why.
         finally:
-            editor.end(LAST_SECONDS)
+            if not editor.end(PATIENCE):
+                log("mgr saves: this waits for it")
+                editor.end()
+            if len(listeners) > bool(port):
+                meeting.leave(note.name)
         status = editor.process.returncode
         if status:
             said.seek(0)
@@ -187,23 +280,67 @@ def serve(mgr: str, note: Note, number: int, options: HubOptions) -> int:
     return shell_status(status)
 
 
+def _await_note(editor: Editor) -> None:
+    """Waits until mgr has the note, and with it the lock: then a socket of it that is there is a stale one."""
+    while not editor.is_settled:
+        for _ in editor.read():
+            pass
+
+
+def _served(note: Note, port: int | None) -> str:
+    """Returns what is said at the start: how one joins."""
+    path = os.path.realpath(note.name)
+    elsewhere = f"`mgr-live note --with {socket.gethostname()}:{path}` elsewhere"
+    said = f"serves {path}: join by `mgr-live {note.name}` here, {elsewhere}"
+    return said + f"; port {port} is open to anybody on this machine" * (port is not None)
+
+
+def join(path: str) -> int:
+    """Passes standard input on to the hub that has a note, and to standard output what that says."""
+    try:
+        link = meeting.connect(path)
+    except OSError:
+        stop(f"no hub of this machine has {path}", FAILED, PROGRAM)
+    link.settimeout(None)
+    with link:
+        while True:
+            ready, _, _ = select.select([0, link], [], [])
+            for source in ready:
+                block = os.read(0, 65536) if source == 0 else link.recv(65536)
+                if not block:
+                    return 0
+                write_all(block, link.fileno() if source == 0 else 1)
+
+
 def main(words: Sequence[str], folder: str) -> int:
     """Serves as the command line says, and returns the status; `folder` is where mgr-hub stands."""
     options = read_hub(words)
-    note = Note(options.name)
-    mgr = find(folder)
+    if options.joins:
+        return join(options.name)
+    note, mgr = Note(options.name), find(folder)
     if mgr is None:
         stop(f"the program {os.environ.get('MGR') or 'mgr'} is not there", FAILED, PROGRAM)
     try:
-        note.check()
-        found, copy = log_of(mgr, note), Copy(note.name)
-        number = options.replica or copy.number(found)
-        if not (options.replica or found):
-            copy.keep_number(number)  # The text is written under it.
-        if found and differ(mgr, note, found, number):
-            tell("; ".join([f"{note.name} was not what its log says", *mend(mgr, note)[0]]), PROGRAM)
+        return serve(mgr, note, _opened(mgr, note, options), options.port)
     except Refused as refused:
         stop(str(refused), refused.status, PROGRAM)
     except OSError as error:
         stop(f"{error.filename or note.name}: {error.strerror}", FAILED, PROGRAM)
-    return serve(mgr, note, number, options)
+
+
+def _opened(mgr: str, note: Note, options: HubOptions) -> int:
+    """Does what is to be done before a note is served, and returns the number of this copy."""
+    note.check()
+    if meeting.is_served(note.name):
+        raise Refused(f"another hub has {note.name}")
+    if said := take_back(mgr, note):
+        tell(said, PROGRAM)
+    found, copy = log_of(mgr, note), Copy(note.name)
+    number = options.replica or copy.number(found)
+    if not (options.replica or found):
+        copy.keep_number(number)  # The text is written under it.
+    if not found and os.path.exists(note.name) and edit(mgr, note, number, SAVE):
+        raise Refused(f"{note.name}: a log of it cannot be made")
+    if found and differ(mgr, note, found, number):
+        tell("; ".join([f"{note.name} was not what its log says", *mend(mgr, note)[0]]), PROGRAM)
+    return number

@@ -5,20 +5,20 @@ import signal
 import tempfile
 from collections.abc import Sequence
 
+from mgr_front.company import Company
 from mgr_front.editor import LEAST_ROWS, MOST_ROWS, Editor
 from mgr_front.ending import finish
-from mgr_front.live_exchange import LiveExchange
+from mgr_front.guests import guest_of, take_back
+from mgr_front.joining import meet
+from mgr_front.meeting import is_served
 from mgr_front.notes import Note, Refused
 from mgr_front.opening import Opening
 from mgr_front.options import Options, read as read_options
 from mgr_front.program import explained, find, shell_status
-from mgr_front.relay import Relay
-from mgr_front.saving import Autosave
 from mgr_front.saying import stop, tell
 from mgr_front.screen import Screen
 from mgr_front.session import Session
 from mgr_front.signals import Signals
-from mgr_front.tunnel import Tunnel
 
 LEAST_COLUMNS = 20
 
@@ -34,10 +34,10 @@ def terminal_rows() -> int:
     return min(rows, MOST_ROWS)
 
 
-def words_for_mgr(options: Options, number: int, port: int | None) -> list[str]:
-    given = {"--replica": number, "--fill": options.fill, "--port": port}
+def words_for_mgr(options: Options, note: Note, number: int) -> list[str]:
+    given = {"--replica": number, "--fill": options.fill, "--port": options.port}
     words = [word for name, value in given.items() if value is not None for word in (name, str(value))]
-    return [*words, "--", options.name]
+    return [*words, "--", note.name]
 
 
 def status_of(status: int, signals: Signals) -> int:
@@ -48,44 +48,17 @@ def status_of(status: int, signals: Signals) -> int:
     return shell_status(-signals.first if signals.first and status <= 0 else status)
 
 
-def tunnel_to(options: Options, signals: Signals) -> Tunnel | None:
-    """Returns a way to the hub, once it is ready or a signal comes, where that is on another machine."""
-    if not (options.hub and options.hub[0]):
-        return None
-    tunnel = Tunnel(*options.hub)
-    said = tunnel.wait(lambda: signals.first is not None)
-    if said is not None:
-        stop(f"ssh {options.hub[0]}: {said}")
-    return tunnel
-
-
-def relay_to(options: Options, tunnel: Tunnel | None) -> Relay | None:
-    """Returns what passes connections on to the hub, if there is one."""
-    if not options.hub:
-        return None
-    relay = Relay(tunnel.port if tunnel else options.hub[1])
-    relay.start()
-    return relay
-
-
-def edit(opening: Opening, tunnel: Tunnel | None, signals: Signals) -> int:
+def edit(opening: Opening, company: Company | None, signals: Signals) -> int:
     """Edits a note until the person leaves, or something ends it, and returns the status."""
     note, options = opening.note, opening.options
     rows = terminal_rows()
     screen = Screen()
-    relay = relay_to(options, tunnel)
-    port = relay.port if relay else options.port
     with tempfile.TemporaryFile() as said:
-        editor = Editor(opening.mgr, words_for_mgr(options, opening.number, port), rows, said)
-        session = Session(editor, screen, signals, relay or port)
+        editor = Editor(opening.mgr, words_for_mgr(options, note, opening.number), rows, said)
+        session = Session(editor, screen, signals, options.port, company)
+        session.names = note.name, options.name
         session.greeting = "; ".join(opening.remarks)
         session.changed.append(opening.keep_number)
-        if options.saves:
-            session.watches.append(Autosave(session.buffers, lambda name: Note(name).has_log))
-        if relay:
-            live = LiveExchange(session.remarks, tunnel.mend if tunnel else lambda: None)
-            session.watches.append(live)
-            session.status = live.status
         try:
             with screen:
                 session.run()
@@ -100,6 +73,21 @@ def edit(opening: Opening, tunnel: Tunnel | None, signals: Signals) -> int:
     return status_of(status, signals)
 
 
+def begin(mgr: str, note: Note, options: Options, is_shared: bool) -> int:
+    """Opens a note, joins others if it is shared, and edits it."""
+    opening = Opening(mgr, note, options)
+    company = meet(opening) if is_shared else None
+    if is_shared and not company:
+        return begin(mgr, note, options, is_shared)
+    return edit(opening, company, Signals(signal.SIGTSTP, signal.SIGCONT, signal.SIGWINCH))
+
+
+def edit_as_guest(mgr: str, options: Options) -> int:
+    """Edits a note that a hub of this machine has: in a copy, with all others."""
+    tell(f"a hub of this machine has {options.name}: this writes with all others there")
+    return begin(mgr, guest_of(options.name), options, True)
+
+
 def main(words: Sequence[str], folder: str) -> int:
     """Edits as the command line says, and returns the status; `folder` is where mgr-live stands."""
     options = read_options(words)
@@ -109,15 +97,12 @@ def main(words: Sequence[str], folder: str) -> int:
         stop(f"the program {os.environ.get('MGR') or 'mgr'} is not there")
     terminal_rows()
     try:
-        opening = Opening(mgr, note, options)
+        if not (options.address or options.port) and is_served(note.name):
+            return edit_as_guest(mgr, options)
+        if said := take_back(mgr, note):
+            tell(said)
+        return begin(mgr, note, options, options.address is not None)
     except Refused as refused:
         stop(str(refused), refused.status)
     except OSError as error:
         stop(f"{error.filename or note.name}: {error.strerror}")
-    signals = Signals(signal.SIGTSTP, signal.SIGCONT, signal.SIGWINCH)
-    tunnel = tunnel_to(options, signals)
-    try:
-        return edit(opening, tunnel, signals)
-    finally:
-        if tunnel:
-            tunnel.end()

@@ -4,6 +4,7 @@ mgr reads the log alone. So what another program wrote to the text would be put 
 save, unless it comes into the log first.
 """
 
+import itertools
 import os
 import shutil
 import tempfile
@@ -71,6 +72,21 @@ class Opening:
             found.take_file(self.number)
         else:
             self.remarks += mend(self.mgr, self.note)[0]
+
+    def renumber(self) -> None:
+        """Has this copy have another number: somebody writes under the one that it had."""
+        self.copy.keep_number(self.copy.new_number(None))
+
+    def put_aside(self) -> str:
+        """Gives the note another name, with its log, and returns that."""
+        for number in itertools.count():
+            kept = Note(f"{self.note.name}.~{number}~" if number else f"{self.note.name}~")
+            if not (os.path.lexists(kept.name) or os.path.lexists(kept.log)):
+                break
+        for old, new in ((self.note.log, kept.log), (self.note.name, kept.name)):
+            if os.path.exists(old):
+                os.rename(old, new)
+        return kept.name
 
     def keep_number(self) -> None:
         """Keeps the number of this copy, if none is given, as something is written under it."""

@@ -4,6 +4,7 @@ import argparse
 from collections.abc import Callable, Sequence
 
 from mgr_front import VERSION
+from mgr_front.channels.choice import ENGINES
 
 DESCRIPTION = "Edits a note on a terminal, by `mgr edit`, with the keys of mg(1)."
 EPILOG = (
@@ -11,7 +12,7 @@ EPILOG = (
     "mgr(1) has the keys, the files and the statuses. The environment variable MGR names the program mgr."
 )
 
-HUB = "Serves a note to whoever exchanges with it, one after another, and prints a line for each. TERM ends it."
+HUB = "Keeps a note for all who write in it at the same time, and passes on what each writes. TERM ends it."
 
 
 class HubOptions(argparse.Namespace):
@@ -19,7 +20,8 @@ class HubOptions(argparse.Namespace):
 
     name: str
     replica: int | None
-    port: int
+    port: int | None
+    joins: bool
 
 
 class Options(argparse.Namespace):
@@ -29,11 +31,12 @@ class Options(argparse.Namespace):
     replica: int | None
     fill: int | None
     port: int | None
-    # The machine and the port of a hub; the machine is none for this one.
-    hub: tuple[str, int] | None
+    # The way to others, by its kind and what follows, if there is one.
+    address: tuple[str, str] | None
+    person: str
+    adopts: bool
     takes_file: bool
     keeps_file: bool
-    saves: bool
 
 
 def note_name(word: str) -> str:
@@ -56,12 +59,17 @@ def whole_number(least: int, most: int) -> Callable[[str], int]:
 PORT = whole_number(1, 65535)
 
 
-def hub_address(word: str) -> tuple[str, int]:
-    """Reads a port, with a machine and a colon before it where the hub is on another one."""
-    host, _, port = word.rpartition(":")
-    if host.startswith("-"):
-        raise argparse.ArgumentTypeError(f"{host!r} is no name of a machine")
-    return host, PORT(port)
+PORTS, HOSTS = "port", "host"
+
+
+def way(word: str) -> tuple[str, str]:
+    """Reads a way to others: an engine's, a port, or a machine and the path of a note there."""
+    begin, colon, rest = word.partition(":")
+    if word.isdigit():
+        return PORTS, str(PORT(word))
+    if begin.startswith("-") or not (begin and colon and rest):
+        raise argparse.ArgumentTypeError(f"{word!r} is neither a port nor HOST:NOTE")
+    return (begin, rest) if begin in ENGINES else (HOSTS, word)
 
 
 def _parser(program: str, description: str, epilog: str = "") -> argparse.ArgumentParser:
@@ -85,11 +93,14 @@ def parser() -> argparse.ArgumentParser:
     peers.add_argument("--port", metavar="P", type=PORT, help="the port at which peers are met")
     peers.add_argument(
         "--with",
-        dest="hub",
-        metavar="[HOST:]PORT",
-        type=hub_address,
-        help="exchange with the mgr-hub at that port all the time; ssh leads to one on another machine",
+        dest="address",
+        metavar="HOST:NOTE",
+        type=way,
+        help="write with all others at the mgr-hub that has NOTE on that machine, by ssh; or at a port of this one; or by "
+        "git:REPOSITORY#BRANCH, dir:FOLDER, redis://HOST/KEY, rediss://HOST/KEY",
     )
+    made.add_argument("--as", dest="person", metavar="NAME", default="", help="a name for others; else the login's")
+    made.add_argument("--adopt", dest="adopts", action="store_true", help="join with another note: both become one")
     choice = made.add_mutually_exclusive_group()
     choice.add_argument(
         "--take-file",
@@ -103,12 +114,6 @@ def parser() -> argparse.ArgumentParser:
         action="store_true",
         help="go on with the log then, and keep the text as NAME~",
     )
-    made.add_argument(
-        "--no-autosave",
-        dest="saves",
-        action="store_false",
-        help="do not save after 30 seconds without a key",
-    )
     return made
 
 
@@ -118,9 +123,9 @@ def hub_parser() -> argparse.ArgumentParser:
         "--port",
         metavar="P",
         type=PORT,
-        required=True,
-        help="the port of this machine at which peers are met",
+        help="a port of this machine, too: anybody on it may read and write the note there",
     )
+    made.add_argument("--join", dest="joins", action="store_true", help="connect standard input to the hub of NAME")
     return made
 
 

@@ -35,9 +35,9 @@ def find(folder: str) -> str | None:
     return shutil.which(named)
 
 
-def ask(mgr: str, note: Note, *words: str) -> bytes:
+def ask(mgr: str, note: Note, *words: str, given: bytes = b"") -> bytes:
     """Returns what a command of mgr writes of a note; `Refused` says why it does not do it."""
-    done = subprocess.run([mgr, *words, "--", note.name], capture_output=True)
+    done = subprocess.run([mgr, *words, "--", note.name], input=given, capture_output=True)
     if done.returncode:
         said = done.stderr.decode("utf-8", "replace")
         raise Refused(explained(done.returncode, said, note, False), shell_status(done.returncode))

@@ -2,30 +2,29 @@
 
 import math
 import os
-import re
 import select
 import signal
 import time
 from collections.abc import Callable, Sequence
+from dataclasses import replace
 
 from mgr_front.cells import row_width
+from mgr_front.company import Company
 from mgr_front.completion import accept, asks_for_name, begins_at_home, complete
 from mgr_front.dispatch import Dispatcher
 from mgr_front.echo import Echo, echo_line
 from mgr_front.editor import BLOCK, LEAST_ROWS, MOST_ROWS, Editor
-from mgr_front.errands import Errand
+from mgr_front.errands import Errand, leave
 from mgr_front.keys import CANCEL, RETURN, TAB, Keys, Typed, without_first
-from mgr_front.live_exchange import COMMANDS, EXCHANGE, SERVE
+from mgr_front.meeting import knock
 from mgr_front.minibuffer import Question
 from mgr_front.notes import KeptFiles
-from mgr_front.relay import Relay, knock
 from mgr_front.remarks import Remarks
-from mgr_front.saving import Buffers
+from mgr_front.saving import EXCHANGE, REST, SERVE, Buffers
 from mgr_front.screen import Screen
 from mgr_front.signals import Signals
 from mgr_front.statuses import Status
 from mgr_front.view import picture
-from mgr_front.watches import Moment, Watch
 
 # Seconds until what may be the beginning of a longer key counts as keys of its own, as ESC does.
 PATIENCE = 0.05
@@ -33,16 +32,18 @@ PATIENCE = 0.05
 OPENED, SAID = 10.0, 2.0
 # Seconds between two pictures while further ones are to come.
 PICTURE = 0.05
-# Seconds for which somebody who types is held up by an exchange that goes on by itself.
-HELD_UP = 2.0
-# Seconds between two tries to end a wait for a peer, and between two looks at the status.
-KNOCK, STATUS = 0.1, 1.0
-# Seconds in which mgr is expected to do anything at all at the end.
+# Seconds between two tries to end a wait for a peer.
+KNOCK = 0.1
+# Seconds without a key before all is saved, and between two savings of what others did.
+IDLE = 1.0
+# Seconds that mgr has at the end for an exchange with a peer that says nothing.
 LAST = 10.0
 
-# What is said where a buffer was saved, and for what the bell rings.
-SAVED = re.compile("Wrote |Sent ")
+# For what the bell rings.
 RINGING = "Undefined key", "Search failed"
+# What is said where a buffer was saved, and where one could not be.
+SAVED = "Wrote ", "Sent "
+UNSAVED = {"file": "Not saved: File fault", "memory": "Not saved: Out of memory"}
 # How much may wait for mgr before no more keys are read.
 MOST_WAITING = 65536
 
@@ -50,12 +51,18 @@ MOST_WAITING = 65536
 class Session:
     """An edit by a mgr that runs."""
 
-    def __init__(self, editor: Editor, screen: Screen, signals: Signals, port: int | Relay | None = None) -> None:
-        """`port` is where mgr meets peers, or what passes its connections on."""
+    def __init__(
+        self,
+        editor: Editor,
+        screen: Screen,
+        signals: Signals,
+        port: int | None = None,
+        company: Company | None = None,
+    ) -> None:
+        """`port` is where mgr meets peers, and `company` are those who write in the note too."""
         self.editor, self.screen, self.signals = editor, screen, signals
+        self.port, self.company = port, company
         screen.is_over = lambda: signals.first is not None
-        self.relay = port if isinstance(port, Relay) else None
-        self.port = port.port if isinstance(port, Relay) else port
         self.keys = Keys()
         self.dispatcher = Dispatcher(editor, screen.erase)
         self.buffers = Buffers()
@@ -63,9 +70,8 @@ class Session:
         self.kept = KeptFiles()
         self.put_aside: list[str] = []
         self.remarks = Remarks()
-        self.watches: list[Watch] = []
-        # What the mode line says of the front.
-        self.status: Callable[[float], str] = lambda now: ""
+        # The note's path, and the name that is shown for it.
+        self.names = "", ""
         # What is said at the start, and what takes note of the first change.
         self.greeting = ""
         self.changed: list[Callable[[], None]] = []
@@ -79,8 +85,9 @@ class Session:
         self.is_stale = self.rings = self.is_ending = False
         # Whether a wait for a peer is to be ended.
         self.breaks_off = False
-        # When a key was typed, when mgr was given or told something, and when an errand was begun.
-        self.typed = self.heard = self.begun = time.monotonic()
+        # When a key was typed, when mgr was given or told something, when all was saved, and by which report.
+        self.typed = self.heard = self.rested = time.monotonic()
+        self.rest_number = 0
 
     def run(self) -> None:
         """Goes on until mgr, the keys or the terminal end, or a signal comes.
@@ -103,6 +110,8 @@ class Session:
         ready = self._await(reading, self._patience())
         if self.signals.woken in ready:
             self._heed()
+        if self.company and self.company.mailbox.woken in ready:
+            self.company.hear()
         if self.editor.written in ready and not self._take_statuses():
             return False
         if 0 in ready and self.screen.is_raw and not self._take_keys():
@@ -116,7 +125,8 @@ class Session:
     def _await(self, reading: list[int], seconds: float | None) -> list[int]:
         """Waits until mgr or one of these has something to read; gives mgr what it takes meanwhile."""
         writing = [self.editor.keys] * bool(self.editor.waiting)
-        ready, free, _ = select.select([self.editor.written, *reading], writing, [], seconds)
+        others = [self.company.mailbox.woken] if self.company else []
+        ready, free, _ = select.select([self.editor.written, *others, *reading], writing, [], seconds)
         if free:
             self.editor.write()
             self.heard = time.monotonic()
@@ -125,32 +135,33 @@ class Session:
     def _patience(self) -> float | None:
         """Returns after how many seconds something is to be done, whatever happens."""
         now = time.monotonic()
-        moment = self._moment()
-        dues = [watch.due(moment) for watch in self.watches] if moment else []
-        seconds = [max(0.0, due - now) for due in dues if due is not None]
+        dues = [self._rest_due(), self.remarks.patience(now)]
+        seconds = [max(0.0, due) for due in dues if due is not None]
         seconds += [PATIENCE] * self.keys.is_in_doubt + [KNOCK] * self.breaks_off + [PICTURE] * self.is_stale
-        seconds += [STATUS] * bool(self.drawn[1])
-        remarks = self.remarks.patience(now)
-        return min(seconds + [remarks] * (remarks is not None), default=None)
+        return min(seconds, default=None)
+
+    def _rest_due(self) -> float | None:
+        """Returns in how many seconds all is to be saved, where a key was typed or something was taken since."""
+        changed = max(self.typed, self.company.took if self.company else self.typed)
+        if self.rest_number or self.is_ending or changed <= self.rested:
+            return None
+        return max(self.typed, self.rested) + IDLE - time.monotonic()
 
     def work(self) -> None:
         """Does what strokes and watches ask for."""
         if self.breaks_off and self.port:
             knock(self.port)
         self.dispatcher.run(self)
-        for watch in self.watches:
-            moment = self._moment()
-            due = watch.due(moment) if moment else None
-            if moment and due is not None and due <= time.monotonic():
-                self.start(watch.begin(moment))
+        if self.company and not (self.errand or self.is_ending):
+            self.company.feed(self.editor)
+        due = self._rest_due()
+        if due is not None and due <= 0:
+            self.rest()
 
-    def _moment(self) -> Moment | None:
-        """Returns what there is now, where nothing is typed, asked, begun or done."""
-        is_busy = self.errand or self.question or self.keys.begun or not self.dispatcher.is_idle
-        if is_busy or not self.editor.is_at_rest:
-            return None
-        status = self.editor.status
-        return Moment(self.typed, self.editor.last, status, status.message if self.said is None else self.said)
+    def rest(self) -> None:
+        """Has mgr save all that was made or taken, log and text."""
+        self.rested = time.monotonic()
+        self.rest_number = self.editor.report(REST)
 
     def _has_keys(self) -> bool:
         """Whether there is something to read of the terminal, while that is this program's."""
@@ -161,8 +172,6 @@ class Session:
         self.typed = time.monotonic()
         try:
             strokes = self.keys.take(sent)
-            if self.errand and self.typed > self.begun + HELD_UP:
-                self._leave_hub()
             if CANCEL in sent:
                 self.remarks.acknowledge()
                 strokes = without_first(CANCEL, strokes) if self._leave_peer() else strokes
@@ -176,14 +185,7 @@ class Session:
     def _leave_peer(self) -> bool:
         """Ends a wait for a peer, where mgr takes no key before, and answers whether it does."""
         self.breaks_off = self.editor.command == SERVE and self.port is not None
-        return self._leave_hub() or self.breaks_off
-
-    def _leave_hub(self) -> bool:
-        """Breaks off an exchange with a hub, if there is one now; nothing is lost by that."""
-        if not (self.relay and self.editor.command == EXCHANGE):
-            return False
-        self.relay.break_off()
-        return True
+        return self.breaks_off
 
     def _take_statuses(self) -> bool:
         """Takes what mgr told, and answers whether it has not ended."""
@@ -200,20 +202,38 @@ class Session:
         self.greeting = ""
         if self.editor.taken:
             self.said = None
-        self.buffers.note(status)
-        if SAVED.match(status.message) or len(self.kept.known) < len(self.buffers.changed):
+        self.note(status)
+        is_saved = status.message.startswith(SAVED) and self.editor.taken or self._has_rested(status)
+        if is_saved or len(self.kept.known) < len(self.buffers.changed):
             self.note_kept()
         while self.changed and status.is_changed:
             self.changed.pop()()
         if self.errand:
-            if self.editor.is_settled:
+            if self.editor.is_answered:
                 self._go_on(self.errand, status)
             return
         self.is_stale = True
-        if self.editor.done in COMMANDS:
+        if self.editor.done in (SERVE, EXCHANGE):
             self._end_exchange(status.message)
         is_key = self.editor.taken > 0 and not status.begun
         self.rings = self.rings or is_key and status.message in RINGING
+
+    def note(self, status: Status) -> None:
+        """Takes note of what a status tells of buffers, and tells others what was made."""
+        self.buffers.note(status)
+        if status.saved in UNSAVED:
+            self.remarks.hold(UNSAVED[status.saved], math.inf)
+        elif status.saved == "ok":
+            self.remarks.drop(UNSAVED.values())
+        if self.company:
+            self.company.note_status(status)
+
+    def _has_rested(self, status: Status) -> bool:
+        """Whether a status is the first one after all was saved, as it was asked for."""
+        if not self.rest_number or status.reports < self.rest_number or status.more:
+            return False
+        self.rest_number = 0
+        return True
 
     def note_kept(self) -> None:
         """Says what mgr put aside: other programs have written it, and nobody may know."""
@@ -234,24 +254,37 @@ class Session:
         if self.is_ending:
             return
         now = time.monotonic()
-        remarks, status = self.remarks.at(now), self.status(now)
+        if self.company and self.company.said:
+            self.remarks.hold(self.company.said, math.inf)
+            self.company.said = ""
+        remarks, status = self.remarks.at(now), self.company.shown() if self.company else ""
         is_drawn = not self.is_stale and (remarks, status) == self.drawn
         if not self.editor.status.frame or is_drawn or self.errand or self._draws_later(now):
             return
         columns, rows = os.get_terminal_size(1)
-        self.screen.draw(picture(self.editor.status, self._echo(remarks), rows, columns, status), self.rings)
+        self.screen.draw(picture(self._shown(), self._echo(remarks), rows, columns, status), self.rings)
         self.is_stale = self.rings = False
         self.drawn = remarks, status
         self.painted = now
 
     def _draws_later(self, now: float) -> bool:
         """Whether further pictures come soon, of which only some are drawn."""
-        return not self.editor.is_settled and now < self.painted + PICTURE
+        return not self.editor.is_answered and now < self.painted + PICTURE
+
+    def _shown(self) -> Status:
+        """Returns the newest status, with the note's name as it is shown."""
+        status, (path, name) = self.editor.status, self.names
+        if path == name:
+            return status
+        frame = list(status.frame)
+        for row in status.mode_rows:
+            frame[row] = frame[row].replace(path, name, 1)
+        return replace(status, frame=tuple(frame), message=status.message.replace(path, name))
 
     def _echo(self, remarks: Sequence[str]) -> Echo:
         if self.question:
             return Echo(self.question.text, row_width(self.question.text))
-        return echo_line(self.editor.status, self.said, remarks)
+        return echo_line(self._shown(), self.said, remarks)
 
     def remark(self, said: str) -> None:
         """Says something of a note that was opened, for a while."""
@@ -262,7 +295,7 @@ class Session:
         """Begins an errand. Its first keys are pressed at once; all others wait for its end."""
         # Nothing is drawn meanwhile.
         self._draw()
-        self.errand, self.begun = errand, time.monotonic()
+        self.errand = errand
         self._go_on(errand, None)
 
     def _go_on(self, errand: Errand, status: Status | None) -> None:
@@ -289,6 +322,11 @@ class Session:
             self.start(errand)
         self.is_stale = True
 
+    def leave(self) -> None:
+        """Has all be saved, and then leaves: mgr asks only where something could not be saved."""
+        self.rest()
+        self.start(leave())
+
     def complete(self) -> None:
         """Completes the answer of the open prompt; where it asks for no name, TAB is a part of it."""
         status = self.editor.status
@@ -305,26 +343,21 @@ class Session:
         else:
             self.editor.hand_on(bytes([RETURN]))
 
-    def conclude(self, last: Errand) -> bool:
-        """Does all strokes that wait, and then a last errand, without the terminal.
+    def conclude(self) -> bool:
+        """Does all strokes that wait, without the terminal, and answers whether mgr took them, or has ended.
 
-        Answers whether that is done, be it that mgr has ended: one that does nothing for some
-        seconds is given up.
+        It does as long as it takes; only one that hears nothing of a peer is given up.
         """
-        self.is_ending, self.question, self.watches = True, None, []
+        self.is_ending, self.question = True, None
         self.dispatcher.take(self.keys.give_up())
         self.heard = time.monotonic()
-        waiting: Errand | None = last
         try:
-            while waiting or self.errand:
+            while self.errand or self.dispatcher.strokes or not self.editor.is_answered:
                 self.breaks_off = self.port is not None and self.editor.command == SERVE
                 self.work()
-                if waiting and not self.errand and not self.dispatcher.strokes and self.editor.is_settled:
-                    self.start(waiting)
-                    waiting = None
-                elif self.editor.written in self._await([], KNOCK) and not self._take_statuses():
+                if self.editor.written in self._await([], KNOCK) and not self._take_statuses():
                     return True
-                elif time.monotonic() > self.heard + LAST:
+                if self.editor.command and time.monotonic() > self.heard + LAST:
                     return False
         except BrokenPipeError:
             pass  # mgr has ended.

@@ -39,8 +39,8 @@ class Signals:
         for number in ENDING:
             if signal.getsignal(number) != signal.SIG_IGN:
                 signal.signal(number, self._note_end)
-        for number in others:
-            self.listen(number)
+        for other in others:
+            self.listen(other)
 
     def listen(self, number: int) -> None:
         """Takes note of that signal from now on."""

@@ -1,7 +1,8 @@
 """What mgr writes in a live session: statuses, each with the rows of the newest frame."""
 
 import json
-from dataclasses import dataclass
+from collections.abc import Mapping
+from dataclasses import dataclass, field
 from itertools import accumulate
 from typing import Any
 
@@ -11,7 +12,7 @@ COMMAND, FIND, SWITCH, KILL = "M-x ", "Find file: ", "Switch to buffer: ", "Kill
 QUITTING = "Changed buffers; quit (y or n): "
 
 # Members of a status that are kept as they are.
-KEPT = ("begun", "keys", "message", "mode", "reports")
+KEPT = ("begun", "keys", "message", "mode", "more", "reports", "saved")
 
 
 @dataclass(frozen=True)
@@ -31,10 +32,15 @@ class Status:
     label: str = ""
     answer: str = ""
     message: str = ""
-    # The current buffer, and whether it is the one that mgr was begun with.
+    # The current buffer.
     buffer: str = ""
     is_changed: bool = False
-    is_live: bool = False
+    # Whether a second status of this block follows, and how the last writing ended that its end did.
+    more: bool = False
+    saved: str = "none"
+    # Own operations that are saved, as lines; the faults of reports, by the numbers of these.
+    operations: tuple[bytes, ...] = ()
+    refused: Mapping[int, str] = field(default_factory=dict)
 
     @property
     def mode_rows(self) -> list[int]:
@@ -78,12 +84,13 @@ class Statuses:
             return None
         if rows:
             self.frame = tuple(row.decode("utf-8", "replace") for row in self.lines[:rows])
+        operations = tuple(self.lines[rows:])
         self.told, self.lines = {}, []
-        return _status(self.frame, told)
+        return _status(self.frame, operations, told)
 
 
-def _status(frame: tuple[str, ...], told: dict[str, Any]) -> Status:
-    prompt, buffer, live = told["prompt"] or {}, told["buffer"], told["live"] or {}
+def _status(frame: tuple[str, ...], operations: tuple[bytes, ...], told: dict[str, Any]) -> Status:
+    prompt, buffer = told["prompt"] or {}, told["buffer"]
     row, column = told["cursor"]
     return Status(
         frame,
@@ -93,6 +100,7 @@ def _status(frame: tuple[str, ...], told: dict[str, Any]) -> Status:
         answer=prompt.get("answer", ""),
         buffer=buffer["name"],
         is_changed=buffer["changed"],
-        is_live=buffer["name"] == live.get("name"),
+        operations=operations,
+        refused=dict(told["refused"]),
         **{name: told[name] for name in KEPT},
     )

@@ -1,8 +1,11 @@
 """A program that takes the place of mgr: it knows text, saving, one buffer, and a command that serves.
 
 It answers each block of keys by a status, and by a second one with an operation where a text was typed
-in it. With `silent` for a name it takes a key at a time, and answers only the first ten; with `faulty` it
-serves nobody. A save keeps what another program has written.
+in it. With `silent` for a name it serves for ever; with `faulty` it serves nobody. A save keeps what another program has written. Of reports it knows sizes, rests and operations,
+which it adds to a log at once; those of replica 13 are conflicts. The end of the keys is a save, which takes
+long with `slow` for a name.
+
+`claims`, `missing` and `merge` look at the lines of a log alone. One with replica 99 is another note's.
 
 Of its other commands it knows what they say of a log, which has the text of the note in it, by replica
 1001. One that begins with `?` is refused, and one with `!` cannot be read. Where it joins logs the
@@ -12,8 +15,11 @@ second one conflicts in its last line.
 import json
 import os
 import pathlib
+import re
 import socket
 import sys
+import time
+from typing import Any
 
 from context import BUFFER, written
 
@@ -26,6 +32,8 @@ class Live:
         self.rows, self.keys, self.reports = int(sys.argv[sys.argv.index("--rows") + 1]), 0, 0
         self.begun = self.answer = self.message = ""
         self.asks = self.is_typed = False
+        self.refused: list[list[object]] = []
+        self.end = "none"
         # What came of a report, up to its end.
         self.report: bytes | None = None
 
@@ -35,6 +43,7 @@ class Live:
         buffer = BUFFER | {"changed": self.is_changed, "name": self.name}
         prompt = {"mode": "prompt", "prompt": {"answer": self.answer, "label": "M-x "}} if self.asks else {}
         said = {"begun": bool(self.begun), "message": self.message, "cursor": [0, len(self.text)]}
+        said |= {"refused": self.refused, "saved": self.end}
         frame = [self.text, *[""] * (self.rows - 3), f"----Mg: {self.name} (fundamental)", self.message] if not operations else []
         os.write(1, written(frame, operations, buffer=buffer, live=buffer, **counts, **prompt, **said))
 
@@ -43,13 +52,28 @@ class Live:
         if self.report is not None and byte != ord("\n"):
             self.report += bytes([byte])
         elif self.report is not None:
-            self.rows = json.loads(self.report)["rows"]
-            self.report, self.reports = None, self.reports + 1
+            self.reports += 1
+            self.heed(json.loads(self.report))
+            self.report = None
         elif byte == 0xFF:
             self.report = b""
         else:
             self.keys += 1
             self.press(chr(byte))
+
+    def heed(self, told: "dict[str, Any]") -> None:
+        """Does what a report asks for."""
+        if told["op"] == "size":
+            self.rows = told["rows"]
+        elif told["op"] == "rest":
+            self.save()
+            self.message = ""
+        elif told["id"][1] == 13:
+            self.refused.append([self.reports, "Conflict"])
+        else:
+            self.text, self.is_changed = self.text + told.get("char", ""), True
+            with open(f"{self.name}.ops", "ab") as log:
+                log.write((self.report or b"") + b"\n")
 
     def press(self, key: str) -> None:
         """Presses a key, or goes on with one that was begun."""
@@ -71,27 +95,35 @@ class Live:
 
     def save(self) -> None:
         path = pathlib.Path(self.name)
+        if path.is_dir():
+            self.end = "file"
+            return
         if path.exists() and path.read_text() != self.saved:
             os.rename(path, f"{path}~")
         path.write_text(self.text)
-        self.saved, self.is_changed, self.message = self.text, False, f"Wrote {path}"
+        self.saved, self.is_changed, self.message, self.end = self.text, False, f"Wrote {path}", "ok"
 
     def run(self) -> None:
         """Takes keys to their end, and answers each block of them."""
         self.tell()
-        is_silent = self.name.endswith("silent")
-        while block := os.read(0, 1 if is_silent else 4096):
-            self.is_typed = False
+        while block := os.read(0, 4096):
+            self.is_typed, self.refused, self.end = False, [], "none"
             for byte in block:
                 self.take(byte)
-            if not is_silent or self.keys <= 10:
-                self.tell(more=self.is_typed)
-                if self.is_typed:
-                    self.tell(operations=1)
+            self.tell(more=self.is_typed)
+            if self.is_typed:
+                self.tell(operations=1)
+        if self.name.endswith("slow"):
+            time.sleep(0.5)
+        if self.is_changed:
+            self.save()
+        self.tell()
 
 
 def serve(name: str) -> str:
     """Takes all that one peer says, answers by a line, and returns what the echo line says then."""
+    while name.endswith("silent"):
+        time.sleep(1)
     if name.endswith("faulty"):
         return "File fault"
     port = int(sys.argv[sys.argv.index("--port") + 1])
@@ -134,9 +166,32 @@ def command(word: str, name: str) -> None:
         print(numbers(log, text))
 
 
+def identifiers(lines: "list[str]") -> "list[str]":
+    """Returns the identifiers of operations, or of claims."""
+    return [found[1] for line in lines if (found := re.search(r'"(?:id|block)":(\[\d+,\d+\])', line))]
+
+
+def exchange(word: str, name: str) -> None:
+    """Does a command on the lines of a log."""
+    if word == "merge":
+        given = sys.stdin.read() if name == "-" else pathlib.Path(name).read_text()
+        sys.exit("-: a log of another note, which --adopt takes" if ",99]" in given else 0)
+    lines = pathlib.Path(f"{name}.ops").read_text().splitlines() if name != "-" else []
+    if word == "claims":
+        print('{"op":"claims","version":1}\n' + "".join(f'{{"block":{each},"ins":[0,0]}}\n' for each in identifiers(lines)), end="")
+    else:
+        head, *claims = sys.stdin.read().splitlines() or [""]
+        known = identifiers(claims)
+        if head != '{"op":"claims","version":1}':
+            sys.exit("claims: no head")
+        print("".join(f"{line}\n" for line in lines if identifiers([line])[0] not in known), end="")
+
+
 def main() -> None:
     name = sys.argv[-1]
-    if sys.argv[1] in ("log", "show", "mend", "compact", "join"):
+    if sys.argv[1] in ("claims", "missing", "merge"):
+        exchange(sys.argv[1], name)
+    elif sys.argv[1] in ("log", "show", "mend", "compact", "join"):
         command(sys.argv[1], name)
     elif "--live" in sys.argv:
         Live(name).run()

@@ -37,6 +37,9 @@ class FakeDesk:
         self.errand = errand
         self.editor.hand_on(next(errand))
 
+    def leave(self) -> None:
+        self.done.append("leave")
+
     def complete(self) -> None:
         self.done.append("complete")
 
@@ -94,10 +97,13 @@ class TestDispatch(unittest.TestCase):
 
     def test_beginnings_of_keys_are_kept_back(self) -> None:
         self.assertEqual(self.press(b"\x18"), b"")
-        self.assertFalse(self.dispatcher.is_idle)
         self.assertEqual(self.press(b"\x13"), b"\x18\x13")
         self.assertEqual(self.answer(), b"")
         self.assertEqual(self.press(b"\x18") + self.dispatcher.give_up(), b"\x18")
+
+    def test_leaving_is_the_desks(self) -> None:
+        self.assertEqual(self.press(b"\x18\x03"), b"")
+        self.assertEqual(self.desk.done, ["leave"])
 
     def test_arguments_by_the_meta_key(self) -> None:
         self.assertEqual(self.press(b"\x1b1\x1b2"), b"\x151")

@@ -39,13 +39,13 @@ class TestTalk(unittest.TestCase):
     def test_nothing_is_settled_before_the_first_status(self) -> None:
         self.assertEqual((self.talk.is_settled, Talk(3).is_settled), (True, False))
 
-    def test_all_is_settled_once_all_is_told(self) -> None:
+    def test_all_is_settled_once_all_keys_are_told_and_answered_with_the_reports(self) -> None:
         self.talk.hand_on(b"abc")
-        self.talk.resize(9)
-        for keys, reports in [(1, 0), (3, 0), (3, 1)]:
-            self.assertFalse(self.talk.is_settled)
+        self.assertEqual(self.talk.report(b"{}"), 1)
+        self.assertEqual(self.talk.waiting, b"abc\xff{}\n")
+        for keys, reports, wanted in [(1, 0, (False, False)), (3, 0, (True, False)), (3, 1, (True, True))]:
             self.tell(keys, reports=reports)
-        self.assertTrue(self.talk.is_settled)
+            self.assertEqual((self.talk.is_settled, self.talk.is_answered), wanted)
 
     def test_a_status_that_comes_late_answers_what_it_tells_of(self) -> None:
         self.talk.hand_on(b"ab")
@@ -54,11 +54,6 @@ class TestTalk(unittest.TestCase):
         self.assertEqual((self.talk.taken, self.talk.untold), (2, b"c"))
         self.tell(2)
         self.assertEqual((self.talk.taken, self.talk.untold), (0, b"c"))
-
-    def test_at_rest_nothing_is_begun_or_asked(self) -> None:
-        for members, wanted in [({}, True), ({"begun": True}, False), ({"mode": "search"}, False)]:
-            self.tell(**members)
-            self.assertEqual((self.talk.is_settled, self.talk.is_at_rest), (True, wanted))
 
     def test_a_command_that_is_typed(self) -> None:
         self.talk.hand_on(b"\x1bxundo")
@@ -111,7 +106,8 @@ class TestSignals(unittest.TestCase):
             program.write_text("#!/bin/sh\nexec sleep 20\n")
             program.chmod(stat.S_IRWXU)
             editor = Editor(str(program), ["note"], 3, said)
-            editor.end(0.1)
+            self.assertFalse(editor.end(0.1))
+            editor.kill()
         self.assertEqual(editor.process.returncode, -signal.SIGKILL)
 
 

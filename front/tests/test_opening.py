@@ -11,7 +11,6 @@ from context import InFolder
 from mgr_front import opening
 from mgr_front.compaction import is_large
 from mgr_front.copies import Copy
-from mgr_front.hub import conflicting
 from mgr_front.notes import Note, Refused
 from mgr_front.opening import Difference, Opening
 from mgr_front.options import read
@@ -136,11 +135,7 @@ class TestLargeLogs(Openings):
         self.assertIn("note.ops~", self.names())
 
 
-class TestConflicts(Openings):
-    def test_the_line_of_the_log_is_found(self) -> None:
-        self.put(note_ops="first\nsecond\n")
-        self.assertEqual(conflicting(self.mgr, self.note.log, b"line\n"), b"second\n")
-
+class TestLogs(Openings):
     def test_there_is_no_log_to_tell_of(self) -> None:
         self.assertIsNone(log_of(self.mgr, self.note))
 

@@ -2,28 +2,29 @@
 
 import unittest
 
-from context import BUFFER, written
+from context import BUFFER, OPERATION, written
 
 from mgr_front.statuses import Status, Statuses
 
+LINE = OPERATION.encode()
 ROWS = ("a漢", "", "----Mg: n", "")
 OTHER = BUFFER | {"name": "other", "changed": True}
 PROMPT = {"answer": "no", "label": "Find file: "}
 
 # What is written, and the status that it is after those before it.
 SAID = [
-    (written(ROWS, windows=[[2, "note"]]), Status(ROWS, (0, 0), (2,), buffer="note", is_live=True)),
+    (written(ROWS, windows=[[2, "note"]]), Status(ROWS, (0, 0), (2,), buffer="note")),
     (
         written(begun=True, keys=3, message="Quit", more=True, reports=1, windows=[[2, "note"]]),
-        Status(ROWS, (0, 0), (2,), 3, 1, True, message="Quit", buffer="note", is_live=True),
+        Status(ROWS, (0, 0), (2,), 3, 1, True, message="Quit", buffer="note", more=True),
     ),
     (
-        written(operations=2, keys=3, windows=[[2, "note"]]),
-        Status(ROWS, (0, 0), (2,), 3, buffer="note", is_live=True),
+        written(operations=2, keys=3, refused=[[1, "Far"]], saved="ok", windows=[[2, "note"]]),
+        Status(ROWS, (0, 0), (2,), 3, buffer="note", saved="ok", operations=(LINE, LINE), refused={1: "Far"}),
     ),
     (
         written(("x", "y"), 1, buffer=OTHER, cursor=[1, 13], keys=8, mode="prompt", prompt=PROMPT),
-        Status(("x", "y"), (1, 13), (1,), 8, 0, False, "prompt", "Find file: ", "no", "", "other", True),
+        Status(("x", "y"), (1, 13), (1,), 8, 0, False, "prompt", "Find file: ", "no", "", "other", True, operations=(LINE,)),
     ),
     (written(live=None), Status(("x", "y"), heights=(1,), buffer="note")),
 ]

@@ -1,0 +1,180 @@
+"""A folder that a sync tool or a mount shares, with a log for each writer: no file has two writers."""
+
+import json
+import os
+import re
+import secrets
+import stat
+import time
+from dataclasses import dataclass
+
+from mgr_front.channels import Post, Shared
+from mgr_front.channels.logs import operations, text_of
+from mgr_front.channels.worker import Worker
+from mgr_front.copies import digest, machine, state_folder, user
+
+# The name of a log, and that of another state of it, which a sync tool keeps beside it.
+NAME = re.compile(r"[0-9a-f]{32}.*\.ops")
+LEAST_POLL, MOST_POLL, SLOWER = 0.5, 5.0, 1.25
+# How many bytes before what is new are read once more: where they differ, the file is another one.
+OVERLAP = 4096
+
+
+@dataclass(frozen=True)
+class Stamp:
+    """How a file looks from outside; one that was written to looks different."""
+
+    size: int
+    inode: int
+    date: int
+
+
+def stamp_of(seen: os.stat_result) -> Stamp:
+    return Stamp(seen.st_size, seen.st_ino, seen.st_mtime_ns)
+
+
+@dataclass(frozen=True)
+class Taken:
+    """What was taken of a file: how it looked, how many bytes, and the last of these."""
+
+    stamp: Stamp
+    size: int
+    tail: bytes
+
+    def after(self, stamp: Stamp, lines: bytes) -> "Taken":
+        return Taken(stamp, self.size + len(lines), (self.tail + lines)[-OVERLAP:])
+
+
+def whole_lines(data: bytes) -> bytes:
+    """Returns the lines that are whole, up to a NUL, which stands where something is still to come."""
+    data = data.partition(b"\0")[0]
+    return data[: data.rfind(b"\n") + 1]
+
+
+class OwnName:
+    """The name of the own log, which is kept for this note and this folder, on this machine alone."""
+
+    def __init__(self, note: Shared, folder: str) -> None:
+        owner = [machine(), user(), os.path.realpath(note.log), os.path.realpath(folder)]
+        self.path = os.path.join(state_folder(), "folders", digest(json.dumps(owner).encode()))
+
+    def read(self) -> str:
+        """Returns the name that is kept, or a new one."""
+        try:
+            with open(self.path, encoding="ascii") as file:
+                name = file.read()
+        except (OSError, UnicodeDecodeError):
+            name = ""
+        return name if re.fullmatch(r"[0-9a-f]{32}\.ops", name) else self.draw()
+
+    def draw(self) -> str:
+        """Returns a new name; where it can't be kept, the next one begins another log."""
+        name = secrets.token_hex(16) + ".ops"
+        try:
+            os.makedirs(os.path.dirname(self.path), mode=0o700, exist_ok=True)
+            with open(self.path + ".new", "w", encoding="ascii") as file:
+                file.write(name)
+            os.replace(self.path + ".new", self.path)
+        except OSError:
+            pass
+        return name
+
+
+class Folder(Worker):
+    """A note that is carried by the files of a folder."""
+
+    def __init__(self, note: Shared, post: Post, mgr: str, folder: str) -> None:
+        super().__init__(note, post, mgr)
+        self.folder = os.path.abspath(folder)
+        self.own_name = OwnName(note, self.folder)
+        self.own = self.own_name.read()
+        self.files: dict[str, Taken] = {}
+        self.poll, self.last_append = LEAST_POLL, 0.0
+
+    def join(self) -> str:
+        """Reads all files; what they lack is appended to the own one."""
+        self.files, self.poll = {}, LEAST_POLL
+        lines = b"".join(self._read(name, stamp) for name, stamp in self._stamps().items())
+        found = self.compare(lines, mends=True)
+        self._append(found.given)
+        return found.remark
+
+    def turn(self) -> float:
+        stamps = self._stamps()
+        changed = {name: stamp for name, stamp in stamps.items() if name != self.own and not self._is_known(name, stamp)}
+        if self.files.keys() - stamps or not self._is_own(stamps) or not all(map(self._has_grown, changed)):
+            self.join_all()
+            return self.poll
+        news = b"".join(self._read(name, stamp) for name, stamp in changed.items())
+        self.take(operations(news.splitlines()))
+        told = self.told()
+        self.poll = LEAST_POLL if news or told else min(self.poll * SLOWER, MOST_POLL)
+        left = self.last_append + LEAST_POLL - time.monotonic()
+        if told and left > 0 and not self.is_leaving:
+            return left
+        self._append(told)
+        self.passed(len(told))
+        return self.poll
+
+    # ---- files of all
+
+    def _stamps(self) -> dict[str, Stamp]:
+        """Returns how each log in the folder looks."""
+        found = {}
+        with os.scandir(self.folder) as entries:
+            for entry in entries:
+                if NAME.fullmatch(entry.name):
+                    try:
+                        seen = os.lstat(entry.path)
+                    except FileNotFoundError:
+                        continue  # It has just been removed.
+                    if stat.S_ISREG(seen.st_mode):
+                        found[entry.name] = stamp_of(seen)
+        return found
+
+    def _is_known(self, name: str, stamp: Stamp) -> bool:
+        return name in self.files and self.files[name].stamp == stamp
+
+    def _has_grown(self, name: str) -> bool:
+        """Whether a file still has what was taken of it, so that what is new stands after that."""
+        if name not in self.files:
+            return False
+        taken = self.files[name]
+        return self._bytes(name, taken.size - len(taken.tail), len(taken.tail)) == taken.tail
+
+    def _bytes(self, name: str, start: int, size: int = -1) -> bytes:
+        with open(os.path.join(self.folder, name), "rb") as file:
+            file.seek(start)
+            return file.read(size)
+
+    def _read(self, name: str, stamp: Stamp) -> bytes:
+        """Returns the whole lines of a file that were not taken, and takes note of them."""
+        taken = self.files.get(name, Taken(stamp, 0, b""))
+        lines = whole_lines(self._bytes(name, taken.size))
+        self.files[name] = taken.after(stamp, lines)
+        return lines
+
+    # ---- the own file
+
+    def _is_own(self, stamps: dict[str, Stamp]) -> bool:
+        """Whether the own file is as it was left. Where another one wrote to it, a new one is begun."""
+        taken, stamp = self.files.get(self.own), stamps.get(self.own)
+        if not (taken and stamp):
+            return not (taken or stamp)
+        if stamp.size > taken.size:
+            self.own = self.own_name.draw()
+        # A mount may give it another date when it was written.
+        return stamp == taken.stamp or stamp.size == taken.size and self._has_grown(self.own)
+
+    def _append(self, lines: list[bytes]) -> None:
+        """Appends lines to the own file. What is half written there is cut off before."""
+        if not lines:
+            return
+        path, text = os.path.join(self.folder, self.own), text_of(lines)
+        taken = self.files.get(self.own, Taken(Stamp(0, 0, 0), 0, b""))
+        with open(path, "r+b" if self.own in self.files else "xb") as file:
+            file.truncate(taken.size)
+            file.seek(taken.size)
+            file.write(text)
+        self.files[self.own] = taken.after(stamp_of(os.stat(path)), text)
+        self.last_append = time.monotonic()

@@ -1,0 +1,33 @@
+"""What threads post for a loop that waits on descriptors."""
+
+import os
+from collections import deque
+from typing import Generic, TypeVar
+
+Letter = TypeVar("Letter")
+
+
+class Mailbox(Generic[Letter]):
+    """Letters in their order, and a descriptor that is ready while there are some."""
+
+    def __init__(self) -> None:
+        self.letters: deque[Letter] = deque()
+        self.woken, self.waker = os.pipe()
+        os.set_blocking(self.woken, False)
+        os.set_blocking(self.waker, False)
+
+    def post(self, letter: Letter) -> None:
+        """Adds a letter; any thread may do so."""
+        self.letters.append(letter)
+        try:
+            os.write(self.waker, b"!")
+        except (BlockingIOError, BrokenPipeError):
+            pass  # Whoever waits is woken already, or waits no more.
+
+    def take(self) -> list[Letter]:
+        """Returns all that came."""
+        try:
+            os.read(self.woken, 65536)
+        except BlockingIOError:
+            pass
+        return [self.letters.popleft() for _ in range(len(self.letters))]

@@ -1,0 +1,165 @@
+"""Lines between a hub and those who write at it: operations as mgr spells them, and what both say of themselves.
+
+A line that says something begins with its `op`, as no operation of mgr's spelling does.
+"""
+
+import json
+import os
+import re
+import time
+from collections import deque
+from collections.abc import Iterable, Iterator, Sequence
+from typing import Any
+
+VERSION = 1
+# No line is longer; claims of more come in several.
+LONGEST, PIECE = 65536, 16384
+BLOCK = 65536
+# So many bytes of claims at most, and so many that wait for a peer beside what it asked for.
+MOST_CLAIMS, MOST_WAITING = 1 << 23, 1 << 20
+# Seconds: that a peer may say nothing, that it may take nothing, and between two signs of life.
+SILENCE, STUCK, ALIVE = 150.0, 20.0, 60.0
+
+_TEXT = rb'"[^"\\]*(?:\\.[^"\\]*)*"'
+_ID = rb"\[\d{1,16},\d{1,5}\]"
+OPERATION = re.compile(
+    rb'\{(?:"char":%b,"id":%b,"op":"ins","parent":%b|"id":%b,"op":"del"'
+    rb'|"id":%b,"op":"run","parent":%b,"text":%b|"count":\d{1,4},"id":%b,"op":"dels")\}'
+    % (_TEXT, _ID, _ID, _ID, _ID, _ID, _TEXT, _ID)
+)
+SAYING = b'{"op":"'
+
+
+class Broken(OSError):
+    """A connection that is of no more use. Says why."""
+
+
+def is_operation(line: bytes) -> bool:
+    """Whether a line is an operation: nothing else of others is told mgr as a report."""
+    return bool(OPERATION.fullmatch(line)) and len(line) <= LONGEST
+
+
+def said(op: str, **members: Any) -> bytes:
+    """Returns the line that says something."""
+    return json.dumps({"op": op, **members}, separators=(",", ":")).encode() + b"\n"
+
+
+def saying(line: bytes) -> dict[str, Any] | None:
+    """Returns what a line says, if it is no operation."""
+    if not line.startswith(SAYING):
+        return None
+    try:
+        made: dict[str, Any] = json.loads(line)
+        return made
+    except (ValueError, RecursionError):
+        raise Broken("a line that is neither an operation nor anything else") from None
+
+
+def claims_said(claims: bytes) -> Iterator[bytes]:
+    """Yields the lines that give claims."""
+    text = claims.decode("ascii", "replace")
+    for place in range(0, len(text) or 1, PIECE):
+        more = place + PIECE < len(text)
+        yield said("claims", text=text[place : place + PIECE], more=more)
+
+
+class Wire:
+    """Two descriptors that never block, and what waits to be written."""
+
+    def __init__(self, reading: int, writing: int) -> None:
+        self.reading, self.writing = reading, writing
+        os.set_blocking(reading, False)
+        os.set_blocking(writing, False)
+        self.begun = b""
+        self.claims = ""
+        # What waits, and what follows it once there is room: it was asked for, and may be long.
+        self.waiting, self.coming, self.late = bytearray(), deque[bytes](), 0
+        # When something was read, and when something was written or nothing waited; how many bytes were read.
+        self.heard = self.written = self.begun_at = time.monotonic()
+        self.total = 0
+
+    @property
+    def has_more(self) -> bool:
+        return bool(self.waiting or self.coming)
+
+    def say(self, op: str, **members: Any) -> None:
+        self.pass_on([said(op, **members)])
+
+    def pass_on(self, lines: Iterable[bytes]) -> None:
+        """Has these lines wait, each with its newline: after all that was asked for, if that is not written yet."""
+        if not self.has_more:
+            self.written = time.monotonic()
+        block = b"".join(lines)
+        if self.coming:
+            self.coming.append(block)
+            self.late += len(block)
+        else:
+            self.waiting += block
+
+    def answer(self, lines: Iterable[bytes]) -> None:
+        """Has lines wait that were asked for, however many."""
+        if not self.has_more:
+            self.written = time.monotonic()
+        self.coming.extend(lines)
+
+    def read(self) -> list[bytes]:
+        """Returns the lines that came, without newlines; the end is `Broken`."""
+        try:
+            block = os.read(self.reading, BLOCK)
+        except BlockingIOError:
+            return []
+        if not block:
+            raise Broken("the other end is gone")
+        self.heard = time.monotonic()
+        self.total += len(block)
+        *lines, self.begun = (self.begun + block).split(b"\n")
+        if max(map(len, (*lines, self.begun))) > LONGEST:
+            raise Broken("a line that is too long")
+        return lines
+
+    def write(self) -> None:
+        """Writes as much as is taken now."""
+        while self.coming and len(self.waiting) < BLOCK:
+            self.waiting += self.coming.popleft()
+        if not self.coming:
+            self.late = 0
+        try:
+            del self.waiting[: os.write(self.writing, self.waiting[:BLOCK])]
+            self.written = time.monotonic()
+        except BlockingIOError:
+            pass
+
+    @property
+    def is_behind(self) -> bool:
+        """Whether more waits than is kept for one that takes it slowly."""
+        return max(len(self.waiting), self.late) > MOST_WAITING
+
+    def drop(self) -> None:
+        """Forgets what waits, but for a line that was begun: the other end asks for it once it has taken that."""
+        del self.waiting[self.waiting.find(b"\n") + 1 :]
+        self.coming.clear()
+        self.late = 0
+        self.say("behind")
+
+    def check(self, now: float) -> None:
+        """A peer that says or takes nothing for too long is `Broken`."""
+        if now > self.heard + SILENCE:
+            raise Broken("nothing was heard")
+        if self.has_more and now > self.written + STUCK:
+            raise Broken("nothing is taken")
+
+    def take_claims(self, told: dict[str, Any]) -> bytes | None:
+        """Takes a piece of claims, and returns all once they are whole."""
+        text = told.get("text")
+        if not isinstance(text, str) or len(self.claims) + len(text) > MOST_CLAIMS:
+            raise Broken("claims that are none")
+        self.claims += text
+        if told.get("more"):
+            return None
+        claims, self.claims = self.claims, ""
+        return claims.encode("ascii", "replace")
+
+
+def with_ends(lines: Sequence[bytes]) -> list[bytes]:
+    """Returns lines with their newlines."""
+    return [line + b"\n" for line in lines]

@@ -1,0 +1,217 @@
+"""A note that is carried by a branch of git: its commits, its tips, and what git refuses."""
+
+import os
+import pathlib
+import subprocess
+import threading
+import unittest
+from unittest import mock
+
+from writers import WithWriters, Writer
+
+from mgr_front.channels import State, git
+from mgr_front.channels.clone import fault_of
+from mgr_front.channels.git import GitBranch, Pace
+
+QUICK = Pace(commits=0.3, soon=0.1, later=0.2, lively=60)
+IDENTITY = {"GIT_CONFIG_GLOBAL": os.devnull, "GIT_CONFIG_NOSYSTEM": "1"}
+
+
+class TestFaults(unittest.TestCase):
+    def test_what_git_says_last(self) -> None:
+        cases = (
+            (b"", "git says nothing"),
+            (b"fatal: unable to access 'https://x/': Could not resolve host: x\n", "Could not resolve host: x"),
+            (
+                b"ssh: connect to host x port 22: Connection refused\nfatal: Could not read from remote repository.\n\n"
+                b"Please make sure you have the correct access rights\nand the repository exists.\n",
+                "ssh: connect to host x port 22: Connection refused",
+            ),
+            (b"To x\n!\ta:refs/heads/b\t[rejected] (fetch first)\nerror: failed to push some refs\n", "[rejected] (fetch first)"),
+        )
+        for said, wanted in cases:
+            self.assertTrue(fault_of(said).state.why.endswith(wanted), said)
+
+
+class TestGit(WithWriters):
+    def setUp(self) -> None:
+        super().setUp()
+        settings = mock.patch.dict(os.environ, IDENTITY)
+        settings.start()
+        self.addCleanup(settings.stop)
+        sooner = mock.patch.object(git, "AGAIN", (0.01, 0.2))
+        sooner.start()
+        self.addCleanup(sooner.stop)
+        self.shared = self.folder / "shared.git"
+        self.git("init", "--quiet", "--bare", "--initial-branch=notes", str(self.shared))
+        self.branch = "notes"
+
+    def git(self, *words: str, folder: "pathlib.Path | None" = None) -> str:
+        """Runs git; in the repository that is shared, once that is there."""
+        where = ["-C", str(folder or self.shared)] if self.shared.exists() else []
+        author = ["-c", "user.name=Else", "-c", "user.email=else@example.org"]
+        return subprocess.run(["git", *where, *author, *words], check=True, capture_output=True, text=True).stdout.strip()
+
+    def make(self, writer: Writer, pace: Pace = QUICK) -> GitBranch:
+        name = f"Writer {writer.replica}"
+        return GitBranch(writer, writer.post, writer.mgr, str(self.shared), self.branch, name, pace)
+
+    def pair(self) -> tuple[Writer, Writer]:
+        one = self.begin(1, self.make, "a")
+        self.wait("live", one.word)
+        other = self.begin(2, self.make)
+        self.wait("a", other.signs)
+        other.type("b")
+        self.wait("ab", one.signs)
+        return one, other
+
+    def tip(self) -> str:
+        return self.git("show", f"{self.branch}:note.ops")
+
+    def authors(self) -> list[str]:
+        return self.git("log", "--reverse", "--format=%an|%cn", self.branch).splitlines()
+
+    def test_two_who_write(self) -> None:
+        one, other = self.pair()
+        one.type("c")
+        self.wait("abc", other.signs)
+        self.assertEqual(self.authors(), ["Writer 1|Writer 1", "Writer 2|Writer 2", "Writer 1|Writer 1"])
+        self.assertEqual(self.git("rev-list", "--merges", self.branch), "")
+        for writer in (one, other):
+            self.assertEqual([state.word for state in writer.states], ["joining", "live"])
+            self.close(writer)
+
+    def test_commits_are_apart_but_the_last_one(self) -> None:
+        one = self.begin(1, lambda writer: self.make(writer, Pace(commits=600, soon=0.1)), "a")
+        self.wait("live", one.word)
+        for sign in "bcd":
+            one.type(sign)
+        other = self.begin(2, self.make)
+        self.wait("a", other.signs)
+        self.assertEqual(len(self.authors()), 1)
+        self.close(one)
+        self.wait("abcd", other.signs)
+        self.assertEqual(len(self.authors()), 2)
+
+    def test_many_who_push_at_once(self) -> None:
+        begun = [Writer(self.program, self.folder / str(number), number) for number in range(1, 5)]
+        begun[0].type("a")
+        self.open(begun[0], self.make)
+        self.wait("live", begun[0].word)
+        for writer in begun[1:]:
+            self.open(writer, self.make)
+        for writer in begun:
+            self.wait("a", writer.signs)
+        threads = [threading.Thread(target=writer.type, args=["bcde"[at]]) for at, writer in enumerate(begun)]
+        for thread in threads:
+            thread.start()
+        for thread in threads:
+            thread.join()
+        for writer in begun:
+            self.wait("abcde", writer.signs)
+            self.assertEqual(writer.states, [State("joining"), State("live")])
+        self.assertEqual(self.git("rev-list", "--merges", self.branch), "")
+
+    def test_what_a_forced_push_removed_comes_back(self) -> None:
+        one, other = self.pair()
+        first = self.git("rev-list", "--max-parents=0", self.branch)
+        self.git("update-ref", f"refs/heads/{self.branch}", first)
+        one.type("c")
+        self.wait("abc", other.signs)
+        third = self.begin(3, self.make)
+        self.wait("abc", third.signs)
+
+    def test_a_branch_that_was_removed(self) -> None:
+        one, other = self.pair()
+        self.git("update-ref", "-d", f"refs/heads/{self.branch}")
+        one.type("c")
+        self.wait("abc", other.signs)
+
+    def test_what_else_stands_there_stays(self) -> None:
+        clone = self.folder / "clone"
+        self.git("clone", "-q", str(self.shared), str(clone))
+        (clone / "below").mkdir()
+        (clone / "below" / "note.ops").write_text("below")
+        (clone / "text").write_text("text")
+        self.git("add", ".", folder=clone)
+        self.git("commit", "-qm", "else", folder=clone)
+        self.git("push", "-q", "origin", "HEAD:notes", folder=clone)
+        one = self.begin(1, self.make, "a")
+        self.wait("live", one.word)
+        self.wait(["below/note.ops", "note.ops", "text"], lambda: self.git("ls-tree", "-r", "--name-only", "notes").split())
+        self.assertEqual(self.git("show", "notes:below/note.ops"), "below")
+        self.assertFalse((clone / "note.ops").exists())
+
+    def test_the_branch_that_is_the_head(self) -> None:
+        self.branch = ""
+        one = self.begin(1, self.make, "a")
+        self.wait("live", one.word)
+        # A repository without a commit names no head.
+        self.assertEqual(self.git("branch", "--format=%(refname:short)"), "main")
+        self.close(one)
+        self.git("symbolic-ref", "HEAD", "refs/heads/main")
+        self.git("branch", "else", "main")
+        self.git("symbolic-ref", "HEAD", "refs/heads/else")
+        one.type("b")
+        self.open(one, self.make)
+        self.wait(2, lambda: len(self.git("rev-list", "else").split()))
+        self.assertEqual(len(self.git("rev-list", "main").split()), 1)
+
+    def test_a_persons_own_working_tree_is_not_touched(self) -> None:
+        own = self.folder / "own"
+        self.git("init", "-q", "--initial-branch=main", str(own))
+        (own / "file").write_text("text")
+        self.git("add", ".", folder=own)
+        self.git("commit", "-qm", "else", folder=own)
+        self.shared = own
+        one = self.begin(1, self.make, "a")
+        self.wait("live", one.word)
+        self.assertEqual(self.git("status", "--porcelain"), "")
+        self.assertEqual(self.git("ls-tree", "--name-only", "notes"), "note.ops")
+        self.branch = "main"
+        other = self.begin(2, self.make, "b")
+        self.wait("alone", other.word)
+        self.assertEqual(other.states[-1].why, "[remote rejected] (branch is currently checked out)")
+        self.assertEqual((self.git("status", "--porcelain"), sorted(os.listdir(own))), ("", [".git", "file"]))
+
+    def test_a_repository_that_is_not_there(self) -> None:
+        self.shared = self.folder / "absent"
+        one = self.begin(1, self.make, "a")
+        self.wait("alone", one.word)
+        self.assertEqual(one.states[-1].why, f"fatal: '{self.shared}' does not appear to be a git repository")
+
+    def test_a_log_that_is_spoiled_is_said_and_stays(self) -> None:
+        one, other = self.pair()
+        for writer in (one, other):
+            self.close(writer)
+        clone = self.folder / "clone"
+        self.git("clone", "-q", str(self.shared), str(clone))
+        (clone / "note.ops").write_text(f"<<<<<<< ours\n{self.tip()}\n")
+        self.git("commit", "-qam", "else", folder=clone)
+        self.git("push", "-q", folder=clone)
+        one.type("c")
+        self.open(one, self.make)
+        self.wait("alone", one.word)
+        self.assertIn("line 1: Json", one.states[-1].why)
+        self.assertTrue(self.tip().startswith("<<<<<<<"))
+
+    def test_a_conflict(self) -> None:
+        one, other = self.pair()
+        self.close(one)
+        with open(one.log, "ab") as file:
+            file.write(b'{"char":"x","id":[9,7],"op":"ins","parent":[0,0]}\n')
+        other.save([b'{"char":"y","id":[9,7],"op":"ins","parent":[0,0]}'])
+        other.type("c")
+        self.wait(True, lambda: '"y"' in self.tip())
+        self.open(one, self.make)
+        self.wait("conflict", one.word)
+        self.assertNotIn('"x"', self.tip())
+
+    def test_git_within_a_hook_of_another_repository(self) -> None:
+        with mock.patch.dict(os.environ, GIT_DIR=str(self.folder / "else"), GIT_INDEX_FILE="else"):
+            self.pair()
+        self.assertFalse((self.folder / "else").exists())
+
+
+if __name__ == "__main__":
+    unittest.main()

@@ -1,0 +1,150 @@
+"""People who write in one note over a channel: what each types and takes stands in the own log at once."""
+
+import itertools
+import json
+import os
+import pathlib
+import shutil
+import stat
+import subprocess
+import sys
+import threading
+import time
+import unittest
+from collections.abc import Callable, Sequence
+from unittest import mock
+
+from context import TESTS, InFolder
+
+from mgr_front.channels import Event, Present, State, Took
+from mgr_front.channels.worker import Worker
+
+SECONDS = 60.0
+# A built mgr, where there is one.
+BUILT = os.environ.get("MGR") or shutil.which(str(TESTS.parent.parent / "build" / "mgr"))
+
+
+def program(folder: pathlib.Path) -> str:
+    """Returns a built mgr, or what takes its place."""
+    if BUILT:
+        return BUILT
+    path = folder / "logs"
+    path.write_text(f'#!/bin/sh\nexec {sys.executable} {TESTS / "fake_logs.py"} "$@"\n')
+    path.chmod(stat.S_IRWXU)
+    return str(path)
+
+
+class Writer:
+    """One who writes, as a note for a channel and as a front."""
+
+    def __init__(self, mgr: str, folder: pathlib.Path, replica: int) -> None:
+        folder.mkdir(exist_ok=True)
+        self.mgr, self.replica, self.name = mgr, replica, str(folder / "note")
+        self.log = self.name + ".ops"
+        self.text = self.name
+        self.adopts = False
+        self.lock = threading.Lock()
+        self.states: list[State] = []
+        self.present: list[Present] = []
+        self.channel: Worker | None = None
+
+    # ---- what a channel calls
+
+    def claims(self) -> bytes:
+        return self.run("claims", self.name) if self.lines() else b""
+
+    def missing(self, claims: bytes) -> list[bytes]:
+        return self.run("missing", self.name, given=claims).splitlines() if self.lines() else []
+
+    def accepts(self, lines: Sequence[bytes], claims: bytes = b"") -> bool:
+        own = [json.loads(line)["id"] for line in self.lines()]
+        theirs = [json.loads(line) for line in lines]
+        is_tied = any(told["id"] in own or told.get("parent") in own for told in theirs)
+        return self.adopts or is_tied or not (lines and own)
+
+    def run(self, *words: str, given: bytes = b"") -> bytes:
+        return subprocess.run([self.mgr, *words], input=given, capture_output=True, check=True).stdout
+
+    def post(self, event: Event) -> None:
+        if isinstance(event, Took):
+            # As mgr does it, what conflicts is refused.
+            known = {str(json.loads(line)["id"]) for line in self.lines() if b'"ins"' in line}
+            self.save([line for line in event.lines if b'"del"' in line or str(json.loads(line)["id"]) not in known])
+        elif isinstance(event, State):
+            self.states.append(event)
+        else:
+            self.present.append(event)
+
+    # ---- what a person does
+
+    def save(self, lines: Sequence[bytes]) -> None:
+        with self.lock, open(self.log, "ab") as file:
+            file.write(b"".join(line + b"\n" for line in lines))
+
+    def lines(self) -> list[bytes]:
+        path = pathlib.Path(self.log)
+        return path.read_bytes().splitlines() if path.exists() else []
+
+    def type(self, text: str) -> None:
+        """Types after the last character that it has."""
+        ids = [json.loads(line)["id"] for line in self.lines()]
+        counters, last = itertools.count(max(ids, default=[0])[0] + 1), max(ids, default=[0, 0])
+        made = []
+        for sign, counter in zip(text, counters):
+            told = {"char": sign, "id": [counter, self.replica], "op": "ins", "parent": last}
+            made.append(json.dumps(told, separators=(",", ":")).encode())
+            last = [counter, self.replica]
+        self.save(made)
+        if self.channel:
+            self.channel.tell(made)
+
+    def signs(self) -> str:
+        """Returns the characters that it has, in any order."""
+        told = {line for line in self.lines()}
+        signs = [json.loads(line).get("char", "") + json.loads(line).get("text", "") for line in told]
+        return "".join(sorted("".join(signs)))
+
+    def word(self) -> str:
+        return self.states[-1].word if self.states else ""
+
+
+class WithWriters(InFolder):
+    """A test with people who write in one note."""
+
+    def setUp(self) -> None:
+        super().setUp()
+        state = mock.patch.dict(os.environ, XDG_STATE_HOME=str(self.folder / "state"), XDG_CACHE_HOME=str(self.folder / "cache"))
+        state.start()
+        self.addCleanup(state.stop)
+        self.program = program(self.folder)
+        self.writers: list[Writer] = []
+
+    def begin(self, replica: int, make: "Callable[[Writer], Worker]", text: str = "") -> Writer:
+        """Returns one who has typed this text before, and joins by a channel that is made so."""
+        writer = Writer(self.program, self.folder / str(replica), replica)
+        if text:
+            writer.type(text)
+        self.open(writer, make)
+        return writer
+
+    def open(self, writer: Writer, make: "Callable[[Writer], Worker]") -> None:
+        self.writers.append(writer)
+        writer.channel = make(writer)
+        writer.channel.start()
+        self.addCleanup(writer.channel.close, SECONDS)
+
+    def close(self, writer: Writer) -> None:
+        assert writer.channel
+        self.assertTrue(writer.channel.close(SECONDS), writer.states)
+        writer.channel = None
+
+    def wait(self, wanted: object, of: Callable[[], object]) -> None:
+        """Waits until something is as it has to be."""
+        end = time.monotonic() + SECONDS
+        while (came := of()) != wanted:
+            if time.monotonic() > end:
+                self.assertEqual(came, wanted, [writer.states for writer in self.writers])
+            time.sleep(0.02)
+
+
+__all__ = ["Writer", "WithWriters", "unittest"]
