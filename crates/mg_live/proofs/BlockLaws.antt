@@ -1,5 +1,5 @@
 -- A session stands after the end of a block, and what is told is in the log.
-use Rattle.std.proofs.Common.{◌≡◌, ◌⊎◌, inl, inr, ◌∙◌, ◌++◌, ◌&&◌, arith, ℕ, Bool, true, false, List, [], ◌∷◌, length, Option, Some, None, refl, sym, ap, subst, nat_eq, append-nil}
+use Rattle.std.proofs.Common.{◌≡◌, inl, inr, ◌∙◌, ◌++◌, ◌&&◌, arith, ℕ, Bool, true, false, List, [], ◌∷◌, length, Option, Some, None, refl, sym, ap, subst, nat_eq}
 use Rattle.std.specs.Prelude.{encode_utf8_all, if◌then◌else◌}
 use Rattle.std.specs.Bool.{MatchBool}
 use Rattle.std.specs.List.{Contains}
@@ -12,11 +12,10 @@ use Rattle.rga_ops.proofs.OperationLaws.{Contains-nil}
 use Rattle.mg_buffer.specs.OpenState.{OpenState}
 use Rattle.mg_files.specs.Calls.{Call}
 use Rattle.mg_held.specs.Held.{Held, MayLead}
-use Rattle.mg_session.specs.Moments.{ToldCalls}
 use Rattle.mg_workspace.specs.Buffers.{Buffers, buffer_at}
 use Rattle.mg_editor.specs.Editors.{Editor}
 use Rattle.mg_editor.specs.Frames.{placed_editor}
-use Rattle.mg_editor.specs.Holding.{AreLogged, GoesOn, HaveOwnNames}
+use Rattle.mg_editor.specs.Holding.{AreLogged, GoesOn, HaveOwnNames, IsOpen}
 use Rattle.mg_editor.specs.LiveSaving as saving
 use Rattle.mg_editor.specs.declared.live_saving.Writing.{Writing}
 use Rattle.mg_editor.proofs.EachLaws.{stay_here, nothing_made}
@@ -27,8 +26,9 @@ use Rattle.mg_live.specs.Standing.{AreHeld, AreInLog, AreKept, AreSafe, Stands, 
 use Rattle.mg_live.specs.States.{Live, Moment, StepIf}
 use Rattle.mg_live.specs.Statuses.{Draws, LeavesUnmade, Readies, Shows, begun, can_show, draws, unmade, whole}
 use Rattle.mg_live.proofs.KeyLaws.{StandsSo, goes_on}
-use Rattle.mg_live.proofs.NameLaws.{found_so, none_so}
-use Rattle.mg_live.proofs.StageLaws.{Comes, GoOn}
+use Rattle.mg_live.proofs.NameLaws.{found_so, none_so, open_or_not}
+use Rattle.mg_live.proofs.NumberLaws.{KeepsNumbers, numbers_as, numbers_on, same_numbers}
+use Rattle.mg_live.proofs.StageLaws.{GoOn}
 use Rattle.mg_live.proofs.WritingLaws.{sweep_goes_on}
 
 no_length : (ops : List Op) → length ops ≡ 0 → ops ≡ []
@@ -43,6 +43,7 @@ pub record Same (a b : Moment) : Type 0 where
   pub untold : b.live.telling.untold ≡ a.live.telling.untold
   pub name : b.live.name ≡ a.live.name
   pub calls : b.calls ≡ a.calls
+  pub numbers : KeepsNumbers a.editor.work b.editor.work
 
 same_as : (a b : Moment) → b ≡ a → Same a b
 same_as a b is = record {
@@ -50,12 +51,17 @@ same_as a b is = record {
   untold = ap (λ (m : Moment). m.live.telling.untold) is;
   name = ap (λ (m : Moment). m.live.name) is;
   calls = ap (λ (m : Moment). m.calls) is;
+  numbers = same_numbers a.editor.work b.editor.work (ap (λ (m : Moment). m.editor.work) is);
 }
 
 record Readied (live next : Live) (e f : Editor) : Type 0 where
   buffers : f.work.buffers ≡ e.work.buffers
   untold : next.telling.untold ≡ live.telling.untold
   name : next.name ≡ live.name
+  numbers : KeepsNumbers e.work f.work
+
+numbers_of : (e f g : Editor) → f ≡ g → g.work.replica ≡ e.work.replica → g.work.limit ≡ e.work.limit → KeepsNumbers e.work f.work
+numbers_of e f g is replica limit = numbers_as e.work f.work g.work (ap (λ (x : Editor). x.work) is) replica limit
 
 readied : (fresh is_new : Bool) (live next : Live) (e f : Editor) → Readies fresh is_new live e next f → Readied live next e f
 readied fresh is_new live next e f r = by (draws fresh live) r
@@ -65,11 +71,13 @@ readied fresh is_new live next e f r = by (draws fresh live) r
       buffers = ap (λ (g : Editor). g.work.buffers) placed;
       untold = ap (λ (l : Live). l.telling.untold) draw.rest;
       name = ap (λ (l : Live). l.name) draw.rest;
+      numbers = numbers_of e f (placed_editor e) placed refl refl;
     }
     by false (new, is, same) = record {
       buffers = ap (λ (g : Editor). g.work.buffers) same;
       untold = ap (λ (l : Live). l.telling.untold) is;
       name = ap (λ (l : Live). l.name) is;
+      numbers = numbers_of e f e same refl refl;
     }
 
 unmade_so : (fresh : Bool) (live next : Live) (e f : Editor) → LeavesUnmade fresh live e next f → Readied live next e f
@@ -77,6 +85,7 @@ unmade_so fresh live next e f (inl (is, same)) = record {
   buffers = ap (λ (g : Editor). g.work.buffers) same;
   untold = ap (λ (l : Live). l.telling.untold) is;
   name = ap (λ (l : Live). l.name) is;
+  numbers = numbers_of e f e same refl refl;
 }
 unmade_so fresh live next e f (inr (is_new, r)) = readied fresh is_new live next e f r
 
@@ -88,6 +97,7 @@ shown_same {fresh} {more} {told} a b (whole bytes screen next f is written failu
       untold = ap (λ (m : Moment). m.live.telling.untold) left ∙ r.untold;
       name = ap (λ (m : Moment). m.live.name) left ∙ r.name;
       calls = ap (λ (m : Moment). m.calls) left;
+      numbers = numbers_on a.editor.work f.work b.editor.work r.numbers (same_numbers f.work b.editor.work (ap (λ (m : Moment). m.editor.work) left));
     }
 shown_same {fresh} {more} {told} a b (begun front rest screen next f is written fails left) =
     let r = readied fresh is.is_new a.live next a.editor f is.drawn in
@@ -96,6 +106,7 @@ shown_same {fresh} {more} {told} a b (begun front rest screen next f is written 
       untold = ap (λ (m : Moment). m.live.telling.untold) left ∙ r.untold;
       name = ap (λ (m : Moment). m.live.name) left ∙ r.name;
       calls = ap (λ (m : Moment). m.calls) left;
+      numbers = numbers_on a.editor.work f.work b.editor.work r.numbers (same_numbers f.work b.editor.work (ap (λ (m : Moment). m.editor.work) left));
     }
 shown_same {fresh} {more} {told} a b (unmade next f placed left) =
     let r = unmade_so fresh a.live next a.editor f placed in
@@ -104,6 +115,7 @@ shown_same {fresh} {more} {told} a b (unmade next f placed left) =
       untold = ap (λ (m : Moment). m.live.telling.untold) left ∙ r.untold;
       name = ap (λ (m : Moment). m.live.name) left ∙ r.name;
       calls = ap (λ (m : Moment). m.calls) left;
+      numbers = numbers_on a.editor.work f.work b.editor.work r.numbers (same_numbers f.work b.editor.work (ap (λ (m : Moment). m.editor.work) left));
     }
 
 shown_if : (go fresh more : Bool) (told : List ℕ) (a b : Moment) → StepIf go (Shows fresh more told) a b → Same a b
@@ -199,6 +211,16 @@ told_if : (t : Held) (go fresh : Bool) (a b : Moment) → StepIf go (Tells fresh
 told_if t true fresh a b tells stands = told_stands t fresh a b tells stands
 told_if t false fresh a b is stands = subst (StandsAt t) (sym is) stands
 
+tell_numbers : (go fresh : Bool) (a b : Moment) → StepIf go (Tells fresh) a b → KeepsNumbers a.editor.work b.editor.work
+tell_numbers true fresh a b tells =
+    numbers_on a.editor.work tells.shown.editor.work b.editor.work (shown_same a tells.shown tells.shows).numbers
+    (same_numbers tells.shown.editor.work b.editor.work (ap (λ (m : Moment). m.editor.work) tells.left))
+tell_numbers false fresh a b is = same_numbers a.editor.work b.editor.work (ap (λ (m : Moment). m.editor.work) is)
+
+write_numbers : (writing : Option Writing) (a b : Moment) → Writes writing a b → KeepsNumbers a.editor.work b.editor.work
+write_numbers None a b is = same_numbers a.editor.work b.editor.work (ap (λ (m : Moment). m.editor.work) is)
+write_numbers (Some writing) a b (swept, is) = record { replica = ap (λ (m : Moment). m.editor.work.replica) is; limit = ap (λ (m : Moment). m.editor.work.limit) is }
+
 tell_buffers : (go fresh : Bool) (a b : Moment) → StepIf go (Tells fresh) a b
     → (b.editor.work.buffers ≡ a.editor.work.buffers) × (b.live.name ≡ a.live.name) × (b.calls ≡ a.calls)
 tell_buffers true fresh a b tells =
@@ -221,6 +243,14 @@ module _ (before after : Moment) (e : EndsBlock before after) (s t : Held) (told
 
   kept_as : after.editor.work.buffers ≡ e.written.editor.work.buffers
   kept_as = ap (λ (m : Moment). m.editor.work.buffers) e.left ∙ telling.0
+
+  pub block_numbers : KeepsNumbers before.editor.work after.editor.work
+  block_numbers =
+      let told = tell_numbers (has_more before.live before.editor && can_show e.written.course) (saves_due before.live before.editor) e.written e.told e.tells in
+      let last = same_numbers e.told.editor.work after.editor.work (ap (λ (m : Moment). m.editor.work) e.left) in
+      numbers_on before.editor.work e.shown.editor.work after.editor.work shown.numbers
+      (numbers_on e.shown.editor.work e.written.editor.work after.editor.work (write_numbers (writing_due before.live before.editor) ready e.written e.writes)
+      (numbers_on e.written.editor.work e.told.editor.work after.editor.work told last))
 
   calls_as : after.calls ≡ e.written.calls
   calls_as = ap (λ (m : Moment). m.calls) e.left ∙ telling.2
@@ -246,7 +276,7 @@ module _ (before after : Moment) (e : EndsBlock before after) (s t : Held) (told
         written_stands s t told made leads (writing_due before.live before.editor) ready e.written right ready_stands (subst AreKept kept_as later) e.writes
         ready_calls written_calls
 
-    written_name : e.written.live.name ≡ before.live.name
+    pub written_name : e.written.live.name ≡ before.live.name
     written_name = (write_telling s t told made leads (writing_due before.live before.editor) ready e.written e.writes).1 ∙ shown.name
 
     pub block_stands : Stands t after
@@ -262,6 +292,19 @@ module _ (before after : Moment) (e : EndsBlock before after) (s t : Held) (told
           spelled = subst (λ n. all_scalars n ≡ true) (sym (named ∙ telling.1 ∙ written_name)) stands.spelled;
           untold = at.safe;
         }
+
+    -- what is held stays, if no buffer of that name is open afterwards
+    pub block_spares : (IsOpen (live_name before) after.editor.work.buffers → ⊥) → t (live_name before) ≡ s (live_name before)
+    block_spares none =
+        let go = write_goes s t told made leads (live_name before) (writing_due before.live before.editor) ready e.written ready_stands e.writes ready_calls written_calls in
+        let gone : IsOpen (live_name before) e.written.editor.work.buffers → ⊥ = λ found. none (subst (IsOpen (live_name before)) (sym kept_as) found) in
+        elim (open_or_not before.live.name ready.editor.work.buffers stands.spelled ready_stands.kept.named) [
+          | inl (b, c, is) ↦ (go.removed b c is gone).1
+          | inr closed ↦ go.spared closed
+        ]
+
+    pub block_name : after.live.name ≡ before.live.name
+    block_name = ap (λ (m : Moment). m.live.name) e.left ∙ telling.1 ∙ written_name
 
     -- each buffer came by steps
     pub block_each : (d : OpenState) → Contains after.editor.work.buffers.all d → GoesOn [] before.editor.work.buffers s d t

@@ -1,6 +1,6 @@
 -- What a request leaves of the open buffers, and of what is held under other names.
-use Rattle.std.proofs.Common.{◌≡◌, ◌⊎◌, inl, inr, ◌∙◌, ℕ, Bool, true, false, List, [], ◌++◌, Option, Some, None, Result, Ok, Err, is_some, refl, sym, ap, subst, append-nil}
-use Rattle.std.specs.Prelude.{encode_utf8_all, if◌then◌else◌}
+use Rattle.std.proofs.Common.{◌≡◌, inl, inr, ◌∙◌, ℕ, true, List, [], ◌++◌, Option, Some, None, Result, Ok, Err, refl, sym, ap, subst, append-nil}
+use Rattle.std.specs.Prelude.{encode_utf8_all}
 use Rattle.std.specs.List.{Contains}
 use Rattle.std.specs.Str.{all_scalars}
 use Rattle.mg_buffer.specs.OpenState.{OpenState}
@@ -12,17 +12,15 @@ use Rattle.mg_held.specs.Held.{Held, MayLead}
 use Rattle.mg_held.proofs.RunSteps.{made_are}
 use Rattle.mg_minibuffer.specs.declared.ending.Request.{Request}
 use Rattle.mg_minibuffer.specs.declared.ending.Request.TheVariants as request
-use Rattle.mg_minibuffer.specs.declared.message.Message.TheVariants as message
 use Rattle.mg_sync.specs.Asking.{Role, Connects, Waits}
 use Rattle.mg_workspace.specs.Names.{buffer_named}
-use Rattle.mg_workspace.specs.Opening.{is_full}
 use Rattle.mg_workspace.specs.Workspaces.{Workspace, workspace_buffer}
 use Rattle.mg_editor.specs.Carrying.{Carried}
 use Rattle.mg_editor.specs.Editors.{Editor}
 use Rattle.mg_editor.specs.Finding.{Loads, Opening, opening_outcome, unopened}
-use Rattle.mg_editor.specs.Holding.{AreOpen, HaveOwnNames, GoesOn, IsOpen, IsOpenedBy}
+use Rattle.mg_editor.specs.Holding.{AreOpen, HaveOwnNames, IsOpen}
 use Rattle.mg_editor.specs.Meeting.{role_of}
-use Rattle.mg_editor.specs.Telling.{CarryAnswer, TellsOutcome, editor_saying}
+use Rattle.mg_editor.specs.Telling.{CarryAnswer, TellsOutcome}
 use Rattle.mg_editor.proofs.CallLaws.{AllSpare, all_spared}
 use Rattle.mg_editor.proofs.CourseLaws.{save_goes}
 use Rattle.mg_editor.proofs.EachLaws.{stay_here, nothing_made}
@@ -30,7 +28,7 @@ use Rattle.mg_editor.proofs.RemovalLaws.{carried_stay}
 use Rattle.mg_editor.proofs.RequestLaws.{request_goes}
 use Rattle.mg_live.specs.Keys.{Meets}
 use Rattle.mg_live.proofs.MeetingLaws.{course_spares}
-use Rattle.mg_live.proofs.NameLaws.{none_so, same_characters}
+use Rattle.mg_live.proofs.NameLaws.{none_so}
 use Rattle.mg_live.proofs.StageLaws.{Comes, GoOn}
 
 abbrev ToldFind : List ℕ → Option (List Call) → Option (List Call) → Editor → Editor → CarryAnswer → Option Editor → Type 0

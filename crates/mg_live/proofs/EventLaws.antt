@@ -18,7 +18,7 @@ use Rattle.mg_sync.specs.Asking.{Role}
 use Rattle.mg_workspace.specs.Buffers.{Buffers}
 use Rattle.mg_workspace.specs.Workspaces.{Workspace}
 use Rattle.mg_editor.specs.Editors.{Editor}
-use Rattle.mg_editor.specs.Holding.{GoesOn, HaveOwnNames, IsOpenedBy}
+use Rattle.mg_editor.specs.Holding.{GoesOn, HaveOwnNames, IsOpen, IsOpenedBy}
 use Rattle.mg_editor.specs.Meeting.{role_of}
 use Rattle.mg_editor.proofs.EachLaws.{nothing_made, stay_here}
 use Rattle.mg_editor.proofs.HoldingLaws.{pressed_on}
@@ -27,11 +27,14 @@ use Rattle.mg_live.specs.Keys.{TakesKey}
 use Rattle.rga_table.specs.declared.fault.LineFault.{LineFault}
 use Rattle.mg_live.specs.Reports.{TakesLine, RefusesLine, counted}
 use Rattle.mg_live.specs.Running.{Noted, TakesEvent}
-use Rattle.mg_live.specs.Standing.{AreKept, AreKeptWithin, ComesBy, Stands, operations_at}
-use Rattle.mg_live.specs.States.{Live, Moment}
+use Rattle.mg_live.specs.Standing.{AreKept, AreKeptWithin, ComesBy, Stands, live_name, operations_at}
+use Rattle.mg_live.specs.States.{Moment}
 use Rattle.mg_live.specs.declared.fault.ReportFault.TheVariants.{Line}
 use Rattle.mg_live.proofs.BlockLaws.{Same, as_before}
-use Rattle.mg_live.proofs.KeyLaws.{StandsSo, asking_stands, carried, meets, key_stands, key_name, noted_stands}
+use Rattle.mg_live.proofs.KeyLaws.{StandsSo, asking_stands, carried, meets, key_stands, key_name, noted_stands, request_goes_on}
+use Rattle.mg_live.proofs.MadeLaws.{notes_keep}
+use Rattle.mg_live.proofs.NameLaws.{open_or_not}
+use Rattle.mg_live.proofs.NumberLaws.{KeepsNumbers, carry_numbers, numbers_as, numbers_on, press_numbers, same_numbers}
 use Rattle.mg_live.proofs.TakenKeyLaws.{said_work}
 use Rattle.mg_live.proofs.ReportLaws.{Came, line_came, refused_keeps}
 
@@ -96,6 +99,21 @@ module _ (byte : ℕ) (before taken : Moment) (k : TakesKey byte before taken) (
   further : (ops : List Op) (d : OpenState) → GoesOn ops from.work.buffers s d t → GoesOn ops before.editor.work.buffers s d t
   further ops d go = on_from ops before.editor.work.buffers from.work.buffers s t d from_kept.are.writable press go
 
+  pub key_numbers : KeepsNumbers before.editor.work taken.editor.work
+  key_numbers =
+      numbers_on before.editor.work k.pressed.work taken.editor.work (press_numbers byte before.editor k.pressed k.answer k.presses)
+      (numbers_on k.pressed.work from.work taken.editor.work (same_numbers k.pressed.work from.work from_work)
+      (carry_numbers (request_of k.answer) before.calls taken.calls from taken.editor k.carry_answer k.carried))
+
+  -- what is held stays, if no buffer of that name is open afterwards
+  pub key_spares : (IsOpen (live_name before) taken.editor.work.buffers → ⊥) → t (live_name before) ≡ s (live_name before)
+  key_spares none =
+      let go = request_goes_on byte before taken k s stands now t told made calls adds leads later spelled in
+      elim (open_or_not before.live.name from.work.buffers stands.spelled from_kept.named) [
+        | inl (b, c, is) ↦ (go.removed b c is none).1
+        | inr closed ↦ go.spared closed
+      ]
+
   pub key_each : (d : OpenState) → Contains taken.editor.work.buffers.all d
       → ((ops : List Op) × (role_of (request_of k.answer) ≡ None → ops ≡ []) × GoesOn ops before.editor.work.buffers s d t)
       ⊎ ((name : List ℕ) × IsOpenedBy name k.pressed.work s d t)
@@ -125,6 +143,9 @@ noted_editor taken after (notes, same) = ap (λ (m : Moment). m.editor) same
 noted_calls : (taken after : Moment) → Noted taken after → after.calls ≡ taken.calls
 noted_calls taken after (notes, same) = ap (λ (m : Moment). m.calls) same
 
+noted_name : (taken after : Moment) → Noted taken after → after.live.name ≡ taken.live.name
+noted_name taken after (notes, same) = (notes_keep taken.editor taken.course after.course taken.live after.live notes).name
+
 -- nothing was asked of the port
 same_held : (told made : List Call) (s t : Held) (a b : Moment) → b.calls ≡ a.calls → a.calls ≡ Some told → b.calls ≡ Some (told ++ made) → MayLead made s t
     → (name : List ℕ) → t name ≡ s name
@@ -146,6 +167,7 @@ line_refused fault before after so same =
       untold = keeps.untold;
       name = keeps.name;
       calls = ap (λ (m : Moment). m.calls) same;
+      numbers = numbers_as before.editor.work after.editor.work before.editor.work (ap (λ (m : Moment). m.editor.work) same) refl refl;
     }
 
 module _ (s t : Held) (told made : List Call) (leads : MayLead made s t) where
@@ -198,3 +220,42 @@ module _ (s t : Held) (told made : List Call) (leads : MayLead made s t) where
       let is = line_refused fault before after taken same in
       stay_here before.editor.work.buffers after.editor.work.buffers.all s t (ap (λ (bs : Buffers). bs.all) is.buffers)
       (same_held told made s t before after is.calls calls adds leads) d c
+
+  pub event_numbers : (event : Told) (before after : Moment) (taken : TakesEvent event before after) → Stands s before → AreKeptWithin event before after taken
+      → AreKept after.editor.work.buffers → before.calls ≡ Some told → after.calls ≡ Some (told ++ made) → KeepsNumbers before.editor.work after.editor.work
+  event_numbers (key byte) before after (mid, k, noted) stands (now, spelled) later calls adds =
+      let editor = noted_editor mid after noted in
+      numbers_on before.editor.work mid.editor.work after.editor.work
+      (key_numbers byte before mid k s t told made stands now calls (sym (noted_calls mid after noted) ∙ adds) leads
+      (subst (λ (e : Editor). AreKept e.work.buffers) editor later) spelled)
+      (same_numbers mid.editor.work after.editor.work (ap (λ (e : Editor). e.work) editor))
+  event_numbers (report line) before after (mid, taken, same, noted) stands within later calls adds =
+      let editor = noted_editor mid after noted in
+      let came = report_came line before after mid stands taken (subst (λ (e : Editor). AreKept e.work.buffers) editor later) in
+      numbers_on before.editor.work mid.editor.work after.editor.work came.numbers (same_numbers mid.editor.work after.editor.work (ap (λ (e : Editor). e.work) editor))
+  event_numbers (refused fault) before after (taken, same) stands within later calls adds = (line_refused fault before after taken same).numbers
+
+  pub event_spares : (event : Told) (before after : Moment) (taken : TakesEvent event before after) → Stands s before → AreKeptWithin event before after taken
+      → AreKept after.editor.work.buffers → before.calls ≡ Some told → after.calls ≡ Some (told ++ made)
+      → (IsOpen (live_name before) after.editor.work.buffers → ⊥) → t (live_name before) ≡ s (live_name before)
+  event_spares (key byte) before after (mid, k, noted) stands (now, spelled) later calls adds none =
+      let editor = noted_editor mid after noted in
+      key_spares byte before mid k s t told made stands now calls (sym (noted_calls mid after noted) ∙ adds) leads
+      (subst (λ (e : Editor). AreKept e.work.buffers) editor later) spelled
+      (λ found. none (subst (λ (e : Editor). IsOpen (live_name before) e.work.buffers) (sym editor) found))
+  event_spares (report line) before after (mid, taken, same, noted) stands within later calls adds none =
+      let still = noted_calls mid after noted ∙ ap (λ (m : Moment). m.calls) same in
+      same_held told made s t before after still calls adds leads (live_name before)
+  event_spares (refused fault) before after (taken, same) stands within later calls adds none =
+      same_held told made s t before after (line_refused fault before after taken same).calls calls adds leads (live_name before)
+
+  pub event_name : (event : Told) (before after : Moment) (taken : TakesEvent event before after) → Stands s before → AreKeptWithin event before after taken
+      → AreKept after.editor.work.buffers → before.calls ≡ Some told → after.calls ≡ Some (told ++ made) → after.live.name ≡ before.live.name
+  event_name (key byte) before after (mid, k, noted) stands (now, spelled) later calls adds =
+      noted_name mid after noted
+      ∙ key_name byte before mid k s stands now t told made calls (sym (noted_calls mid after noted) ∙ adds) leads
+      (subst (λ (e : Editor). AreKept e.work.buffers) (noted_editor mid after noted) later) spelled
+  event_name (report line) before after (mid, taken, same, noted) stands within later calls adds =
+      noted_name mid after noted
+      ∙ (report_came line before after mid stands taken (subst (λ (e : Editor). AreKept e.work.buffers) (noted_editor mid after noted) later)).named
+  event_name (refused fault) before after (taken, same) stands within later calls adds = (line_refused fault before after taken same).name

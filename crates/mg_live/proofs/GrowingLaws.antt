@@ -1,6 +1,5 @@
 -- What steps leave of a buffer: its name, and all that it had.
 use Rattle.std.proofs.Common.{◌≡◌, ◌∙◌, ◌++◌, List, [], ◌∷◌, Some, refl, sym, ap, subst}
-use Rattle.std.specs.Prelude.{Contains}
 use Rattle.rga_ops.specs.Content.{Content, IsWithin, Holds, join, content_of}
 use Rattle.rga_ops.specs.declared.op.Op.{Op}
 use Rattle.rga_ops.proofs.ContentLaws.{within_itself, within_chain, within_join}

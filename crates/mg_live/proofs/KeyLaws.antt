@@ -1,7 +1,6 @@
 -- A session stands after a key.
-use Rattle.std.proofs.Common.{◌≡◌, ◌⊎◌, inl, inr, ◌∙◌, ◌++◌, ℕ, Bool, true, false, List, [], ◌∷◌, Option, Some, None, refl, sym, ap, subst, true≢false}
+use Rattle.std.proofs.Common.{◌≡◌, inl, inr, ◌∙◌, ◌++◌, ℕ, Bool, true, false, List, [], ◌∷◌, Option, Some, refl, sym, ap, subst, true≢false}
 use Rattle.std.specs.Prelude.{encode_utf8_all, IfSome}
-use Rattle.std.specs.List.{Contains}
 use Rattle.std.specs.Str.{all_scalars}
 use Rattle.rga_ops.specs.declared.op.Op.{Op}
 use Rattle.mg_buffer.specs.OpenState.{OpenState, is_changed}
@@ -18,15 +17,15 @@ use Rattle.mg_editor.specs.Meeting.{role_of}
 use Rattle.mg_editor.proofs.HoldingLaws.{pressed_on}
 use Rattle.mg_editor.proofs.NamesLaws.{press_own, carry_own}
 use Rattle.mg_editor.proofs.RemovalLaws.{pressed_so}
-use Rattle.mg_live.specs.Keys.{TakesKey, Meets, is_save, saved_by, with_opened}
+use Rattle.mg_live.specs.Keys.{TakesKey, Meets, is_save, saved_by}
 use Rattle.mg_live.specs.Made.{is_live, made_at, with_made}
-use Rattle.mg_live.specs.Running.{Noted, TakesEvent}
-use Rattle.mg_live.specs.Standing.{AreKept, AreSafe, Stands, live_name}
+use Rattle.mg_live.specs.Running.{Noted}
+use Rattle.mg_live.specs.Standing.{AreKept, AreSafe, Stands}
 use Rattle.mg_live.specs.States.{Live, Moment}
 use Rattle.mg_live.specs.Tallies.{with_key}
 use Rattle.mg_live.specs.Telling.{Telling}
 use Rattle.mg_live.proofs.CarryLaws.{carry_goes}
-use Rattle.mg_live.proofs.MadeLaws.{KeepsTelling, live_there, made_safe, notes_keep, opened_keeps_name, opened_safe}
+use Rattle.mg_live.proofs.MadeLaws.{live_there, made_safe, notes_keep, opened_keeps_name, opened_safe}
 use Rattle.mg_live.proofs.NameLaws.{open_or_not}
 use Rattle.mg_live.proofs.ShapeLaws.{press_same}
 use Rattle.mg_live.proofs.StageLaws.{GoOn, still_logged, still_safe}

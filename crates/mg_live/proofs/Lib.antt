@@ -8,6 +8,7 @@ pub mod StandingLaws
 pub mod SessionLaws
 pub mod NameLaws
 pub mod GrowingLaws
+pub mod NumberLaws
 pub mod StageLaws
 pub mod ShapeLaws
 pub mod MadeLaws
@@ -18,5 +19,7 @@ pub mod ReportLaws
 pub mod WritingLaws
 pub mod BlockLaws
 pub mod EventLaws
+pub mod TogetherActs
 pub mod StartLaws
+pub mod TogetherLaws
 pub mod TakenKeyLaws

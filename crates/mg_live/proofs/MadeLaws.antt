@@ -1,5 +1,5 @@
 -- What is made and not told stays safe.
-use Rattle.std.proofs.Common.{◌≡◌, ◌⊎◌, inl, inr, ◌∙◌, ◌<◌, ◌++◌, ◌&&◌, arith, ℕ, Bool, true, false, List, [], length, take, drop, Option, Some, None, refl, sym, ap, subst, append-nil, true≢false}
+use Rattle.std.proofs.Common.{◌≡◌, ◌⊎◌, inl, inr, ◌∙◌, ◌<◌, ◌++◌, ℕ, Bool, true, false, List, [], length, take, drop, Option, Some, None, refl, sym, ap, subst, append-nil, true≢false}
 use Rattle.std.specs.Prelude.{if◌then◌else◌, encode_utf8_all, nat_eq}
 use Rattle.std.specs.List.{Contains}
 use Rattle.std.specs.Option.{is_some}

@@ -8,14 +8,13 @@ use Rattle.rga_ops.specs.declared.op.Op.{Op}
 use Rattle.mg_buffer.specs.OpenState.{OpenState}
 use Rattle.mg_files.specs.Calls.{Call}
 use Rattle.mg_held.specs.Held.{Held, MayLead}
-use Rattle.mg_session.specs.Moments.{ToldCalls}
 use Rattle.mg_sync.specs.Asking.{Role}
 use Rattle.mg_sync.specs.Linking.{Account, ExchangesOver}
 use Rattle.mg_workspace.specs.Buffers.{Buffers, current_buffer, no_buffer}
 use Rattle.mg_workspace.specs.Workspaces.{Workspace, workspace_buffer}
 use Rattle.mg_workspace.specs.declared.failures.Task.TheVariants as task
 use Rattle.mg_editor.specs.Editors.{Editor}
-use Rattle.mg_editor.specs.Holding.{AreOpen, HaveOwnNames, IsOpen}
+use Rattle.mg_editor.specs.Holding.{IsOpen}
 use Rattle.mg_editor.specs.Meeting.{meeting_outcome}
 use Rattle.mg_editor.specs.Telling.{CarryAnswer, ChangesCurrent}
 use Rattle.mg_editor.proofs.CallLaws.{all_spared}

@@ -1,5 +1,5 @@
 -- Open buffers by their names.
-use Rattle.std.proofs.Common.{◌≡◌, ◌⊎◌, inl, inr, ◌∙◌, ℕ, ◌<◌, ◌≤◌, arith, Bool, true, false, nat_lt, List, length, get_or, Option, Some, None, refl, sym, ap, subst, true≢false}
+use Rattle.std.proofs.Common.{◌≡◌, ◌⊎◌, inl, inr, ◌∙◌, ℕ, ◌<◌, arith, Bool, true, false, nat_lt, List, length, get_or, Option, Some, None, refl, sym, ap, true≢false}
 use Rattle.std.specs.Prelude.{encode_utf8_all, chars, if◌then◌else◌}
 use Rattle.std.specs.List.{Contains, position_or_len}
 use Rattle.std.specs.Str.{is_utf8, all_scalars}

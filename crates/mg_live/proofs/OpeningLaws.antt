@@ -1,5 +1,5 @@
 -- What a live session opens with.
-use Rattle.std.proofs.Common.{◌≡◌, ◌<◌, arith, ℕ, List, [], ◌∷◌, ◌++◌, append-nil, Option, Some, None, Result, Ok, Err, length, is_ok, refl, sym, ap, subst, ◌∙◌, true≢false}
+use Rattle.std.proofs.Common.{◌≡◌, ◌<◌, arith, ℕ, [], append-nil, Some, None, Result, Ok, Err, length, is_ok, refl, sym, ap, subst, true≢false}
 use Rattle.mg_files.specs.Calls.{Adds}
 use Rattle.mg_files.specs.Files.{Files}
 use Rattle.mg_files.specs.Loading.{load_outcome}

@@ -1,5 +1,5 @@
 -- A session stands after a report.
-use Rattle.std.proofs.Common.{◌≡◌, ◌≢◌, ◌⊎◌, inl, inr, ◌∙◌, ◌<◌, ℕ, Bool, true, false, List, [], ◌∷◌, length, Option, Some, None, Result, Ok, Err, MatchResult, refl, sym, ap, subst, nat_eq}
+use Rattle.std.proofs.Common.{◌≡◌, inl, inr, ◌∙◌, ◌<◌, ℕ, Bool, true, false, List, [], ◌∷◌, length, Option, Some, None, Result, Ok, Err, MatchResult, refl, sym, ap, subst, nat_eq}
 use Rattle.std.specs.Prelude.{encode_utf8_all}
 use Rattle.std.specs.Bool.{MatchBool}
 use Rattle.std.specs.List.{Contains, list_any}
@@ -8,7 +8,6 @@ use Rattle.rga_ops.specs.Answer.{answer}
 use Rattle.rga_ops.specs.ListAnswer.{list_answer}
 use Rattle.rga_ops.specs.declared.op.Op.{Op}
 use Rattle.rga_ops.specs.declared.refusal.Refusal.{Refusal}
-use Rattle.rga_ops.specs.declared.refusal.Refusal.TheVariants as refusal
 use Rattle.rga_ops.specs.declared.refusal.Taken.{Taken}
 use Rattle.rga_table.specs.Runs.{stretch_operations, run_deletions}
 use Rattle.rga_table.specs.declared.fault.LineFault.{LineFault}
@@ -22,19 +21,16 @@ use Rattle.mg_plain.specs.declared.command.Command.TheVariants.{ReplaceRange}
 use Rattle.mg_session.specs.declared.course.Course.{Course}
 use Rattle.mg_session.specs.declared.course.Course.TheVariants.{On}
 use Rattle.mg_workspace.specs.AtIndex.{RunsAt, state_at}
-use Rattle.mg_workspace.specs.Workspaces.{Workspace}
 use Rattle.mg_workspace.specs.declared.fault.ActionFault.{ActionFault}
 use Rattle.mg_editor.specs.Editors.{Editor}
 use Rattle.mg_editor.specs.Holding.{GoesOn, HaveOwnNames, IsOpen}
 use Rattle.mg_editor.specs.LiveTaking.{taking, with_changed}
-use Rattle.mg_editor.specs.Pasting.{Pasted}
 use Rattle.mg_editor.specs.declared.pasting.PasteFault.{PasteFault}
 use Rattle.mg_editor.proofs.HoldingLaws.{one_taken_on, pasted_on, spliced_on, taken_on}
 use Rattle.mg_editor.proofs.NamesLaws.{pasted_own, spliced_own, taken_own}
 use Rattle.mg_editor.proofs.RemovalLaws.{pasted_stay, spliced_stay, taken_stay}
 use Rattle.mg_live.specs.Changes.{change_count}
 use Rattle.mg_live.specs.FaultNames.{of_paste}
-use Rattle.mg_live.specs.Gathering.{Gathered}
 use Rattle.mg_live.specs.Made.{is_live, live_index, made_at, with_made}
 use Rattle.mg_live.specs.Reports.{Verdict, clock_at, is_far, with_taken, TakesOperation, TakesList, TakesOthers, Pastes, Splices, TakesPiece, Takes, RefusesReport, Follows, TakesReport, TakesLine, counted, resized, splice_fault}
 use Rattle.mg_live.specs.Standing.{AreKept, AreSafe, operations_of, operations_read, operations_at}
@@ -46,7 +42,8 @@ use Rattle.mg_live.specs.declared.gathered.Piece.TheVariants.{Held as Waits, Who
 use Rattle.mg_live.proofs.KeyLaws.{StandsSo, goes_on}
 use Rattle.mg_live.proofs.MadeLaws.{live_there, made_safe}
 use Rattle.mg_live.proofs.NameLaws.{found_so}
-use Rattle.mg_live.proofs.ShapeLaws.{SameNames, paste_same, run_same}
+use Rattle.mg_live.proofs.NumberLaws.{KeepsNumbers, paste_numbers, run_numbers, same_numbers}
+use Rattle.mg_live.proofs.ShapeLaws.{paste_same, run_same}
 use Rattle.mg_live.proofs.StageLaws.{GoOn}
 
 -- what is to be told is the same
@@ -94,12 +91,14 @@ module _ (name : List ℕ) (right : all_scalars name ≡ true) (s : Held) (e : E
     pub stands : StandsSo name next.telling.untold f s
     pub named : next.name ≡ name
     pub each : (d : OpenState) → Contains f.work.buffers.all d → GoesOn ops e.work.buffers s d s
+    pub numbers : KeepsNumbers e.work f.work
 
   pub keeps_came : (ops : List Op) (f : Editor) (live next : Live) → KeepsUntold live next → Came ops f live → Came ops f next
   keeps_came ops f live next keeps came = record {
     stands = subst (λ (xs : List Op). StandsSo name xs f s) (sym keeps.untold) came.stands;
     named = keeps.name ∙ came.named;
     each = came.each;
+    numbers = came.numbers;
   }
 
   -- the buffers are as they were
@@ -109,6 +108,7 @@ module _ (name : List ℕ) (right : all_scalars name ≡ true) (s : Held) (e : E
       stands = stands;
       named = named;
       each = λ d c. record { b = d; was = c; steps = []; takes = tt; goes = (refl, refl) };
+      numbers = same_numbers e.work e.work refl;
     }
 
     stays : (ops : List Op) (f : Editor) (next : Live) → f ≡ e → next ≡ live → Came ops f next
@@ -121,21 +121,21 @@ module _ (name : List ℕ) (right : all_scalars name ≡ true) (s : Held) (e : E
     went : (ops : List Op) (f : Editor) (next : Live) → AreKept f.work.buffers → HaveOwnNames f.work.buffers
         → ((d : OpenState) → Contains f.work.buffers.all d → GoesOn ops e.work.buffers s d s)
         → ((b : OpenState) → Contains e.work.buffers.all b → IsOpen b.buffer.name f.work.buffers)
-        → (StandsSo name live.telling.untold f s → StandsSo name next.telling.untold f s) → next.name ≡ live.name → Came ops f next
-    went ops f next later own each stay noted same =
+        → KeepsNumbers e.work f.work → (StandsSo name live.telling.untold f s → StandsSo name next.telling.untold f s) → next.name ≡ live.name → Came ops f next
+    went ops f next later own each stay numbers noted same =
         let go : GoOn (encode_utf8_all name) e.work f.work s s = record {
           each = λ d c. inl (ops, each d c);
           removed = λ b c at none. absurd (none (subst (λ n. IsOpen n f.work.buffers) at (stay b c)));
           spared = λ closed. refl;
         } in
-        record { stands = noted (goes_on name live.telling.untold e f s s right stands later own go); named = same ∙ named; each = each }
+        record { stands = noted (goes_on name live.telling.untold e f s s right stands later own go); named = same ∙ named; each = each; numbers = numbers }
 
     -- ---- operations of others
 
     taken : (ops : List Op) (i : ℕ) (f : Editor) (next : Live) → AreKept f.work.buffers → f ≡ taking i ops e
         → ((d : OpenState) → Contains f.work.buffers.all d → GoesOn ops e.work.buffers s d s) → KeepsUntold live next → Came ops f next
     taken ops i f next later same each keeps =
-        went ops f next later (taken_own i ops e f stands.own same) each (taken_stay i ops e f same)
+        went ops f next later (taken_own i ops e f stands.own same) each (taken_stay i ops e f same) (record { replica = ap (λ (g : Editor). g.work.replica) same; limit = ap (λ (g : Editor). g.work.limit) same })
         (λ so. subst (λ (xs : List Op). StandsSo name xs f s) (sym keeps.untold) so) keeps.name
 
     takes_one : (op : Op) (i : ℕ) (r : Result Taken Refusal) (f : Editor) (next : Live) → i < length e.work.buffers.all → AreKept f.work.buffers → TakesOperation op i e r f
@@ -188,7 +188,7 @@ module _ (name : List ℕ) (right : all_scalars name ≡ true) (s : Held) (e : E
         pasted_so : (StandsSo name live.telling.untold f s → StandsSo name next.telling.untold f s) → next.name ≡ live.name → Came [] f next
         pasted_so noted same =
             went [] f next later (pasted_own put e f r stands.own pasted) (pasted_on [] s put e f r stands.kept.are later.are pasted)
-            (pasted_stay put e f r pasted) noted same
+            (pasted_stay put e f r pasted) (paste_numbers put e f r pasted) noted same
 
         by : (a : Result (Unit {0}) PasteFault) → r ≡ a → PastedSo e live f next verdict a → Came [] f next
         by (Ok u) at (noted, told, is) =
@@ -211,7 +211,7 @@ module _ (name : List ℕ) (right : all_scalars name ≡ true) (s : Held) (e : E
     spliced base lo hi put i (Ok u) f next verdict at later did (noted, same, told, is) =
         let there = (found_so live.name e.work.buffers i stands.kept.named at).within in
         went [] f next later (spliced_own i (ReplaceRange lo hi put) 1 e f (Ok u) stands.own did) (spliced_on [] s i (ReplaceRange lo hi put) 1 e f (Ok u) there later.are did)
-        (spliced_stay i (ReplaceRange lo hi put) 1 e f (Ok u) did)
+        (spliced_stay i (ReplaceRange lo hi put) 1 e f (Ok u) did) (run_numbers i (ReplaceRange lo hi put) 1 e.work f.work (Ok u) did)
         (λ so. record {
           kept = so.kept;
           own = so.own;
@@ -244,6 +244,7 @@ module _ (name : List ℕ) (right : all_scalars name ≡ true) (s : Held) (e : E
         went [] f next later own
         (λ d c. record { b = d; was = subst (λ (l : List OpenState). Contains l d) all c; steps = []; takes = tt; goes = (refl, refl) })
         (λ b c. (b, subst (λ (l : List OpenState). Contains l b) (sym all) c, refl))
+        (record { replica = ap (λ (g : Editor). g.work.replica) same; limit = ap (λ (g : Editor). g.work.limit) same })
         (λ so. subst (λ (l : Live). StandsSo name l.telling.untold f s) (sym is) so) (ap (λ (l : Live). l.name) is)
 
   -- a piece of text, with what is held of it

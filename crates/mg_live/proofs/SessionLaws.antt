@@ -1,11 +1,11 @@
 -- A live session that ran, by its parts.
-use Rattle.std.proofs.Common.{◌≡◌, ◌≢◌, ℕ, Bool, true, Option, Ok, Err, refl, sym, ap, subst, ◌∙◌}
+use Rattle.std.proofs.Common.{◌≡◌, ◌≢◌, ℕ, Bool, true, Option, Ok, Err, sym, ap, subst, ◌∙◌}
 use Rattle.rga_devices.specs.Counting.{Calls, CountsAs, StaysFlushed}
 use Rattle.mg_settings.specs.Settings.{Values}
 use Rattle.mg_workspace.specs.Failures.{first_standing}
 use Rattle.mg_workspace.specs.declared.failures.Failure.{Failure}
 use Rattle.mg_editor.specs.Editors.{Editor}
-use Rattle.mg_session.specs.Courses.{SessionAnswer, session_answer, course_answer}
+use Rattle.mg_session.specs.Courses.{SessionAnswer, session_answer}
 use Rattle.mg_session.specs.Moments.{Known, ToldCalls, seen}
 use Rattle.mg_session.specs.Opening.{LoadsTo}
 use Rattle.mg_session.specs.Running.{devices}

@@ -1,5 +1,5 @@
 -- Which names stand at which index after a press, a paste and a splice.
-use Rattle.std.proofs.Common.{◌≡◌, ◌⊎◌, inl, inr, ◌∙◌, ◌<◌, ◌≤◌, ◌+◌, arith, ℕ, zero, suc, List, ◌++◌, length, get_or, take, drop, refl, sym, ap, subst, append-nil}
+use Rattle.std.proofs.Common.{◌≡◌, ◌⊎◌, inl, inr, ◌∙◌, ◌<◌, ◌≤◌, arith, ℕ, zero, suc, List, ◌++◌, length, get_or, refl, sym, ap, append-nil}
 use Rattle.std.specs.List.{remove}
 use Rattle.std.proofs.lemmas.List.{length-set, take_all, drop_all}
 use Rattle.std.proofs.lemmas.List.Edits.{length-remove}

@@ -1,5 +1,5 @@
 -- What stands of open buffers stands as they go on.
-use Rattle.std.proofs.Common.{◌≡◌, ◌⊎◌, inl, inr, ◌∙◌, ◌++◌, ℕ, List, [], Option, refl, sym, ap, subst}
+use Rattle.std.proofs.Common.{◌≡◌, ◌⊎◌, inl, inr, ◌∙◌, ◌++◌, ℕ, List, [], Option, sym, ap, subst}
 use Rattle.std.specs.List.{Contains}
 use Rattle.rga_ops.specs.Content.{Content, IsWithin, Holds, join, content_of}
 use Rattle.rga_ops.specs.declared.op.Op.{Op}

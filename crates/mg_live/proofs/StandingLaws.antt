@@ -1,5 +1,5 @@
 -- What a live session is answered by tells of its devices.
-use Rattle.std.proofs.Common.{◌≡◌, ◌≢◌, ℕ, ◌&&◌, not, Bool, true, false, List, [], ◌∷◌, Option, Some, None, Result, Ok, Err, is_ok, rules, refl, sym, ap, subst, ◌∙◌, true≢false, inl, inr, ◌⊎◌}
+use Rattle.std.proofs.Common.{◌≡◌, ◌≢◌, ℕ, ◌&&◌, not, Bool, true, false, List, [], ◌∷◌, Option, Some, None, Result, Ok, Err, rules, refl, sym, ap, subst, ◌∙◌, true≢false, inl, inr, ◌⊎◌}
 use Rattle.std.proofs.lemmas.Bool.{and_parts}
 use Rattle.std.specs.Bool.{MatchBool}
 use Rattle.std.specs.Result.{MatchResult}
@@ -8,23 +8,22 @@ use Rattle.mg_editor.specs.Editors.{Editor}
 use Rattle.mg_editor.specs.declared.live_saving.Writing.{Writing}
 use Rattle.rga_table.specs.declared.fault.LineFault.{LineFault}
 use Rattle.mg_events.specs.declared.report.Report.{Report}
-use Rattle.mg_events.specs.Reading.{Reading, Told, key, report, refused, told_by, step}
+use Rattle.mg_events.specs.Reading.{Reading, Told, key, report, refused, step}
 use Rattle.mg_minibuffer.specs.declared.ending.Request.{Request}
 use Rattle.mg_minibuffer.specs.declared.ending.Request.TheVariants as request
-use Rattle.mg_session.specs.Courses.{is_on, SessionAnswer, course_answer}
+use Rattle.mg_session.specs.Courses.{is_on, course_answer}
 use Rattle.mg_session.specs.Keys.{course_behind, request_of}
 use Rattle.mg_session.specs.Moments.{Known, seen}
 use Rattle.mg_session.specs.declared.course.Course.{Course}
 use Rattle.mg_session.specs.declared.course.Course.TheVariants.{On, Quit, NoKeys, NoScreen, NoMemory}
-use Rattle.mg_session.specs.declared.fault.SessionFault.{SessionFault}
-use Rattle.mg_session.specs.declared.fault.SessionFault.TheVariants.{File, Keys, Screen, Memory}
+use Rattle.mg_session.specs.declared.fault.SessionFault.TheVariants.{File, Keys, Screen}
 use Rattle.mg_live.proofs.TakenLaws.{on_is}
 use Rattle.mg_live.specs.Blocks.{EndsBlock, Writes, Tells, has_more, saves_due, writing_due}
 use Rattle.mg_live.specs.Changes.{Changes}
 use Rattle.mg_live.specs.Keys.{TakesKey}
 use Rattle.mg_live.specs.Made.{live_index, if_memory}
 use Rattle.mg_live.specs.Reports.{NotesChanges, TakesReport, RefusesReport, Follows, Verdict, counted}
-use Rattle.mg_live.specs.Running.{Noted, TakesEvent, TakesEvents, TakesBytes, TakesBlock, ReadsKeys, ended, at_end, failed, block, is_any, CutsIf, Cuts, Finishes, quits, Runs}
+use Rattle.mg_live.specs.Running.{Noted, TakesEvent, TakesEvents, TakesBytes, TakesBlock, ReadsKeys, ended, at_end, failed, block, CutsIf, Cuts, Finishes, quits, Runs}
 use Rattle.mg_live.specs.States.{Live, Moment, StepIf}
 use Rattle.mg_live.specs.Statuses.{can_show, Shows, whole, begun, unmade}
 use Rattle.mg_live.specs.declared.fault.ReportFault.{ReportFault}

@@ -1,8 +1,8 @@
 -- A session stands at its start.
-use Rattle.std.proofs.Common.{◌≡◌, ◌<◌, ◌∙◌, ◌++◌, arith, ℕ, zero, suc, Bool, true, false, List, [], ◌∷◌, get_or, Option, Some, Result, Ok, Err, is_ok, true≢false, refl, sym, ap, subst}
+use Rattle.std.proofs.Common.{◌≡◌, ◌<◌, ◌∙◌, ◌++◌, arith, ℕ, zero, suc, Bool, true, false, List, [], ◌∷◌, get_or, Some, Result, Ok, Err, is_ok, true≢false, refl, sym, ap, subst}
 use Rattle.std.specs.Prelude.{encode_utf8_all, chars}
 use Rattle.std.specs.List.{Contains}
-use Rattle.std.specs.Str.{all_scalars, is_utf8}
+use Rattle.std.specs.Str.{is_utf8}
 use Rattle.std.proofs.lemmas.Str.{IsUtf8-from_is_utf8, encodes-chars, scalars-chars}
 use Rattle.rga_ops.specs.declared.op.Op.{Op}
 use Rattle.rga_ops.proofs.OperationLaws.{Contains-nil}
@@ -12,7 +12,7 @@ use Rattle.mg_files.specs.Calls.{Call, Adds, found_call}
 use Rattle.mg_files.specs.Files.{Files}
 use Rattle.mg_files.specs.Loading.{load_outcome}
 use Rattle.mg_files.specs.declared.fault.LoadFault.{LoadFault}
-use Rattle.mg_held.specs.Held.{Held, AnswersLoad, MayLead}
+use Rattle.mg_held.specs.Held.{Held, MayLead}
 use Rattle.mg_held.specs.Kept.{IsBuffer, IsLoggedBy}
 use Rattle.mg_held.proofs.OpenSteps.{opened_kept, opened_name}
 use Rattle.mg_held.proofs.RunSteps.{made_are}
@@ -30,6 +30,7 @@ use Rattle.mg_live.specs.Running.{live_at_start}
 use Rattle.mg_live.specs.Standing.{AreHeld, AreKept, AreSafe, Stands}
 use Rattle.mg_live.specs.States.{Live, Moment}
 use Rattle.mg_live.proofs.GrowingLaws.{unsaved_held}
+use Rattle.mg_live.proofs.TogetherActs.{IsLoadedSo}
 
 abbrev Outcome : Type 0
 Outcome = Result (OpenState × LogEnd) LoadFault
@@ -81,7 +82,7 @@ module _ (v : Values) (noted : Bool) (first : Editor) (found : Files) (before ma
   text : is_utf8 v.name ≡ true
   text = subst (λ n. is_utf8 n ≡ true) named (kept.named buffer there)
 
-  spelled : encode_utf8_all (chars v.name) ≡ v.name
+  pub spelled : encode_utf8_all (chars v.name) ≡ v.name
   spelled = encodes-chars v.name (IsUtf8-from_is_utf8 v.name text)
 
   led : MayLead (found_call v.name found ∷ []) s t
@@ -121,6 +122,19 @@ module _ (v : Values) (noted : Bool) (first : Editor) (found : Files) (before ma
           (subst (λ (xs : List Op). AreHeld xs buffer.buffer.content) (sym at) (unsaved_held buffer (t buffer.buffer.name).log logged_so))
       by false d c = λ op has. absurd (Contains-nil op has)
 
+  pub start_loaded : (d : OpenState) → Contains first.work.buffers.all d → IsLoadedSo v.name v.replica v.limit s d t
+  start_loaded d c = record {
+    found = found;
+    answers = led.1.found;
+    loaded = opens.loaded;
+    end = opens.end;
+    outcome = opens.outcome;
+    runs = v.runs;
+    brief = v.brief;
+    is = only buffer d (subst (λ (l : List OpenState). Contains l d) all c);
+    held = led.2 v.name ∙ led.1.here;
+  }
+
   start_so : (m : Moment) → m.editor ≡ first → m.live ≡ live_at_start noted v first → Stands t m
   start_so m editor live =
       let at : Stands t (record m { editor = first; live = live_at_start noted v first }) = record {
@@ -136,3 +150,19 @@ pub start_stands : (v : Values) (noted : Bool) (first : Editor) (before made : L
     → MayLead made s t → AreKept first.work.buffers → m.editor ≡ first → m.live ≡ live_at_start noted v first → Stands t m
 start_stands v noted first before made s t m (found, adds, opens) leads kept =
     start_so v noted first found before made s t adds (opened_so v found first opens) leads kept m
+
+pub loaded_at_start : (v : Values) (first : Editor) (before made : List Call) (s t : Held) → LoadsTo v (Some before) (Some (before ++ made)) (Ok first)
+    → MayLead made s t → AreKept first.work.buffers → (d : OpenState) → Contains first.work.buffers.all d → IsLoadedSo v.name v.replica v.limit s d t
+loaded_at_start v first before made s t (found, adds, is) leads kept =
+    start_loaded v true first found before made s t adds (opened_so v found first is) leads kept
+
+-- the numbers are those of the settings
+pub numbers_at_start : (v : Values) (first : Editor) (before made : List Call) → LoadsTo v (Some before) (Some (before ++ made)) (Ok first)
+    → (first.work.replica ≡ v.replica) × (first.work.limit ≡ v.limit)
+numbers_at_start v first before made (found, adds, is) =
+    let o = opened_so v found first is in
+    (ap (λ (w : Workspace). w.replica) o.work, ap (λ (w : Workspace). w.limit) o.work)
+
+pub name_at_start : (v : Values) (first : Editor) (before made : List Call) (s t : Held) → LoadsTo v (Some before) (Some (before ++ made)) (Ok first)
+    → MayLead made s t → AreKept first.work.buffers → encode_utf8_all (chars v.name) ≡ v.name
+name_at_start v first before made s t (found, adds, is) leads kept = spelled v true first found before made s t adds (opened_so v found first is) leads kept

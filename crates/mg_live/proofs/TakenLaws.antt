@@ -12,7 +12,7 @@ use Rattle.mg_session.specs.declared.course.Course.{Course}
 use Rattle.mg_session.specs.declared.course.Course.TheVariants.{On, Quit, NoKeys}
 use Rattle.mg_live.specs.Blocks.{EndsBlock}
 use Rattle.mg_live.specs.Reports.{NotesChanges}
-use Rattle.mg_live.specs.Running.{Noted, TakesEvents, TakesBytes, TakesBlock, ReadsKeys, ended, at_end, failed, block, is_any, quits, Finishes, Runs}
+use Rattle.mg_live.specs.Running.{Noted, TakesEvents, TakesBytes, TakesBlock, ReadsKeys, at_end, failed, block, is_any, quits, Finishes, Runs}
 use Rattle.mg_live.specs.States.{Live, Moment, moment}
 
 pub on_is : (course : Course) → is_on course ≡ true → course ≡ On

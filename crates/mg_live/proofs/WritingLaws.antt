@@ -8,9 +8,9 @@ use Rattle.mg_buffer.specs.OpenState.{OpenState}
 use Rattle.mg_buffer.specs.State.{State}
 use Rattle.mg_files.specs.Calls.{Call}
 use Rattle.mg_held.specs.Held.{Held, MayLead}
-use Rattle.mg_workspace.specs.Buffers.{Buffers, buffer_at, no_buffer}
+use Rattle.mg_workspace.specs.Buffers.{buffer_at, no_buffer}
 use Rattle.mg_workspace.specs.Workspaces.{Workspace}
-use Rattle.mg_editor.specs.Holding.{AreOpen, HaveOwnNames, IsOpen}
+use Rattle.mg_editor.specs.Holding.{AreOpen, HaveOwnNames}
 use Rattle.mg_editor.specs.LiveSaving as live
 use Rattle.mg_editor.specs.LiveSaving.{Sweeps, TakesTurn, is_due}
 use Rattle.mg_editor.specs.declared.live_saving.Writing.{Writing}

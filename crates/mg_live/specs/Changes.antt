@@ -1,5 +1,5 @@
 -- Changes of the live buffer's text, as splices.
-use Rattle.std.specs.Prelude.{ℕ, suc, ◌-◌, Bool, List, [], ◌∷◌, ◌++◌, length, drop, reverse, Option, Some, None, if◌then◌else◌, nat_eq}
+use Rattle.std.specs.Prelude.{ℕ, suc, ◌-◌, List, [], ◌∷◌, ◌++◌, length, drop, reverse, Option, Some, None, if◌then◌else◌, nat_eq}
 use Rattle.std.specs.List.{slice_range}
 use Rattle.rga_devices.specs.Counting.{one_more}
 use Rattle.rga_ops.specs.Splice.{Splice}

@@ -1,5 +1,5 @@
 -- What a key of a live session leads to.
-use Rattle.std.specs.Prelude.{◌≡◌, ℕ, Bool, true, false, List, ◌&&◌, ◌++◌, Option, Some, None, Ok, Err, IfSome, is_some, if◌then◌else◌}
+use Rattle.std.specs.Prelude.{◌≡◌, ℕ, Bool, true, false, List, ◌&&◌, ◌++◌, Option, Some, Ok, Err, IfSome, is_some, if◌then◌else◌}
 use Rattle.std.specs.List.{Contains}
 use Rattle.rga_ops.specs.declared.op.Op.{Op}
 use Rattle.mg_buffer.specs.OpenState.{OpenState}
@@ -17,7 +17,6 @@ use Rattle.mg_editor.specs.Telling as telling
 use Rattle.mg_editor.specs.declared.fault.CarryFault.TheVariants.{Port}
 use Rattle.mg_session.specs.Keys.{request_of, said, course_behind}
 use Rattle.mg_session.specs.Moments.{ToldCalls}
-use Rattle.mg_session.specs.declared.course.Course.{Course}
 use Rattle.mg_workspace.specs.Buffers.{Buffers}
 use Rattle.mg_live.specs.Made.{live_index, is_live, made_at, opened_operations, with_made, if_memory}
 use Rattle.mg_live.specs.States.{Live, Moment, WriteAnswer}

@@ -11,3 +11,4 @@ pub mod Statuses
 pub mod Blocks
 pub mod Running
 pub mod Standing
+pub mod Together

@@ -1,5 +1,5 @@
 -- What commands and undos make, and what of it is to be told.
-use Rattle.std.specs.Prelude.{◌≡◌, ◌<◌, ℕ, Bool, true, false, not, ◌&&◌, ◌||◌, List, [], ◌++◌, length, drop, Option, Some, None, nat_eq, if◌then◌else◌}
+use Rattle.std.specs.Prelude.{◌≡◌, ◌<◌, ℕ, Bool, false, not, ◌&&◌, ◌||◌, List, [], ◌++◌, length, drop, Option, Some, None, nat_eq, if◌then◌else◌}
 use Rattle.rga_ops.specs.declared.op.Op.{Op}
 use Rattle.mg_editor.specs.Editors.{Editor}
 use Rattle.mg_session.specs.declared.course.Course.{Course}

@@ -1,5 +1,5 @@
 -- What a report of a live session leads to.
-use Rattle.std.specs.Prelude.{◌≡◌, ◌≢◌, ◌⊎◌, ℕ, ◌+◌, Bool, true, false, not, List, [], ◌∷◌, length, Option, Some, None, Result, Ok, Err, MatchResult, min, max, nat_lt, nat_eq, if◌then◌else◌}
+use Rattle.std.specs.Prelude.{◌≡◌, ◌≢◌, ◌⊎◌, ℕ, ◌+◌, Bool, true, List, [], ◌∷◌, Some, None, Result, Ok, Err, MatchResult, min, max, nat_lt, nat_eq}
 use Rattle.std.specs.Bool.{MatchBool}
 use Rattle.std.specs.List.{list_any}
 use Rattle.rga_ops.specs.Content.{clock_of}
@@ -30,9 +30,8 @@ use Rattle.mg_workspace.specs.Actions.{resized_work}
 use Rattle.mg_workspace.specs.AtIndex.{RunsAt, state_at}
 use Rattle.mg_workspace.specs.declared.fault.ActionFault.{ActionFault}
 use Rattle.mg_workspace.specs.declared.fault.ActionFault.TheVariants as action
-use Rattle.mg_workspace.specs.declared.fault.Cause.{Cause}
 use Rattle.mg_workspace.specs.declared.fault.Cause.TheVariants as cause
-use Rattle.mg_live.specs.Changes.{Changes, change_count, noted}
+use Rattle.mg_live.specs.Changes.{change_count, noted}
 use Rattle.mg_live.specs.FaultNames.{of_paste}
 use Rattle.mg_live.specs.Gathering.{Gathered, gather, drop_text}
 use Rattle.mg_live.specs.Made.{live_index, is_live, made_at, with_made, if_memory}

@@ -17,7 +17,7 @@ use Rattle.mg_session.specs.declared.course.Course.{Course}
 use Rattle.mg_session.specs.declared.course.Course.TheVariants.{On, Quit, NoKeys}
 use Rattle.mg_session.specs.declared.fault.SessionFault.{SessionFault}
 use Rattle.mg_live.specs.Blocks.{EndsBlock}
-use Rattle.mg_live.specs.Changes.{no_changes, noted}
+use Rattle.mg_live.specs.Changes.{no_changes}
 use Rattle.mg_live.specs.Gathering.{nothing_held, is_begun}
 use Rattle.mg_live.specs.Keys.{TakesKey}
 use Rattle.mg_live.specs.Reports.{TakesLine, RefusesLine, RefusesReport, NotesChanges, counted}

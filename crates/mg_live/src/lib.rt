@@ -9,7 +9,8 @@
 //! mg_held. The layer above may rest on `IsLiveSession`: which keys and reports are taken, in turn,
 //! what each leaves, what is written to the screen, which calls of the port the ends of blocks add,
 //! and how many fail. It may rest on the theorems of `laws` too: what is told is in the log, and
-//! each open buffer goes by the steps of mg_held.
+//! each open buffer goes by the steps of mg_held; and on those of `together`: writers in live sessions
+//! who are given what others told never conflict, and show one text.
 #![tactic(auto)]
 
 mod blocks;
@@ -32,6 +33,7 @@ mod shown;
 mod taking;
 mod tally;
 mod telling;
+pub mod together;
 
 pub use fault::ReportFault;
 pub use session::run_live;

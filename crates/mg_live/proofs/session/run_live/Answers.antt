@@ -1,4 +1,4 @@
-use Rattle.std.proofs.Common.{◌≡◌, Err, inl, refl, rules}
+use Rattle.std.proofs.Common.{Err, inl, refl, rules}
 use Rattle.mg_session.specs.declared.fault.SessionFault.TheVariants.{Memory}
 use Rattle.mg_live.proofs.OpeningLaws.{adds_nothing, one_open}
 use Rattle.mg_live.proofs.SessionLaws.{session_ran}

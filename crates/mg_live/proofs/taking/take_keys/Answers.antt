@@ -1,4 +1,4 @@
-use Rattle.std.proofs.Common.{rules, refl, [], ◌≡◌}
+use Rattle.std.proofs.Common.{rules, [], ◌≡◌}
 use Rattle.std.proofs.KnownBytes.{Consumes-nil, Consumes-kept}
 use Rattle.mg_session.specs.declared.course.Course.TheVariants.{On}
 use Rattle.mg_live.specs.Running.{ended}
