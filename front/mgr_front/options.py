@@ -4,7 +4,6 @@ import argparse
 from collections.abc import Callable, Sequence
 
 from mgr_front import VERSION
-from mgr_front.channels.choice import ENGINES
 
 DESCRIPTION = "Edits a note on a terminal, by `mgr edit`, with the keys of mg(1)."
 EPILOG = (
@@ -60,6 +59,9 @@ PORT = whole_number(1, 65535)
 
 
 PORTS, HOSTS = "port", "host"
+# The words before the colon of a way that is no hub's.
+GIT, FOLDER, REDIS, SECURE_REDIS = "git", "dir", "redis", "rediss"
+ENGINES = (GIT, FOLDER, REDIS, SECURE_REDIS)
 
 
 def way(word: str) -> tuple[str, str]:

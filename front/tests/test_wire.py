@@ -7,7 +7,7 @@ import unittest
 
 import context  # noqa: F401
 
-from mgr_front.wire import LONGEST, MOST_WAITING, SILENCE, STUCK, Broken, Wire, claims_said, is_operation, said, saying
+from mgr_front.wire import BLOCK, LONGEST, MOST_WAITING, SILENCE, STUCK, Broken, Wire, claims_said, is_operation, said, saying
 
 INSERTION = '{"char":"%s","id":[3,2],"op":"ins","parent":[1,1]}'
 
@@ -57,7 +57,8 @@ class TestWire(unittest.TestCase):
 
     def test_a_line_that_never_ends_and_an_end(self) -> None:
         self.far.send(b"x" * LONGEST)
-        self.wire.read()
+        for _ in range(LONGEST // BLOCK):
+            self.assertEqual(self.wire.read(), [])
         self.far.send(b"x")
         with self.assertRaises(Broken):
             self.wire.read()
@@ -94,7 +95,7 @@ class TestWire(unittest.TestCase):
         self.wire.pass_on(lines)
         self.assertTrue(self.wire.is_behind)
         self.wire.drop()
-        self.assertEqual(self.wire.waiting, b'{"op":"behind"}\n')
+        self.assertEqual(self.wire.waiting, b"x" * 1023 + b'\n{"op":"behind"}\n')
         self.wire.pass_on(lines)
         del self.wire.waiting[:-2000]
         self.wire.drop()
