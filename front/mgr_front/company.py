@@ -41,8 +41,9 @@ class Company:
         # Lines that mgr was not given yet, and when the last one came.
         self.lines: deque[bytes] = deque()
         self.took = 0.0
-        # Who is there, what they wrote since the last key, until when that is marked, and the places that mgr knows.
+        # Who is there, and was; what they wrote since the last key, and until when that is marked; what mgr knows of that.
         self.who: Mapping[int, tuple[str, Place]] = {}
+        self.names: dict[int, str] = {note.replica: "I"}
         self.fresh: dict[Identifier, float] = {}
         self.known: list[Identifier] = []
         # What is to be said to the person.
@@ -62,6 +63,7 @@ class Company:
                 self._stand(event)
             else:
                 self.who = event.who
+                self.names |= {replica: name for replica, (name, _) in event.who.items()}
 
     def _stand(self, state: State) -> None:
         """Takes note of how the channel stands."""

@@ -8,6 +8,7 @@ import time
 from collections.abc import Callable, Sequence
 from dataclasses import replace
 
+from mgr_front import who
 from mgr_front.cells import row_width
 from mgr_front.company import Company
 from mgr_front.completion import accept, asks_for_name, begins_at_home, complete
@@ -23,8 +24,9 @@ from mgr_front.remarks import Remarks
 from mgr_front.saving import EXCHANGE, REST, SERVE, Buffers
 from mgr_front.screen import Screen
 from mgr_front.signals import Signals
-from mgr_front.statuses import Status
+from mgr_front.statuses import COMMAND, Status
 from mgr_front.view import Mark, picture
+from mgr_front.who import WHO
 
 # Seconds until what may be the beginning of a longer key counts as keys of its own, as ESC does.
 PATIENCE = 0.05
@@ -266,7 +268,10 @@ class Session:
         if not self.editor.status.frame or is_drawn or self.errand or self._draws_later(now):
             return
         columns, rows = os.get_terminal_size(1)
-        self.screen.draw(picture(self._shown(), self._echo(remarks), rows, columns, status, marks), self.rings)
+        if isinstance(self.question, who.Page):
+            self.screen.draw(self.question.picture(rows, columns))
+        else:
+            self.screen.draw(picture(self._shown(), self._echo(remarks), rows, columns, status, marks), self.rings)
         self.is_stale = self.rings = False
         self.drawn = remarks, status, marks
         self.painted = now
@@ -342,7 +347,11 @@ class Session:
     def accept(self) -> None:
         """Accepts the answer of the open prompt."""
         status = self.editor.status
-        if begins_at_home(status.label, status.answer):
+        if (status.label, status.answer) == (COMMAND, WHO):
+            self.rest()
+            names = self.company.names if self.company else {}
+            self.start(who.show(self.editor.program, status.buffer, names, self.has_colours, self.ask))
+        elif begins_at_home(status.label, status.answer):
             self.start(accept(status.answer))
         else:
             self.editor.hand_on(bytes([RETURN]))

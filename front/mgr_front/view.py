@@ -105,7 +105,7 @@ def _put(mark: Mark, row: list[Cell]) -> None:
     for i, (signs, width) in enumerate(row):
         end += width
         if mark.column < end if mark.letter else mark.column == end:
-            row[i] = f"{mark.style}{mark.letter.ljust(width) or signs}{RESET}", width
+            row[i] = f"{mark.style}{mark.letter.ljust(width) if mark.letter else signs}{RESET}", width
             return
     if mark.letter:
         row += [BLANK] * (mark.column - end) + [(f"{mark.style}{mark.letter}{RESET}", 1)]
