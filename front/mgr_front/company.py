@@ -144,9 +144,9 @@ class Company:
     def marks(self, status: Status, has_colours: bool) -> list[Mark]:
         """Returns what is shown of others in the text: what they wrote, and over that where they are."""
         who = {place[:2]: (replica, name) for replica, (name, place) in self.who.items()}
-        made = []
+        made, now = [], time.monotonic()
         for counter, replica, row, column in status.places:
-            if (counter, replica) in self.fresh:
+            if self.fresh.get((counter, replica), now) > now:
                 made.append(Mark(row, column, style(replica, has_colours, True)))
             if found := who.get((counter, replica)):
                 letter = found[1][:1] if width(found[1][:1] or " ") == 1 else "?"

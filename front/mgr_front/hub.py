@@ -27,10 +27,10 @@ from mgr_front.program import edit, explained, find, log_of, shell_status
 from mgr_front.saving import REST, SAVE
 from mgr_front.saying import FAILED, stop, tell
 from mgr_front.screen import write_all
-from mgr_front.shared import SharedNote
+from mgr_front.shared import SharedNote, text_of
 from mgr_front.signals import Signals
 from mgr_front.statuses import Status
-from mgr_front.wire import VERSION, Broken, claims_said, with_ends
+from mgr_front.wire import VERSION, Broken, claims_said
 
 PROGRAM = "mgr-hub"
 ROWS = 3
@@ -74,7 +74,7 @@ class Hub:
         reading = [self.signals.woken, self.editor.written, self.answers.woken, *self.listeners, *heard]
         writing = [number for number, peer in self.peers.items() if peer.has_more]
         writing += [self.editor.keys] * bool(self.editor.waiting)
-        ready, free, _ = select.select(reading, writing, [], self._patience())
+        ready, free, _ = select.select(reading, writing, [], REST_AFTER if self.unsaved or self.peers else ALIVE)
         if self.editor.keys in free:
             self.editor.write()
         if self.editor.written in ready:
@@ -89,10 +89,6 @@ class Hub:
             if self.peers.get(number) is peer:
                 self._serve(peer, number in ready, number in free)
         self._work()
-
-    def _patience(self) -> float:
-        """Returns after how many seconds something is to be done, whatever happens."""
-        return REST_AFTER if self.unsaved or self.peers else ALIVE
 
     def _accept(self, listener: socket.socket) -> None:
         link, _ = listener.accept()
@@ -166,7 +162,7 @@ class Hub:
             peer.cut("refused", str(broken))
             return
         peer.say("hello", version=VERSION)
-        peer.pass_on(self.unsaved)
+        peer.pass_on(text_of(self.unsaved))
         log(f"{peer.title} joined")
 
     def _look(self, look: Callable[[], Any], then: Callable[[Any], None]) -> None:
@@ -181,11 +177,11 @@ class Hub:
 
         self.pool.submit(work)
 
-    def _missing(self, claims: bytes) -> list[bytes]:
+    def _missing(self, claims: bytes) -> bytes:
         """Returns what somebody with these claims lacks of the log, and then what that has, in short."""
-        return [*with_ends(self.note.missing(claims)), *claims_said(self.note.claims())]
+        return text_of(self.note.missing(claims)) + claims_said(self.note.claims())
 
-    def _answer(self, peer: Peer, lines: list[bytes]) -> None:
+    def _answer(self, peer: Peer, lines: bytes) -> None:
         if self.peers.get(peer.reading) is peer:
             peer.answer(lines)
 
@@ -198,9 +194,9 @@ class Hub:
             if fault:
                 self._refuse(peer, fault)
             else:
-                self.unsaved.append(line + b"\n")
+                self.unsaved.append(line)
                 for other in self._others(peer):
-                    other.pass_on([line + b"\n"])
+                    other.pass_on(line + b"\n")
         if self.saving and status.reports >= self.saving[0] and not status.more:
             fails, self.fails = self.fails, status.saved != "ok"
             if self.fails and not fails:

@@ -7,7 +7,7 @@ import json
 import os
 import re
 import time
-from collections.abc import Iterable, Iterator, Sequence
+from collections.abc import Iterable, Iterator
 from typing import Any
 
 VERSION = 1
@@ -60,12 +60,11 @@ def saying(line: bytes) -> dict[str, Any] | None:
         raise Broken("a line that is neither an operation nor anything else") from None
 
 
-def claims_said(claims: bytes) -> Iterator[bytes]:
-    """Yields the lines that give claims."""
+def claims_said(claims: bytes) -> bytes:
+    """Returns the lines that give claims."""
     text = claims.decode("ascii", "replace")
-    for place in range(0, len(text) or 1, PIECE):
-        more = place + PIECE < len(text)
-        yield said("claims", text=text[place : place + PIECE], more=more)
+    places = range(0, len(text) or 1, PIECE)
+    return b"".join(said("claims", text=text[at : at + PIECE], more=at + PIECE < len(text)) for at in places)
 
 
 class Wire:
@@ -88,19 +87,18 @@ class Wire:
         return bool(self.waiting)
 
     def say(self, op: str, **members: Any) -> None:
-        self.pass_on([said(op, **members)])
+        self.pass_on(said(op, **members))
 
-    def pass_on(self, lines: Iterable[bytes]) -> None:
-        """Has these lines wait, each with its newline."""
+    def pass_on(self, lines: bytes) -> None:
+        """Has whole lines wait."""
         if not self.waiting:
             self.written = time.monotonic()
-        self.waiting += b"".join(lines)
+        self.waiting += lines
 
-    def answer(self, lines: Iterable[bytes]) -> None:
+    def answer(self, lines: bytes) -> None:
         """Has lines wait that were asked for, however many."""
-        before = len(self.waiting)
         self.pass_on(lines)
-        self.asked += len(self.waiting) - before
+        self.asked += len(lines)
 
     def read(self) -> list[bytes]:
         """Returns the lines that came, without newlines; the end is `Broken`."""
@@ -163,8 +161,3 @@ class Wire:
             return None
         claims, self.claims = self.claims, ""
         return claims.encode("ascii", "replace")
-
-
-def with_ends(lines: Sequence[bytes]) -> list[bytes]:
-    """Returns lines with their newlines."""
-    return [line + b"\n" for line in lines]

@@ -109,18 +109,19 @@ class TestCompany(unittest.TestCase):
         def marked() -> list[int]:
             return [mark.column for mark in self.company.marks(status, True)]
 
-        with mock.patch("time.monotonic", lambda: 100.0):
+        with mock.patch("time.monotonic", side_effect=lambda: self.now):
+            self.now = 100.0
             self.come(Took((RUN.replace(b'"x"', b'"abcde"'),)))
             self.company.feed(self.talk)
-        self.assertEqual((marked(), self.company.patience(101.0)), ([1, 2, 3, 4, 5], 1.0))
-        # One of them is deleted here.
-        self.company.note_status(Status(operations=(b'{"count":2,"id":[2,9],"op":"dels"}',)))
-        self.assertEqual(marked(), [1, 4, 5])
-        self.assertIsNone(self.company.patience(102.0))
-        self.assertEqual(marked(), [])
-        self.company.fresh = {(1, 9): 103.0}
-        self.company.press()
-        self.assertEqual(marked(), [])
+            self.assertEqual((marked(), self.company.patience(101.0)), ([1, 2, 3, 4, 5], 1.0))
+            # Two of them are deleted here.
+            self.company.note_status(Status(operations=(b'{"count":2,"id":[2,9],"op":"dels"}',)))
+            self.assertEqual(marked(), [1, 4, 5])
+            self.now = 102.0
+            self.assertEqual((marked(), self.company.patience(102.0)), ([], None))
+            self.company.fresh = {(1, 9): 103.0}
+            self.company.press()
+            self.assertEqual(marked(), [])
 
     def test_a_note_that_is_refused_for_a_conflict(self) -> None:
         self.note.refusal = "-: line 3: Conflict"

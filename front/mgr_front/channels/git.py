@@ -8,7 +8,6 @@ import random
 import signal
 import socket
 import subprocess
-import tempfile
 import time
 from dataclasses import dataclass
 
@@ -53,11 +52,6 @@ def fault_of(said: bytes) -> Apart:
     return Apart(shown([*reasons[-1:], *lines[-1:], "git says nothing"][0]))
 
 
-def cache_folder() -> str:
-    named = os.environ.get("XDG_CACHE_HOME", "")
-    return os.path.join(named if os.path.isabs(named) else os.path.expanduser("~/.cache"), "mgr", "git")
-
-
 class GitBranch(Worker):
     """A note that is carried by the tip of a branch."""
 
@@ -72,7 +66,9 @@ class GitBranch(Worker):
         self.url = os.path.abspath(path) if os.path.exists(path) else place
         self.person, self.pace = person, pace
         self.file = os.path.basename(note.log)
-        self.clone = os.path.join(cache_folder(), digest(self.url.encode()))
+        cache = os.environ.get("XDG_CACHE_HOME", "")
+        cache = cache if os.path.isabs(cache) else os.path.expanduser("~/.cache")
+        self.clone = os.path.join(cache, "mgr", "git", digest(self.url.encode()))
         self.ref = f"refs/mgr/{digest(os.path.realpath(note.log).encode())}"
         # The tip that was taken last, its log and the claims of that, and whether the note has more.
         self.tip: str | None = None
@@ -160,24 +156,13 @@ class GitBranch(Worker):
     def _open(self) -> None:
         """Makes the clone where it is not there, and asks for the names of the writer and of the branch."""
         if not os.path.isdir(self.clone):
-            self._make()
+            os.makedirs(self.clone, mode=0o700)
+            self._git("init", "--quiet", "--bare", "--template=", self.clone)
         if not self.person:
             self.person = self._word("config", "--default", user(), "user.name")
         if not self.branch:
             head = self._git("ls-remote", "--symref", "--", self.url, "HEAD").decode()
             self.branch = head.partition("ref: refs/heads/")[2].partition("\t")[0] or UNBORN
-
-    def _make(self) -> None:
-        """Makes an empty clone, which has its name once it is whole: others may make it, too."""
-        os.makedirs(cache_folder(), mode=0o700, exist_ok=True)
-        with tempfile.TemporaryDirectory(dir=cache_folder()) as folder:
-            made = os.path.join(folder, "made")
-            self._git("init", "--quiet", "--bare", "--template=", made)
-            try:
-                os.rename(made, self.clone)
-            except OSError:
-                if not os.path.isdir(self.clone):
-                    raise
 
     def _git(self, *words: str, given: bytes = b"") -> bytes:
         """Runs git apart from the terminal, on which it asks nothing, and returns what it writes."""

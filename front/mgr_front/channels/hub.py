@@ -15,9 +15,9 @@ from mgr_front.channels import Apart, Post, State
 from mgr_front.channels.presence import Presence
 from mgr_front.channels.worker import Worker
 from mgr_front.copies import digest
-from mgr_front.shared import Others, SharedNote
+from mgr_front.shared import Others, SharedNote, text_of
 from mgr_front.signals import held_back
-from mgr_front.wire import VERSION, Broken, Wire, claims_said, with_ends
+from mgr_front.wire import VERSION, Broken, Wire, claims_said
 
 # Seconds that the other end has for its first word, and between two looks whether it is still there.
 FIRST, LOOK = 60.0, 10.0
@@ -128,7 +128,7 @@ class Hub(Worker):
         assert self.wire
         if self.told:
             self.is_taken = False
-            self.wire.pass_on(with_ends(self.told))
+            self.wire.pass_on(text_of(self.told))
             self.passed(len(self.told))
         seconds = self.presence.turn(self._say, self.note.claims)
         self._talk()
@@ -181,7 +181,7 @@ class Hub(Worker):
     def _give(self, wire: Wire, claims: bytes) -> None:
         """Gives the hub, which has this, what it lacks. At first all that the note lacked has come before."""
         if self.is_joined:
-            wire.answer(with_ends(self.note.missing(claims)))
+            wire.answer(text_of(self.note.missing(claims)))
             return
         try:
             given = self.accept(Others(self.came, claims))
@@ -189,5 +189,5 @@ class Hub(Worker):
             wire.say("refused", why=self.note.refusal)
             wire.write()
             raise
-        wire.answer(with_ends(given))
+        wire.answer(text_of(given))
         self.is_joined, self.came = True, []
