@@ -69,7 +69,7 @@ class Hubs(InFolder):
             listener.close()
         meeting.leave(self.path)
 
-    def expect(self, look: Callable[[], object], wanted: object, seconds: float = 10) -> None:
+    def expect(self, look: Callable[[], object], wanted: object, seconds: float = 60) -> None:
         """Waits until what is looked at is what is wanted."""
         until = time.monotonic() + seconds
         while (seen := look()) != wanted:
