@@ -10,13 +10,13 @@ import tempfile
 import threading
 import time
 import unittest
-from collections.abc import Callable
+from collections.abc import Callable, Mapping
 from unittest import mock
 
 from context import TESTS, InFolder
 
 from mgr_front import hub, meeting
-from mgr_front.channels import Event, State, Took
+from mgr_front.channels import Event, Present, State, Took
 from mgr_front.channels.hub import Hub as Channel
 from mgr_front.channels.hub import Way, by_note, by_port
 from mgr_front.editor import Editor
@@ -114,6 +114,9 @@ class Writer:
     def why(self) -> str:
         return [event.why for event in self.events if isinstance(event, State)][-1]
 
+    def who(self) -> Mapping[int, object]:
+        return [event.who for event in self.events if isinstance(event, Present)][-1]
+
     def lines(self) -> set[bytes]:
         return set(pathlib.Path(self.note.log).read_bytes().splitlines())
 
@@ -168,6 +171,20 @@ class TestWriters(Hubs):
         self.assertTrue(alice.channel.close(10))
         self.assertEqual(len(self.log()), 1999)
         self.expect(lambda: self.printed, ["alice (1) joined", "alice (1) left"])
+
+    def test_who_is_where(self) -> None:
+        # It comes without anything else that is to be done.
+        self.open.enter_context(mock.patch("mgr_front.channels.hub.LOOK", 600))
+        alice, bob = self.join("alice", 1), self.join("bob", 2)
+        alice.channel.show_place((4, 1, 2))
+        self.expect(lambda: bob.who().get(1), ("alice", (4, 1, 2)))
+        carol = self.join("carol", 3)
+        self.expect(carol.who, {1: ("alice", (4, 1, 2)), 2: ("bob", (0, 0, 0))})
+        self.assertTrue(alice.channel.close(60))
+        self.expect(bob.who, {3: ("carol", (0, 0, 0))})
+        self.end()
+        self.expect(bob.who, {})
+        self.begin()
 
     def test_a_number_in_use_is_refused(self) -> None:
         self.join("alice", 1)

@@ -101,7 +101,6 @@ class Hub(Worker):
         is_first, self.is_first = self.is_first, False
         with self.way(is_first) as wire:
             self.wire, self.is_joined, self.came = wire, False, []
-            self.presence.begin()
             try:
                 yield
             finally:
@@ -126,13 +125,12 @@ class Hub(Worker):
 
     def turn(self) -> float:
         assert self.wire
+        self._talk()
         if self.told:
             self.is_taken = False
             self.wire.pass_on(text_of(self.told))
             self.passed(len(self.told))
-        seconds = self.presence.turn(self._say, self.note.claims)
-        self._talk()
-        return min(seconds, LOOK)
+        return min(self.presence.turn(self._say, self.note.claims), LOOK)
 
     def leave(self) -> None:
         self.is_taken = False

@@ -43,7 +43,6 @@ class RedisStream(Worker):
         heard.subscribe(**{self.stream.channel: self._hear})
         heard.get_message(timeout=ANSWER)
         thread = heard.run_in_thread(LISTENING, daemon=True, exception_handler=self._end)
-        self.presence.begin()
         self.heard = self.presence.signed
         try:
             yield

@@ -152,6 +152,9 @@ class Worker(ABC):
             self.say(apart.state)
         except Exception as fault:  # Whatever it is, a thread that ended without a word would say nothing any more.
             self.say(State("alone", why(fault)))
+        finally:
+            if self.presence:
+                self.presence.begin()
         return False
 
     def _stay(self) -> None:
