@@ -22,7 +22,7 @@ COLOURS = 6
 
 @dataclass(frozen=True)
 class Mark:
-    """What is shown of another writer, and how: a letter at a place, or, without one, what stands before it."""
+    """What is shown of another writer, and how: a letter at a place, if nothing stands there, or what stands before it."""
 
     row: int
     column: int
@@ -105,7 +105,8 @@ def _put(mark: Mark, row: list[Cell]) -> None:
     for i, (signs, width) in enumerate(row):
         end += width
         if mark.column < end if mark.letter else mark.column == end:
-            row[i] = f"{mark.style}{mark.letter.ljust(width) if mark.letter else signs}{RESET}", width
+            # No character of the text is hidden.
+            row[i] = f"{mark.style}{mark.letter if mark.letter and signs == ' ' else signs}{RESET}", width
             return
     if mark.letter:
         row += [BLANK] * (mark.column - end) + [(f"{mark.style}{mark.letter}{RESET}", 1)]

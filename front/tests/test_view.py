@@ -73,10 +73,11 @@ class TestPictures(unittest.TestCase):
 
     def test_what_is_shown_of_others(self) -> None:
         for text, marks, wanted in [
-            ("abc", [(1, "A")], "a<A>c"),
+            ("a c", [(1, "A")], "a<A>c"),
+            ("abc", [(1, "A")], "a<b>c"),
             ("abc", [(3, "A")], "abc<A>"),
-            ("abc", [(5, "A"), (0, "B")], "<B>bc  <A>"),
-            ("a\u6f22c", [(1, "A")], "a<A >c"),
+            (" bc", [(5, "A"), (0, "B")], "<B>bc  <A>"),
+            ("a\u6f22c", [(2, "A")], "a<\u6f22>c"),
             ("abc", [(2, ""), (3, "")], "a<b><c>"),
             ("abc", [(0, ""), (9, "")], "abc"),
             ("", [(0, "A")], "<A>"),
