@@ -12,7 +12,7 @@ from unittest import mock
 
 from writers import WithWriters, Writer
 
-from mgr_front.channels import presence, redis
+from mgr_front.channels import Apart, presence, redis
 from mgr_front.channels.redis import RedisStream
 from mgr_front.channels.stream import library, trim
 from mgr_front.notes import Refused
@@ -189,6 +189,8 @@ class TestStream(TestRedis):
         one = self.begin(1, self.make, "a")
         self.wait("alone", one.word)
         self.assertIn("refused", one.states[-1].why)
+        with self.assertRaises(Apart):
+            trim(self.url, self.program)
         self.begin_server()
         self.wait("live", one.word)
 

@@ -9,7 +9,7 @@ from dataclasses import dataclass
 from typing import Any
 from urllib.parse import unquote, urlsplit
 
-from mgr_front.channels import Apart
+from mgr_front.channels import Apart, shown
 from mgr_front.notes import Refused
 from mgr_front.shared import joined, text_of
 
@@ -92,17 +92,19 @@ def trim(url: str, mgr: str) -> tuple[int, int]:
     """Has a stream begin with one entry of its whole content; returns how many bytes it had, and has."""
     stream = Stream(url)
     while True:
-        with stream.link.pipeline() as pipeline:
-            pipeline.watch(stream.key)
-            log = stream.news(FIRST).log
-            made = joined(mgr, log)
-            pipeline.multi()
-            pipeline.xadd(stream.key, {"by": stream.by, "lines": made})
-            pipeline.xtrim(stream.key, maxlen=1, approximate=False)
-            pipeline.set(stream.generation_key, stream.new_generation())
-            stream.say("entry", link=pipeline)
-            try:
+        try:
+            with stream.link.pipeline() as pipeline:
+                pipeline.watch(stream.key)
+                log = stream.news(FIRST).log
+                made = joined(mgr, log)
+                pipeline.multi()
+                pipeline.xadd(stream.key, {"by": stream.by, "lines": made})
+                pipeline.xtrim(stream.key, maxlen=1, approximate=False)
+                pipeline.set(stream.generation_key, stream.new_generation())
+                stream.say("entry", link=pipeline)
                 pipeline.execute()
                 return len(log), len(made)
-            except stream.redis.WatchError:
-                continue  # Somebody wrote meanwhile.
+        except stream.redis.WatchError:
+            continue  # Somebody wrote meanwhile.
+        except stream.redis.RedisError as fault:
+            raise Apart(shown(str(fault))) from None
