@@ -8,6 +8,7 @@ import json
 import os
 import pathlib
 import sys
+from collections.abc import Callable
 from typing import Any
 
 HEAD, END = '{"op":"claims","version":1}', '"op":"end"'
@@ -94,7 +95,7 @@ def main() -> None:
     command, *words = sys.argv[1:]
     if command != "show" and words[-1] != "-" and not os.path.exists(log(words[-1])) and command != "join":
         sys.exit(3)
-    jobs = {"claims": claims, "missing": missing, "join": join, "merge": merge, "mend": mend, "show": show}
+    jobs: dict[str, Callable[..., None]] = {"claims": claims, "missing": missing, "join": join, "merge": merge, "mend": mend, "show": show}
     jobs[command](*[word for word in words if word != "--"])
 
 

@@ -2,6 +2,7 @@
 
 import unittest
 from collections.abc import Sequence
+from typing import Any
 from unittest import mock
 
 import context  # noqa: F401
@@ -21,7 +22,8 @@ class TestCompany(unittest.TestCase):
     def setUp(self) -> None:
         self.note = mock.Mock(refusal="", replica=7)
         self.company = Company(self.note, lambda post: mock.Mock())
-        self.channel = self.company.channel
+        self.channel: Any = self.company.channel
+        self.now = 100.0
         self.talk = Talk(3)
         self.talk.note(Status())
 
@@ -110,7 +112,6 @@ class TestCompany(unittest.TestCase):
             return [mark.column for mark in self.company.marks(status, True)]
 
         with mock.patch("time.monotonic", side_effect=lambda: self.now):
-            self.now = 100.0
             self.come(Took((RUN.replace(b'"x"', b'"abcde"'),)))
             self.company.feed(self.talk)
             self.assertEqual((marked(), self.company.patience(101.0)), ([1, 2, 3, 4, 5], 1.0))

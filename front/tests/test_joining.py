@@ -154,7 +154,7 @@ class TestChannels(unittest.TestCase):
             for word in ("redis://host", "redis://host/", "redis:///key", "redis:key"):
                 with self.assertRaises(Refused, msg=word):
                     self.made("--with", word)
-        with mock.patch.dict(sys.modules, redis=None), self.assertRaises(Refused) as caught:  # type: ignore[dict-item]
+        with mock.patch.dict(sys.modules, redis=None), self.assertRaises(Refused) as caught:
             self.made("--with", "redis://a/b")
         self.assertIn("python3-redis", str(caught.exception))
 

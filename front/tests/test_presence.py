@@ -6,7 +6,7 @@ from unittest import mock
 
 import context  # noqa: F401 (makes the package known)
 
-from mgr_front.channels import Present, presence
+from mgr_front.channels import Present
 from mgr_front.channels.presence import Presence, place_of
 
 
@@ -16,7 +16,7 @@ class TestPresence(unittest.TestCase):
         self.said: list[tuple[str, dict[str, Any]]] = []
         self.one = Presence(1, "One\x1b" + "x" * 40, self.posted.append)  # type: ignore[arg-type]
         self.now = 1000.0
-        clock = mock.patch.object(presence.time, "monotonic", lambda: self.now)
+        clock = mock.patch("time.monotonic", lambda: self.now)
         clock.start()
         self.addCleanup(clock.stop)
         self.one.begin()
@@ -34,8 +34,8 @@ class TestPresence(unittest.TestCase):
     def test_places(self) -> None:
         for place in ([1, 2, 3], [0, 0, 0], [(1 << 53) - 1, 65535, 9]):
             self.assertEqual(place_of({"place": place}), tuple(place))
-        for place in (None, 1, [1, 2], [1, True, 1], [-1, 2, 3], [1, 65536, 3], [1 << 53, 1, 3], [1, 0, 3], [0, 1, 3], ["1", 2, 3]):
-            self.assertIsNone(place_of({"place": place}), place)
+        for none in (None, 1, [1, 2], [1, True, 1], [-1, 2, 3], [1, 65536, 3], [1 << 53, 1, 3], [1, 0, 3], [0, 1, 3], ["1", 2, 3]):
+            self.assertIsNone(place_of({"place": none}), none)
 
     def test_what_is_said_of_oneself(self) -> None:
         self.assertEqual(self.turn(), 60)
