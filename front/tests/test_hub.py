@@ -215,7 +215,7 @@ class TestStrangers(Hubs):
     """Those who say something else: nobody waits for them."""
 
     def stranger(self, *said: bytes) -> socket.socket:
-        link = self.open.enter_context(socket.create_connection((meeting.HOST, self.port), 5))
+        link = self.open.enter_context(socket.create_connection((meeting.HOST, self.port), 60))
         link.sendall(b"".join(said))
         return link
 
@@ -245,6 +245,8 @@ class TestStrangers(Hubs):
 
     def test_others_do_not_wait_for_one_that_takes_nothing(self) -> None:
         slow = self.stranger(self.hello())
+        # Else the system takes more and more for it.
+        slow.setsockopt(socket.SOL_SOCKET, socket.SO_RCVBUF, 65536)
         alice, bob = (Writer(self, name, replica, by_note(self.path)) for name, replica in (("alice", 1), ("bob", 2)))
         for writer in (alice, bob):
             self.expect(writer.state, "live")
@@ -256,10 +258,12 @@ class TestStrangers(Hubs):
         while b'{"op":"behind"}\n' not in came:
             came += slow.recv(1 << 20)
         self.assertLess(len(came), 2_000_000)
+        for i in range(600, 1200):
+            alice.write(text % (1 + 4000 * i))
+        self.expect(lambda: len(bob.lines()), 1200)
+        # Nobody else has anything to take now.
         with mock.patch("mgr_front.wire.STUCK", 0.5):
-            for i in range(600, 1200):
-                alice.write(text % (1 + 4000 * i))
-            self.expect(lambda: "eve (5) left: nothing is taken" in self.printed, True)
+            self.expect(lambda: self.printed[-1:], ["eve (5) left: nothing is taken"])
 
     def test_one_that_floods_is_left(self) -> None:
         flood = self.stranger(self.hello())
