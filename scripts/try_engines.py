@@ -29,7 +29,7 @@ from play.programs import Unexpected
 ROOT = pathlib.Path(__file__).resolve().parent.parent
 sys.path.insert(0, str(ROOT / "front"))
 
-from mgr_front.channels import State, Took, redis  # noqa: E402
+from mgr_front.channels import State, Took, presence, redis  # noqa: E402
 from mgr_front.channels.folder import Folder  # noqa: E402
 from mgr_front.channels.git import GitBranch, Pace  # noqa: E402
 from mgr_front.channels.redis import RedisStream  # noqa: E402
@@ -57,12 +57,11 @@ def channel_of(word, note, post, mgr, name):
     """Returns the channel of an engine, which here is quicker than in an edit."""
     kind, _, rest = word.partition(":")
     if kind == "dir":
-        return Folder(note, post, mgr, rest)
+        return Folder(note, post, rest)
     if kind == "git":
-        place, _, branch = rest.partition("#")
-        return GitBranch(note, post, mgr, place, branch, name, QUICK)
-    redis.SIGN, redis.UNDER_WAY = 3.0, 1.0
-    return RedisStream(note, post, mgr, word, name)
+        return GitBranch(note, post, rest, name, QUICK)
+    presence.ALIVE, redis.UNDER_WAY = 3.0, 1.0
+    return RedisStream(note, post, word, name)
 
 
 class Typist:
@@ -74,7 +73,7 @@ class Typist:
         self.words = folder / "words"
         self.came = collections.deque()
         note = SharedNote(mgr, Note(str(folder / NAME)), replica)
-        self.is_new = not note.claims()
+        self.is_new = note.is_empty
         self.channel = channel_of(word, note, self.came.append, mgr, f"Writer {replica}")
         self.state, self.typed, self.is_stopped = State("joining"), time.monotonic(), False
         self.is_unsaved = False

@@ -123,8 +123,8 @@ def open_writer(server, hub, part, name, words=None):
 
 
 def state(terminal):
-    """Returns what the mode line ends in."""
-    return terminal.shown()[-2].rstrip().rsplit("- ", 1)[-1]
+    """Returns what the mode line ends in, without who is there."""
+    return terminal.shown()[-2].rstrip().rsplit("- ", 1)[-1].partition(": ")[0]
 
 
 def live(terminal, seconds=40):
