@@ -3,7 +3,6 @@
 import os
 from collections.abc import Iterable
 
-from mgr_front.bindings import CONTROL_SIGN
 from mgr_front.errands import Errand
 from mgr_front.keys import DELETE, RETURN
 from mgr_front.statuses import COMMAND, FIND, KILL, SWITCH
@@ -54,10 +53,7 @@ def _notes(answer: str) -> Iterable[str]:
 
 
 def _can_be_typed(name: str) -> bool:
-    try:
-        return not CONTROL_SIGN.search(name.encode())
-    except UnicodeEncodeError:
-        return False
+    return not any(sign < " " or sign == "\x7f" or "\ud800" <= sign <= "\udfff" for sign in name)
 
 
 def complete(label: str, answer: str, buffers: Iterable[str]) -> Errand:

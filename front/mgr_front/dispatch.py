@@ -5,13 +5,13 @@ from collections import deque
 from collections.abc import Iterable
 from typing import Protocol
 
-from mgr_front.bindings import LINE_MODES, answer_keys, argument_keys, named_keys, plain_keys, text_keys
+from mgr_front.bindings import LINE_MODES, argument_keys, named_keys, plain_keys
 from mgr_front.editor import Editor
 from mgr_front.errands import Errand, kill_word_backward
 from mgr_front.keys import CANCEL, CONTROL_X, DELETE, ESCAPE, NO_KEY, QUOTE, RETURN, TAB
 from mgr_front.keys import Meta, Named, Pasted, Stroke, Typed
 from mgr_front.minibuffer import Question, ask_for_line
-from mgr_front.statuses import PLAIN, PROMPT, QUERY
+from mgr_front.statuses import PROMPT, QUERY
 
 LEAVE, REPAINT, SUSPEND = 0x03, 0x0C, 0x1A
 # Keys that the front looks at, besides the one that erases.
@@ -53,8 +53,7 @@ class Dispatcher:
     """The strokes that wait, in their order.
 
     What a stroke does can depend on what mgr asks for. Such a one waits until mgr has answered all
-    keys before it; a text goes on at once, but behind a command of M-x, whose message is to be seen.
-    ESC and C-x are kept until the key behind them is there.
+    keys before it; a text goes on at once. ESC and C-x are kept until the key behind them is there.
     """
 
     def __init__(self, editor: Editor, erase: int = DELETE) -> None:
@@ -89,12 +88,16 @@ class Dispatcher:
             else:
                 self._paste(stroke)
 
-    def give_up(self) -> bytes:
-        """Returns the keys of all strokes that wait, as where mgr asks for nothing."""
-        keys = self.prefix + b"".join(map(plain_keys, self.strokes))
-        self.strokes.clear()
+    def give_up(self) -> None:
+        """Does all strokes that wait, as where mgr asks for nothing."""
+        self.editor.hand_on(self.prefix)
         self.prefix = b""
-        return keys
+        while self.strokes:
+            stroke = self.strokes.popleft()
+            if isinstance(stroke, Pasted):
+                self.editor.paste(stroke.text, not stroke.is_last)
+            else:
+                self.editor.hand_on(plain_keys(stroke))
 
     def _is_clear(self, stroke: Stroke, desk: Desk) -> bool:
         """Whether it is known what a stroke does."""
@@ -102,15 +105,15 @@ class Dispatcher:
             return True
         if desk.errand:
             return False
-        if not isinstance(stroke, Typed) or self.prefix or self.editor.is_settled:
-            return self.editor.is_settled
-        # C-z does not wait for a peer.
-        return stroke.data[0] == SUSPEND if self.editor.command else stroke.data[0] not in self.special
+        is_text = isinstance(stroke, Typed) and not self.prefix and stroke.data[0] not in self.special
+        return is_text or self.editor.is_settled
 
     def _answer(self, stroke: Stroke, desk: Desk) -> None:
         """Gives the front's own question the first key of a stroke; the others wait, as it may end."""
-        keys = answer_keys(stroke) if isinstance(stroke, Pasted) else plain_keys(stroke)
-        if isinstance(stroke, Named | Meta) or not keys:
+        if isinstance(stroke, Named | Meta):
+            return
+        keys = stroke.text.partition("\n")[0].encode() if isinstance(stroke, Pasted) else stroke.data
+        if not keys:
             return
         if keys[1:]:
             self.strokes.appendleft(Typed(keys[1:]))
@@ -188,10 +191,8 @@ class Dispatcher:
         elif status.mode == QUERY or status.is_quitting:
             self.editor.hand_on(bytes([CANCEL]))
             self.strokes.appendleft(pasted)
-        elif status.mode == PLAIN:
-            self.editor.hand_on(text_keys(pasted.data))
         else:
-            self.editor.hand_on(answer_keys(pasted))
+            self.editor.paste(pasted.text, not pasted.is_last)
 
     def _break_off(self) -> None:
         """Has what was begun of a key be none."""

@@ -43,6 +43,10 @@ class Pasted:
     data: bytes
     is_last: bool
 
+    @property
+    def text(self) -> str:
+        return re.sub("\r\n?", "\n", self.data.decode("utf-8", "replace"))
+
 
 Stroke = Typed | Meta | Named | Pasted
 
@@ -96,11 +100,10 @@ class Keys:
         return bool(self.begun) and not self.is_pasting
 
     def give_up(self) -> list[Stroke]:
-        """Returns what was begun, as it was sent."""
+        """Returns what was begun, as it was sent: nothing goes on of it, nor of a paste."""
         begun, self.begun = self.begun, b""
-        if not begun:
-            return []
-        return [Pasted(begun, False)] if self.is_pasting else [Typed(begun)]
+        is_pasting, self.is_pasting = self.is_pasting, False
+        return [Pasted(begun, True)] if is_pasting else [Typed(begun)] * bool(begun)
 
     def _take_keys(self, sent: bytes, strokes: list[Stroke]) -> bytes:
         """Adds the strokes up to a paste, and returns what stands behind its beginning."""
@@ -135,11 +138,3 @@ def _stroke(sent: re.Match[bytes]) -> Stroke | None:
     if name and int(sent["modifier"] or 1) - 1 & CONTROL:
         name = CONTROLLED.get(name, name)
     return Named(name) if name else None
-
-
-def without_first(byte: int, strokes: list[Stroke]) -> list[Stroke]:
-    """Returns strokes without the first that is typed of a byte."""
-    for i, stroke in enumerate(strokes):
-        if isinstance(stroke, Typed) and byte in stroke.data:
-            return [*strokes[:i], Typed(stroke.data.replace(bytes([byte]), b"", 1)), *strokes[i + 1 :]]
-    return strokes

@@ -35,7 +35,7 @@ def terminal_rows() -> int:
 
 
 def words_for_mgr(options: Options, note: Note, number: int) -> list[str]:
-    given = {"--replica": number, "--fill": options.fill, "--port": options.port}
+    given = {"--replica": number, "--fill": options.fill}
     words = [word for name, value in given.items() if value is not None for word in (name, str(value))]
     return [*words, "--", note.name]
 
@@ -55,7 +55,7 @@ def edit(opening: Opening, company: Company | None, signals: Signals) -> int:
     screen = Screen()
     with tempfile.TemporaryFile() as said:
         editor = Editor(opening.mgr, words_for_mgr(options, note, opening.number), rows, said)
-        session = Session(editor, screen, signals, options.port, company)
+        session = Session(editor, screen, signals, company)
         session.names = note.name, options.name
         session.greeting = "; ".join(opening.remarks)
         session.changed.append(opening.keep_number)
@@ -97,7 +97,7 @@ def main(words: Sequence[str], folder: str) -> int:
         stop(f"the program {os.environ.get('MGR') or 'mgr'} is not there")
     terminal_rows()
     try:
-        if not (options.address or options.port) and is_served(note.name):
+        if not options.address and is_served(note.name):
             return edit_as_guest(mgr, options)
         if said := take_back(mgr, note):
             tell(said)

@@ -1,7 +1,6 @@
 """The files of a note: its text, its log, and what is kept beside them."""
 
 import glob
-import itertools
 import os
 from dataclasses import dataclass
 
@@ -55,19 +54,3 @@ class KeptFiles:
         known = self.known.get(name, found)
         self.known[name] = found
         return [f"{kept} has what stood there" for kept in sorted(found - known)]
-
-
-def keep_keys(note: Note, keys: bytes) -> str:
-    """Keeps keys that mgr did not take in a file beside the note, for its owner alone, and returns its path."""
-    for number in itertools.count():
-        path = f"{note.name}.keys" + (f".~{number}~" if number else "")
-        try:
-            file = open(path, "xb", opener=lambda name, flags: os.open(name, flags, 0o600))
-        except FileExistsError:
-            continue
-        with file:
-            file.write(keys)
-            file.flush()
-            os.fsync(file.fileno())
-        return path
-    raise AssertionError("numbers have no end")

@@ -13,11 +13,11 @@ import time
 from mgr_front.asking import choice
 from mgr_front.compaction import offer
 from mgr_front.copies import Copy
-from mgr_front.difference import changes, keys_of
+from mgr_front.difference import changes, splices
+from mgr_front.editor import REPORT
 from mgr_front.notes import KeptFiles, Note, Refused, read
 from mgr_front.options import Options
 from mgr_front.program import Log, ask, edit, log_of, text_of
-from mgr_front.saving import SAVE
 from mgr_front.saying import REFUSED, say
 
 
@@ -136,23 +136,20 @@ class Difference:
         )
 
     def take_file(self, replica: int) -> None:
-        """Brings the changes of the file into the log, as edits of this replica.
-
-        They are tried on a copy first: where the log has no room for all, it has to stay as it is.
-        """
-        name, log = self.note.name, self.note.log
+        """Brings the changes of the file into the log, as edits of this replica: all, or none."""
         with tempfile.TemporaryDirectory() as folder:
             copy = Note(os.path.join(folder, "copy"))
-            shutil.copyfile(log, copy.log)
-            if not self._is_taken_by(copy, replica):
-                raise Refused(f"{log}: has no room for the changes of {name}: see --keep-file")
-        if not self._is_taken_by(self.note, replica):
-            raise Refused(f"{log}: did not take the changes of {name}")
+            shutil.copyfile(self.note.log, copy.log)
+            if not put_text(self.mgr, copy, replica, self.new):
+                raise Refused(f"{self.note.log}: has no room for the changes of {self.note.name}: see --keep-file")
+            ask(self.mgr, self.note, "merge", "--adopt", logs=[copy.log])
 
-    def _is_taken_by(self, note: Note, replica: int) -> bool:
-        """Makes the changes in a note, and answers whether its log makes the text then."""
-        keys = keys_of(self.changes) + SAVE
-        return edit(self.mgr, note, replica, keys) == 0 and text_of(self.mgr, note) == self.new
+
+def put_text(mgr: str, note: Note, replica: int, text: str) -> bool:
+    """Changes a note into this text, as edits of this replica, and answers whether its log makes that then."""
+    reports = splices(changes(text_of(mgr, note), text))
+    given = b"".join(REPORT + report + b"\n" for report in reports)
+    return edit(mgr, note, replica, given) == 0 and text_of(mgr, note) == text
 
 
 def mend(mgr: str, note: Note) -> tuple[list[str], bytes]:

@@ -30,7 +30,6 @@ class Options(argparse.Namespace):
     name: str
     replica: int | None
     fill: int | None
-    port: int | None
     # The way to others, by its kind and what follows, if there is one.
     address: tuple[str, str] | None
     person: str
@@ -89,9 +88,7 @@ def _parser(program: str, description: str, epilog: str = "") -> argparse.Argume
 def parser() -> argparse.ArgumentParser:
     made = _parser("mgr-live", DESCRIPTION, EPILOG)
     made.add_argument("--fill", metavar="F", type=whole_number(1, 9999), help="the fill column of M-q")
-    peers = made.add_mutually_exclusive_group()
-    peers.add_argument("--port", metavar="P", type=PORT, help="the port at which peers are met")
-    peers.add_argument(
+    made.add_argument(
         "--with",
         dest="address",
         metavar="HOST:NOTE",

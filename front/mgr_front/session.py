@@ -15,12 +15,11 @@ from mgr_front.dispatch import Dispatcher
 from mgr_front.echo import Echo, echo_line
 from mgr_front.editor import BLOCK, LEAST_ROWS, MOST_ROWS, Editor
 from mgr_front.errands import Errand, leave
-from mgr_front.keys import CANCEL, RETURN, TAB, Keys, Typed, without_first
-from mgr_front.meeting import knock
+from mgr_front.keys import CANCEL, RETURN, TAB, Keys, Typed
 from mgr_front.minibuffer import Question
 from mgr_front.notes import KeptFiles
 from mgr_front.remarks import Remarks
-from mgr_front.saving import EXCHANGE, REST, SERVE, Buffers
+from mgr_front.saving import REST
 from mgr_front.screen import Screen
 from mgr_front.signals import Signals
 from mgr_front.statuses import Status
@@ -28,21 +27,17 @@ from mgr_front.view import picture
 
 # Seconds until what may be the beginning of a longer key counts as keys of its own, as ESC does.
 PATIENCE = 0.05
-# Seconds for which it is said what is wrong with a note that was opened, and what an exchange said.
-OPENED, SAID = 10.0, 2.0
+# Seconds for which it is said what is wrong with a note that was opened.
+OPENED = 10.0
 # Seconds between two pictures while further ones are to come.
 PICTURE = 0.05
-# Seconds between two tries to end a wait for a peer.
-KNOCK = 0.1
 # Seconds without a key before all is saved, and between two savings of what others did.
 IDLE = 1.0
-# Seconds that mgr has at the end for an exchange with a peer that says nothing.
-LAST = 10.0
 
 # For what the bell rings.
 RINGING = "Undefined key", "Search failed"
 # What is said where a buffer was saved, and where one could not be.
-SAVED = "Wrote ", "Sent "
+SAVED = "Wrote "
 UNSAVED = {"file": "Not saved: File fault", "memory": "Not saved: Out of memory"}
 # How much may wait for mgr before no more keys are read.
 MOST_WAITING = 65536
@@ -51,21 +46,14 @@ MOST_WAITING = 65536
 class Session:
     """An edit by a mgr that runs."""
 
-    def __init__(
-        self,
-        editor: Editor,
-        screen: Screen,
-        signals: Signals,
-        port: int | None = None,
-        company: Company | None = None,
-    ) -> None:
-        """`port` is where mgr meets peers, and `company` are those who write in the note too."""
-        self.editor, self.screen, self.signals = editor, screen, signals
-        self.port, self.company = port, company
+    def __init__(self, editor: Editor, screen: Screen, signals: Signals, company: Company | None = None) -> None:
+        """`company` are those who write in the note too."""
+        self.editor, self.screen, self.signals, self.company = editor, screen, signals, company
         screen.is_over = lambda: signals.first is not None
         self.keys = Keys()
         self.dispatcher = Dispatcher(editor, screen.erase)
-        self.buffers = Buffers()
+        # The buffers that were seen, and whether each is changed.
+        self.buffers: dict[str, bool] = {}
         # What mgr put aside in a save, and what was said of that.
         self.kept = KeptFiles()
         self.put_aside: list[str] = []
@@ -83,10 +71,8 @@ class Session:
         self.drawn: tuple[list[str], str] = [], ""
         self.painted = -math.inf
         self.is_stale = self.rings = self.is_ending = False
-        # Whether a wait for a peer is to be ended.
-        self.breaks_off = False
-        # When a key was typed, when mgr was given or told something, when all was saved, and by which report.
-        self.typed = self.heard = self.rested = time.monotonic()
+        # When a key was typed, when all was saved, and by which report.
+        self.typed = self.rested = time.monotonic()
         self.rest_number = 0
 
     def run(self) -> None:
@@ -129,7 +115,6 @@ class Session:
         ready, free, _ = select.select([self.editor.written, *others, *reading], writing, [], seconds)
         if free:
             self.editor.write()
-            self.heard = time.monotonic()
         return ready
 
     def _patience(self) -> float | None:
@@ -137,7 +122,7 @@ class Session:
         now = time.monotonic()
         dues = [self._rest_due(), self.remarks.patience(now)]
         seconds = [max(0.0, due) for due in dues if due is not None]
-        seconds += [PATIENCE] * self.keys.is_in_doubt + [KNOCK] * self.breaks_off + [PICTURE] * self.is_stale
+        seconds += [PATIENCE] * self.keys.is_in_doubt + [PICTURE] * self.is_stale
         return min(seconds, default=None)
 
     def _rest_due(self) -> float | None:
@@ -149,8 +134,6 @@ class Session:
 
     def work(self) -> None:
         """Does what strokes and watches ask for."""
-        if self.breaks_off and self.port:
-            knock(self.port)
         self.dispatcher.run(self)
         if self.company and not (self.errand or self.is_ending):
             self.company.feed(self.editor)
@@ -171,25 +154,17 @@ class Session:
         sent = os.read(0, BLOCK)
         self.typed = time.monotonic()
         try:
-            strokes = self.keys.take(sent)
             if CANCEL in sent:
                 self.remarks.acknowledge()
-                strokes = without_first(CANCEL, strokes) if self._leave_peer() else strokes
+            self.dispatcher.take(self.keys.take(sent))
         except BaseException:
             # Whatever it was, these are keys.
             self.dispatcher.take([Typed(sent)])
             raise
-        self.dispatcher.take(strokes)
         return bool(sent)
-
-    def _leave_peer(self) -> bool:
-        """Ends a wait for a peer, where mgr takes no key before, and answers whether it does."""
-        self.breaks_off = self.editor.command == SERVE and self.port is not None
-        return self.breaks_off
 
     def _take_statuses(self) -> bool:
         """Takes what mgr told, and answers whether it has not ended."""
-        self.heard = time.monotonic()
         try:
             for status in self.editor.read():
                 self._take(status)
@@ -204,7 +179,7 @@ class Session:
             self.said = None
         self.note(status)
         is_saved = status.message.startswith(SAVED) and self.editor.taken or self._has_rested(status)
-        if is_saved or len(self.kept.known) < len(self.buffers.changed):
+        if is_saved or len(self.kept.known) < len(self.buffers):
             self.note_kept()
         while self.changed and status.is_changed:
             self.changed.pop()()
@@ -213,20 +188,22 @@ class Session:
                 self._go_on(self.errand, status)
             return
         self.is_stale = True
-        if self.editor.done in (SERVE, EXCHANGE):
-            self._end_exchange(status.message)
         is_key = self.editor.taken > 0 and not status.begun
         self.rings = self.rings or is_key and status.message in RINGING
 
     def note(self, status: Status) -> None:
         """Takes note of what a status tells of buffers, and tells others what was made."""
-        self.buffers.note(status)
+        self.buffers[status.buffer] = status.is_changed
         if status.saved in UNSAVED:
             self.remarks.hold(UNSAVED[status.saved], math.inf)
         elif status.saved == "ok":
             self.remarks.drop(UNSAVED.values())
+        own = self.editor.pasted & status.refused.keys()
+        for number in own:
+            self.remark(f"Not put in: {status.refused[number]}")
         if self.company:
-            self.company.note_status(status)
+            others = {number: fault for number, fault in status.refused.items() if number not in own}
+            self.company.note_status(replace(status, refused=others))
 
     def _has_rested(self, status: Status) -> bool:
         """Whether a status is the first one after all was saved, as it was asked for."""
@@ -237,17 +214,9 @@ class Session:
 
     def note_kept(self) -> None:
         """Says what mgr put aside: other programs have written it, and nobody may know."""
-        for said in sum(map(self.kept.since, self.buffers.changed), []):
+        for said in sum(map(self.kept.since, self.buffers), []):
             self.put_aside.append(said)
             self.remark(said)
-
-    def _end_exchange(self, said: str) -> None:
-        """What an exchange said stays, whatever was typed meanwhile; one that was left says nothing."""
-        if self.breaks_off and said == "Cut":
-            self.said = "Quit"
-        else:
-            self.remarks.hold(said, time.monotonic() + SAID)
-        self.breaks_off = False
 
     def _draw(self) -> None:
         """Draws the newest status, where it was not drawn yet."""
@@ -331,7 +300,7 @@ class Session:
         """Completes the answer of the open prompt; where it asks for no name, TAB is a part of it."""
         status = self.editor.status
         if asks_for_name(status.label):
-            self.start(complete(status.label, status.answer, self.buffers.changed))
+            self.start(complete(status.label, status.answer, self.buffers))
         else:
             self.editor.hand_on(bytes([TAB]))
 
@@ -343,25 +312,18 @@ class Session:
         else:
             self.editor.hand_on(bytes([RETURN]))
 
-    def conclude(self) -> bool:
-        """Does all strokes that wait, without the terminal, and answers whether mgr took them, or has ended.
-
-        It does as long as it takes; only one that hears nothing of a peer is given up.
-        """
+    def conclude(self) -> None:
+        """Does all strokes that wait, without the terminal, for as long as that takes."""
         self.is_ending, self.question = True, None
         self.dispatcher.take(self.keys.give_up())
-        self.heard = time.monotonic()
         try:
+            self.work()
             while self.errand or self.dispatcher.strokes or not self.editor.is_answered:
-                self.breaks_off = self.port is not None and self.editor.command == SERVE
+                if self.editor.written in self._await([], None) and not self._take_statuses():
+                    return
                 self.work()
-                if self.editor.written in self._await([], KNOCK) and not self._take_statuses():
-                    return True
-                if self.editor.command and time.monotonic() > self.heard + LAST:
-                    return False
         except BrokenPipeError:
             pass  # mgr has ended.
-        return True
 
     def _heed(self) -> None:
         """Does what signals ask for that end nothing."""

@@ -1,7 +1,7 @@
-"""A program that takes the place of mgr: it knows text, saving, one buffer, and a command that serves.
+"""A program that takes the place of mgr: it knows text, saving and one buffer.
 
 It answers each block of keys by a status, and by a second one with an operation where a text was typed
-in it. With `silent` for a name it serves for ever; with `faulty` it serves nobody. A save keeps what another program has written. Of reports it knows sizes, rests and operations,
+in it. A save keeps what another program has written. Of reports it knows sizes, rests and operations,
 which it adds to a log at once; those of replica 13 are conflicts. The end of the keys is a save, which takes
 long with `slow` for a name.
 
@@ -16,7 +16,6 @@ import json
 import os
 import pathlib
 import re
-import socket
 import sys
 import time
 from typing import Any
@@ -29,7 +28,8 @@ class Live:
 
     def __init__(self, name: str) -> None:
         self.name, self.text, self.saved, self.is_changed = name, "", "", False
-        self.rows, self.keys, self.reports = int(sys.argv[sys.argv.index("--rows") + 1]), 0, 0
+        rows = sys.argv.index("--rows") if "--rows" in sys.argv else 0
+        self.rows, self.keys, self.reports = int(sys.argv[rows + 1]) if rows else 3, 0, 0
         self.begun = self.answer = self.message = ""
         self.asks = self.is_typed = False
         self.refused: list[list[object]] = []
@@ -84,8 +84,6 @@ class Live:
         self.message = ""
         if key in ("\x1bx", "\x07"):
             self.asks, self.answer = key == "\x1bx", ""
-        elif self.asks and key == "\r":
-            self.asks, self.message = False, serve(self.name)
         elif self.asks:
             self.answer += key
         elif key == "\x18\x13":
@@ -118,20 +116,6 @@ class Live:
         if self.is_changed:
             self.save()
         self.tell()
-
-
-def serve(name: str) -> str:
-    """Takes all that one peer says, answers by a line, and returns what the echo line says then."""
-    while name.endswith("silent"):
-        time.sleep(1)
-    if name.endswith("faulty"):
-        return "File fault"
-    port = int(sys.argv[sys.argv.index("--port") + 1])
-    with socket.create_server(("127.0.0.1", port)) as listener, listener.accept()[0] as peer:
-        while peer.recv(4096):
-            pass
-        peer.sendall(b"served\n")
-    return "Sent 0, received 0"
 
 
 def numbers(log: str, text: pathlib.Path) -> str:

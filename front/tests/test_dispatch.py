@@ -99,7 +99,9 @@ class TestDispatch(unittest.TestCase):
         self.assertEqual(self.press(b"\x18"), b"")
         self.assertEqual(self.press(b"\x13"), b"\x18\x13")
         self.assertEqual(self.answer(), b"")
-        self.assertEqual(self.press(b"\x18") + self.dispatcher.give_up(), b"\x18")
+        self.assertEqual(self.press(b"\x18"), b"")
+        self.dispatcher.give_up()
+        self.assertEqual(self.editor.waiting, b"\x18")
 
     def test_leaving_is_the_desks(self) -> None:
         self.assertEqual(self.press(b"\x18\x03"), b"")
@@ -125,14 +127,6 @@ class TestDispatch(unittest.TestCase):
         self.assertEqual(self.desk.done, ["suspend", "suspend"])
         self.assertEqual(self.press(b"\x11\x1a") + self.answer(begun=True), b"\x11\x1a")
         self.assertEqual(self.desk.done, ["suspend", "suspend"])
-
-    def test_suspending_while_a_peer_is_waited_for(self) -> None:
-        self.press(b"\x1bxreplica-serve")
-        self.answer(**asking("M-x ", "replica-serve"))
-        self.editor.hand_on(b"\r")
-        self.assertEqual(self.press(b"\x1atyped ahead"), b"")
-        self.assertEqual(self.desk.done, ["suspend"])
-        self.assertEqual(self.answer(), b"typed ahead")
 
     def test_keys_of_an_answer(self) -> None:
         self.assertEqual(self.press(b"\t"), b"\t")
@@ -170,19 +164,21 @@ class TestDispatch(unittest.TestCase):
     def test_a_paste_leaves_what_was_begun_and_no_question_is_answered_by_it(self) -> None:
         self.assertEqual(self.press(b"\x154\x1b[200~y\r\x1b[201~"), b"\x154")
         self.assertEqual(self.answer(begun=True), b"\xfe")
-        self.assertEqual(self.answer(), b"y\r")
+        self.assertEqual(self.answer(), b'\xff{"op":"paste","text":"y\\n"}\n')
         self.answer()
         for asked in (asking("Changed buffers; quit (y or n): "), asking("Query replacing (y n ! q): ", mode="query")):
             self.press(b"a")
             self.answer(**asked)
             self.assertEqual(self.press(b"\x1b[200~y\x1b[201~"), b"\x07")
-            self.assertEqual(self.answer(), b"y")
+            self.assertEqual(self.answer(), b'\xff{"op":"paste","text":"y"}\n')
             self.answer()
 
-    def test_a_paste_into_an_answer(self) -> None:
-        self.press(b"\x18\x06")
-        self.answer(**asking("Find file: "))
-        self.assertEqual(self.press(b"\x1b[200~notes\r\x1b[201~"), b"notes")
+    def test_a_paste_that_comes_in_pieces_is_one_command(self) -> None:
+        self.assertEqual(self.press(b"\x1b[200~one"), b'\xff{"op":"paste","text":"one","more":true}\n')
+        self.assertEqual(self.press(b" two\x1b[201~"), b'\xff{"op":"paste","text":" two"}\n')
+        self.press(b"\x1b[200~cut")
+        self.dispatcher.take(self.terminal.give_up())
+        self.assertEqual(self.given(), b'\xff{"op":"paste","text":""}\n')
 
 
 if __name__ == "__main__":

@@ -1,7 +1,6 @@
 """Sessions beside a program that takes the place of mgr, and their ends."""
 
 import os
-import pathlib
 import tempfile
 import time
 import unittest
@@ -187,15 +186,6 @@ class TestEnds(Sessions):
         with mock.patch.object(edit, "work", side_effect=RuntimeError), self.assertRaises(RuntimeError):
             ending.finish(edit, self.note)
         self.assertEqual(self.text("note"), "typed")
-
-    def test_keys_that_are_not_taken_are_kept(self) -> None:
-        edit = self.begin("silent")
-        self.settle(edit)
-        self.type(edit, b"\x1bxab\rthe rest\r!")
-        with mock.patch.object(ending, "tell") as tell, mock.patch.object(session, "LAST", 0.5):
-            ending.finish(edit, self.note)
-        self.assertIn("silent.keys", tell.call_args[0][0])
-        self.assertEqual(pathlib.Path(self.note.name + ".keys").read_bytes(), b"the rest\r!\xfe\x07\x18\x13")
 
     def test_a_slow_save_is_waited_for(self) -> None:
         edit = self.begin("slow")
