@@ -54,9 +54,11 @@ def files_that_may_not_grow(terminal):
     terminal.press("C-x", "C-s")
     terminal.see("a save", {8: mode_line("**", "L1 C120"), 9: "File fault [Not saved: File fault]"})
     terminal.press("C-x", "C-c")
-    terminal.see("a question", {9: "Changed buffers; quit (y or n):  [Not saved: File fault]"})
-    terminal.press("y")
-    terminal.left("left", "mgr-live: Not saved: File fault", "status 0")
+    terminal.see("a question", {9: "Not saved: s tries again, d leaves and keeps it apart?"})
+    terminal.press("d")
+    terminal.expect("left", lambda: "status 0" in terminal.shown(), True)
+    found = [path.read_text() for path in terminal.folder.glob("state/mgr/guests/*/*/text")]
+    terminal.expect("the state folder", lambda: found, ["words " * 20])
 
 
 def mgr_is_killed(terminal):
@@ -118,7 +120,7 @@ def saved_by_itself(terminal):
     terminal.expect_file("other", "b")
     terminal.expect("the one without", (terminal.folder / "read.ops").exists, False)
     terminal.see("nothing is said", {0: "ac", 9: ""}, (0, 2))
-    terminal.press("C-x", "C-c", "y")
+    terminal.press("C-x", "C-c", "s")
     terminal.left("left", "status 0")
 
 

@@ -131,7 +131,7 @@ def completing(terminal):
     terminal.see("nothing to complete", {9: "Find file: z [No match]"}, (9, 12))
     terminal.press("C-g", "M-%", "x", "Tab", "y")
     terminal.see("TAB where no name is asked for", {9: "Query replace: x        y"})
-    terminal.press("C-g", "C-x", "C-c", "y")
+    terminal.press("C-g", "C-x", "C-c")
     terminal.left("left", "status 0")
 
 

@@ -13,7 +13,7 @@ from mgr_front.keys import Meta, Named, Pasted, Stroke, Typed
 from mgr_front.minibuffer import Question, ask_for_line
 from mgr_front.statuses import PROMPT, QUERY
 
-LEAVE, REPAINT, SUSPEND = 0x03, 0x0C, 0x1A
+LEAVE, REPAINT, SAVE, SUSPEND = 0x03, 0x0C, 0x13, 0x1A
 # Keys that the front looks at, besides the one that erases.
 SPECIAL = bytes([SUSPEND, ESCAPE, CONTROL_X, TAB, RETURN])
 
@@ -39,7 +39,10 @@ class Desk(Protocol):
     def answer(self, byte: int) -> None:
         """Takes a key of the answer to what is asked."""
 
-    def leave(self) -> None:
+    def save(self) -> Errand:
+        """Saves the current buffer."""
+
+    def leave(self) -> Errand:
         """Has all be saved, and leaves."""
 
     def complete(self) -> None:
@@ -160,8 +163,8 @@ class Dispatcher:
             desk.start(kill_word_backward())
         elif not is_meta and byte == ord("g"):
             desk.ask(ask_for_line())
-        elif not is_meta and byte == LEAVE:
-            desk.leave()
+        elif not is_meta and byte in (LEAVE, SAVE):
+            desk.start(desk.leave() if byte == LEAVE else desk.save())
         elif not is_meta and byte == SUSPEND:
             desk.suspend()
         else:

@@ -1,7 +1,8 @@
 """The end of an edit, whatever brought it: what was typed is taken, mgr saves it, and others are told."""
 
+from mgr_front.apart import keep_apart
 from mgr_front.keys import NO_KEY
-from mgr_front.notes import Note
+from mgr_front.notes import Note, found, put_back
 from mgr_front.saving import CANCEL
 from mgr_front.saying import tell
 from mgr_front.session import UNSAVED, Session
@@ -32,6 +33,12 @@ def finish(session: Session, note: Note) -> None:
     session.note_kept()
     for said in session.put_aside:
         tell(said)
+    for name, place in session.apart.items():
+        tell(keep_apart(editor.program, Note(name), place))
+    for name in session.made if session.discards else ():
+        if found(name) != session.buffers[name]:
+            put_back(name, session.buffers[name])
+        tell(f"{name} is as it was; {Note(name).log} has what was written, and so have others")
 
 
 def _leave(session: Session) -> None:
@@ -39,5 +46,5 @@ def _leave(session: Session) -> None:
     company = session.company
     if company and not company.channel.close(LAST) and company.state.word == "live":
         tell("others get the last changes at the next start")
-    if session.editor.status.saved in UNSAVED:
+    if session.editor.status.saved in UNSAVED and not session.apart:
         tell(UNSAVED[session.editor.status.saved])

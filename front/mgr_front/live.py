@@ -58,7 +58,7 @@ def edit(opening: Opening, company: Company | None, signals: Signals) -> int:
         session = Session(editor, screen, signals, company)
         session.names = note.name, options.name
         session.greeting = "; ".join(opening.remarks)
-        session.changed.append(opening.keep_number)
+        session.keep = opening.keep
         try:
             with screen:
                 session.run()
@@ -69,7 +69,7 @@ def edit(opening: Opening, company: Company | None, signals: Signals) -> int:
             said.seek(0)
             tell(explained(status, said.read().decode(), note, bool(editor.status.frame)))
         else:
-            opening.remember()
+            opening.remember(session.discards)
     return status_of(status, signals)
 
 

@@ -12,9 +12,9 @@ MOST_ANSWER = 9
 class Question:
     """A question, and its answer so far."""
 
-    def __init__(self, label: str, allowed: str, accept: Callable[[str], Errand | None]) -> None:
-        """Asks for characters that are allowed; `accept` makes an errand of the answer."""
-        self.label, self.allowed, self.accept = label, allowed, accept
+    def __init__(self, label: str, accept: Callable[[str], Errand | None], allowed: str = "", keys: str = "") -> None:
+        """Asks for characters that are allowed, or for one of these keys; `accept` makes an errand of the answer."""
+        self.label, self.accept, self.allowed, self.keys = label, accept, allowed, keys
         self.answer = ""
         self.is_open = True
 
@@ -25,9 +25,12 @@ class Question:
 
     def press(self, byte: int) -> Errand | None:
         """Takes a key, and returns the errand that it leads to; RET and C-g end the question."""
+        if chr(byte) in self.keys:
+            self.is_open = False
+            return self.accept(chr(byte))
         if byte == DELETE:
             self.answer = self.answer[:-1]
-        elif byte in (RETURN, CANCEL):
+        elif byte == CANCEL or byte == RETURN and not self.keys:
             self.is_open = False
             return self.accept(self.answer) if byte == RETURN else None
         elif chr(byte) in self.allowed and len(self.answer) < MOST_ANSWER:
@@ -41,4 +44,4 @@ def ask_for_line() -> Question:
     def accept(answer: str) -> Errand | None:
         return go_to_line(int(answer)) if answer else None
 
-    return Question("Goto line: ", "0123456789", accept)
+    return Question("Goto line: ", accept, allowed="0123456789")

@@ -41,6 +41,23 @@ def read(path: str) -> bytes:
         return file.read()
 
 
+def found(path: str) -> bytes | None:
+    """Returns what stands in a file, if it can be read."""
+    try:
+        return read(path)
+    except OSError:
+        return None
+
+
+def put_back(path: str, before: bytes | None) -> None:
+    """Has a file be as it was before, be it that there was none."""
+    if before is None:
+        os.unlink(path)
+    else:
+        with open(path, "wb") as file:
+            file.write(before)
+
+
 class KeptFiles:
     """What mgr keeps beside notes, as something else had written it."""
 

@@ -9,13 +9,15 @@ import os
 import shutil
 import tempfile
 import time
+from collections.abc import Sequence
 
 from mgr_front.asking import choice
+from mgr_front.channels.logs import counters
 from mgr_front.compaction import offer
 from mgr_front.copies import Copy
 from mgr_front.difference import changes, splices
 from mgr_front.editor import REPORT
-from mgr_front.notes import KeptFiles, Note, Refused, read
+from mgr_front.notes import KeptFiles, Note, Refused, found, read
 from mgr_front.options import Options
 from mgr_front.program import Log, ask, edit, log_of, text_of
 from mgr_front.saying import REFUSED, say
@@ -36,8 +38,14 @@ class Opening:
         except Refused as refused:
             log = self._mended(refused)
         if log:
+            self._keep_written(log)
             self._settle(log)
             offer(mgr, note, log)
+
+    def _keep_written(self, log: Log | None) -> None:
+        """Keeps how far this copy wrote in the log, if it did: others are told that when they are joined."""
+        if log and self.number in log.counters and self.options.replica is None:
+            self.copy.keep_number(self.number, log.counters[self.number])
 
     def _mended(self, refused: Refused) -> Log | None:
         """Has the log mended that was refused so, if the person wants that, and says what was left out of it."""
@@ -68,8 +76,9 @@ class Opening:
         keeps = self.options.keeps_file or self.copy.is_merged(read(self.note.name), log)
         found = None if keeps and not self.options.takes_file else Difference(self.mgr, self.note, log)
         if found and (self.options.takes_file or choice(found.question(), "f", "l") == "f"):
-            self.keep_number()
+            self.keep(())
             found.take_file(self.number)
+            self._keep_written(log_of(self.mgr, self.note))
         else:
             self.remarks += mend(self.mgr, self.note)[0]
 
@@ -88,18 +97,18 @@ class Opening:
                 os.rename(old, new)
         return kept.name
 
-    def keep_number(self) -> None:
-        """Keeps the number of this copy, if none is given, as something is written under it."""
+    def keep(self, lines: Sequence[bytes]) -> None:
+        """Keeps how far this copy wrote, before others are told these lines."""
         if self.options.replica is None:
-            self.copy.keep_number(self.number)
+            self.copy.keep_number(self.number, max(counters(lines, self.number), default=0))
 
-    def remember(self) -> None:
-        """Keeps how the edit left the note, if its text is the one of its log."""
+    def remember(self, is_older: bool = False) -> None:
+        """Keeps how the edit left the note, if its text is the one of its log, or is to be older."""
         try:
             text, log = read(self.note.name), log_of(self.mgr, self.note)
         except (OSError, Refused):
             return  # One of them is not there, or this person may not read it.
-        if log and log.text == "same":
+        if log and (log.text == "same" or is_older):
             self.copy.remember(text, log)
 
 
@@ -147,7 +156,8 @@ class Difference:
 
 def put_text(mgr: str, note: Note, replica: int, text: str) -> bool:
     """Changes a note into this text, as edits of this replica, and answers whether its log makes that then."""
-    reports = splices(changes(text_of(mgr, note), text))
+    old = text_of(mgr, note) if note.has_log else (found(note.name) or b"").decode()
+    reports = splices(changes(old, text))
     given = b"".join(REPORT + report + b"\n" for report in reports)
     return edit(mgr, note, replica, given) == 0 and text_of(mgr, note) == text
 

@@ -25,8 +25,8 @@ class Log:
     waiting: int
     # Whether the text that stands beside it is that of the log: "same", "other" or "unread".
     text: str
-    # How many characters each replica wrote.
-    written: dict[int, int]
+    # The greatest counter of each replica.
+    counters: dict[int, int]
 
 
 def find(folder: str) -> str | None:
@@ -50,8 +50,8 @@ def log_of(mgr: str, note: Note) -> Log | None:
     if not note.has_log:
         return None
     told = json.loads(ask(mgr, note, "log", "--json"))
-    written = {each["replica"]: each["characters"] for each in told["replicas"]}
-    return Log(told["bytes"], told["operations"], told["waiting"], told["text"], written)
+    counters = {each["replica"]: each["counter"] for each in told["replicas"]}
+    return Log(told["bytes"], told["operations"], told["waiting"], told["text"], counters)
 
 
 def text_of(mgr: str, note: Note) -> str:

@@ -5,7 +5,7 @@ import os
 import select
 import signal
 import time
-from collections.abc import Callable, Sequence
+from collections.abc import Callable, Generator, Sequence
 from dataclasses import replace
 
 from mgr_front.cells import row_width
@@ -14,12 +14,13 @@ from mgr_front.completion import accept, asks_for_name, begins_at_home, complete
 from mgr_front.dispatch import Dispatcher
 from mgr_front.echo import Echo, echo_line
 from mgr_front.editor import BLOCK, LEAST_ROWS, MOST_ROWS, Editor
-from mgr_front.errands import Errand, leave
-from mgr_front.keys import CANCEL, RETURN, TAB, Keys, Typed
+from mgr_front.errands import COPY_ALL, LEAVE, YANK, Errand, switch_to
+from mgr_front.keys import CANCEL, NO_KEY, RETURN, TAB, Keys, Typed
 from mgr_front.minibuffer import Question
-from mgr_front.notes import KeptFiles
+from mgr_front.apart import place_apart
+from mgr_front.notes import KeptFiles, found
 from mgr_front.remarks import Remarks
-from mgr_front.saving import REST
+from mgr_front.saving import REST, SAVE
 from mgr_front.screen import Screen
 from mgr_front.signals import Signals
 from mgr_front.statuses import Status
@@ -38,7 +39,10 @@ IDLE = 1.0
 RINGING = "Undefined key", "Search failed"
 # What is said where a buffer was saved, and where one could not be.
 SAVED = "Wrote "
+PUT = SAVED, "No changes"
 UNSAVED = {"file": "Not saved: File fault", "memory": "Not saved: Out of memory"}
+LEAVING = "Leave: s puts the text, d leaves its file as it was? "
+APART = "Not saved: s tries again, d leaves and keeps it apart? "
 # How much may wait for mgr before no more keys are read.
 MOST_WAITING = 65536
 
@@ -52,17 +56,22 @@ class Session:
         screen.is_over = lambda: signals.first is not None
         self.keys = Keys()
         self.dispatcher = Dispatcher(editor, screen.erase)
-        # The buffers that were seen, and whether each is changed.
-        self.buffers: dict[str, bool] = {}
+        # The buffers that were seen, each with its text as it was at the start, or at the last C-x C-s; those in
+        # which something was made since; and whether their texts are to be so again.
+        self.buffers: dict[str, bytes | None] = {}
+        self.made: set[str] = set()
+        self.discards = False
+        # Where texts stand that could not be saved, by the names of their buffers.
+        self.apart: dict[str, str] = {}
         # What mgr put aside in a save, and what was said of that.
         self.kept = KeptFiles()
         self.put_aside: list[str] = []
         self.remarks = Remarks()
         # The note's path, and the name that is shown for it.
         self.names = "", ""
-        # What is said at the start, and what takes note of the first change.
+        # What is said at the start, and what takes note of own operations before others are told.
         self.greeting = ""
-        self.changed: list[Callable[[], None]] = []
+        self.keep: Callable[[Sequence[bytes]], None] = lambda _: None
         self.errand: Errand | None = None
         self.question: Question | None = None
         # What the front says in place of mgr's message; the remarks and the status that were drawn last,
@@ -181,10 +190,8 @@ class Session:
         is_saved = status.message.startswith(SAVED) and self.editor.taken or self._has_rested(status)
         if is_saved or len(self.kept.known) < len(self.buffers):
             self.note_kept()
-        while self.changed and status.is_changed:
-            self.changed.pop()()
         if self.errand:
-            if self.editor.is_answered:
+            if self.editor.is_answered and not status.more:
                 self._go_on(self.errand, status)
             return
         self.is_stale = True
@@ -193,7 +200,13 @@ class Session:
 
     def note(self, status: Status) -> None:
         """Takes note of what a status tells of buffers, and tells others what was made."""
-        self.buffers[status.buffer] = status.is_changed
+        name = status.buffer
+        self.buffers.setdefault(name, found(name))
+        if status.operations:
+            self.made.add(self.names[0])
+            self.keep(status.operations)
+        if status.is_changed and name != self.names[0]:
+            self.made.add(name)
         if status.saved in UNSAVED:
             self.remarks.hold(UNSAVED[status.saved], math.inf)
         elif status.saved == "ok":
@@ -291,10 +304,57 @@ class Session:
             self.start(errand)
         self.is_stale = True
 
-    def leave(self) -> None:
-        """Has all be saved, and then leaves: mgr asks only where something could not be saved."""
+    def save(self) -> Errand:
+        """Saves the current buffer: its text is to be as it is now."""
+        status = yield SAVE
+        if status.message.startswith(PUT):
+            self.made.discard(status.buffer)
+            self.buffers[status.buffer] = found(status.buffer)
+        return None
+
+    def leave(self, answer: str = "") -> Errand:
+        """Leaves; where something was made it asks first what becomes of the texts."""
         self.rest()
-        self.start(leave())
+        unsaved = yield from self._unsaved((yield b""))
+        if unsaved and answer == "d":
+            unsaved = yield from self._put_apart(unsaved)
+        if not unsaved and (answer or not self.made):
+            self.discards = answer == "d" and not self.apart
+            yield LEAVE
+            # mgr asks: a text that was only opened counts as changed.
+            yield b"y"
+        self.ask(Question(APART if unsaved else LEAVING, self.leave, keys="sd"))
+        return None
+
+    def _unsaved(self, status: Status) -> Generator[bytes, Status, list[str]]:
+        """Returns the buffers in which something was made that is not saved; `status` is the newest."""
+        shown, found = status.buffer, []
+        for name in sorted(self.made):
+            if name != status.buffer:
+                status = yield switch_to(name)
+            found += [name] * status.is_changed
+        if status.buffer != shown:
+            yield switch_to(shown)
+        return found
+
+    def _put_apart(self, names: list[str]) -> Generator[bytes, Status, list[str]]:
+        """Puts the texts of buffers into the state folder, and returns the buffers where that fails."""
+        failed = []
+        for name in names:
+            place = place_apart(name)
+            yield switch_to(name) + COPY_ALL + b"\x18\x06" + place.encode() + b"\r"
+            status = yield YANK + SAVE
+            if place and status.message == SAVED + place:
+                self.apart[name] = place
+            else:
+                failed.append(name)
+        return failed
+
+    def rescue(self) -> Errand:
+        """Puts apart what could not be saved, where nobody is asked any more."""
+        status = yield bytes([NO_KEY, CANCEL])
+        yield from self._put_apart((yield from self._unsaved(status)))
+        return None
 
     def complete(self) -> None:
         """Completes the answer of the open prompt; where it asks for no name, TAB is a part of it."""
@@ -317,13 +377,21 @@ class Session:
         self.is_ending, self.question = True, None
         self.dispatcher.take(self.keys.give_up())
         try:
-            self.work()
-            while self.errand or self.dispatcher.strokes or not self.editor.is_answered:
-                if self.editor.written in self._await([], None) and not self._take_statuses():
-                    return
-                self.work()
+            if self._settle():
+                self.rest()
+                self.start(self.rescue())
+                self._settle()
         except BrokenPipeError:
             pass  # mgr has ended.
+
+    def _settle(self) -> bool:
+        """Does all that waits, and answers whether mgr has not ended."""
+        self.work()
+        while self.errand or self.dispatcher.strokes or not self.editor.is_answered:
+            if self.editor.written in self._await([], None) and not self._take_statuses():
+                return False
+            self.work()
+        return True
 
     def _heed(self) -> None:
         """Does what signals ask for that end nothing."""

@@ -22,6 +22,8 @@ from typing import Any
 
 from context import BUFFER, written
 
+LABELS = {"\x1bx": "M-x ", "\x18b": "Switch to buffer: ", "\x18\x06": "Find file: "}
+
 
 class Live:
     """A live session: its text and whether that is changed, and what is asked and said."""
@@ -30,8 +32,8 @@ class Live:
         self.name, self.text, self.saved, self.is_changed = name, "", "", False
         rows = sys.argv.index("--rows") if "--rows" in sys.argv else 0
         self.rows, self.keys, self.reports = int(sys.argv[rows + 1]) if rows else 3, 0, 0
-        self.begun = self.answer = self.message = ""
-        self.asks = self.is_typed = False
+        self.begun = self.answer = self.message = self.label = self.copied = ""
+        self.asks = self.is_typed = self.is_quitting = False
         self.refused: list[list[object]] = []
         self.end = "none"
         # What came of a report, up to its end.
@@ -41,7 +43,7 @@ class Live:
         """Writes a status, and the frame, or so many operations in place of it."""
         counts = {"keys": self.keys, "reports": self.reports, "more": more, "windows": [[self.rows - 2, self.name]]}
         buffer = BUFFER | {"changed": self.is_changed, "name": self.name}
-        prompt = {"mode": "prompt", "prompt": {"answer": self.answer, "label": "M-x "}} if self.asks else {}
+        prompt = {"mode": "prompt", "prompt": {"answer": self.answer, "label": self.label}} if self.asks else {}
         said = {"begun": bool(self.begun), "message": self.message, "cursor": [0, len(self.text)]}
         said |= {"refused": self.refused, "saved": self.end}
         frame = [self.text, *[""] * (self.rows - 3), f"----Mg: {self.name} (fundamental)", self.message] if not operations else []
@@ -66,7 +68,8 @@ class Live:
         if told["op"] == "size":
             self.rows = told["rows"]
         elif told["op"] == "rest":
-            self.save()
+            if self.is_changed:
+                self.save()
             self.message = ""
         elif told["id"][1] == 13:
             self.refused.append([self.reports, "Conflict"])
@@ -82,12 +85,24 @@ class Live:
             self.begun = key
             return
         self.message = ""
-        if key in ("\x1bx", "\x07"):
-            self.asks, self.answer = key == "\x1bx", ""
+        if key in LABELS or key == "\x07":
+            self.asks, self.answer, self.label = key in LABELS, "", LABELS.get(key, "")
+        elif key == "\x19":
+            self.text, self.is_changed = self.copied, True
+        elif key == "y" and self.is_quitting:
+            sys.exit()
+        elif self.asks and key == "\r":
+            self.asks = False
+            if self.label == "Find file: ":
+                self.copied, self.name, self.text, self.saved = self.text, self.answer, "", ""
         elif self.asks:
             self.answer += key
         elif key == "\x18\x13":
             self.save()
+        elif key == "\x18\x03" and not self.is_changed:
+            sys.exit()
+        elif key == "\x18\x03":
+            self.is_quitting = True
         elif key.isascii() and key.isprintable():
             self.text, self.is_changed, self.is_typed = self.text + key, True, True
 

@@ -37,8 +37,14 @@ class FakeDesk:
         self.errand = errand
         self.editor.hand_on(next(errand))
 
-    def leave(self) -> None:
+    def save(self) -> Errand:
+        yield b"\x18\x13"
+        return None
+
+    def leave(self) -> Errand:
         self.done.append("leave")
+        yield b""
+        return None
 
     def complete(self) -> None:
         self.done.append("complete")
