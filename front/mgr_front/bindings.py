@@ -40,5 +40,5 @@ def argument_keys(digit: int, is_begun: bool) -> bytes:
 def plain_keys(stroke: Typed | Meta | Named) -> bytes:
     """Returns the keys that a stroke is where mgr asks for nothing."""
     if isinstance(stroke, Named):
-        return NAMED[stroke.name]
+        return NAMED.get(stroke.name, b"")
     return bytes([ESCAPE, stroke.byte]) if isinstance(stroke, Meta) else stroke.data

@@ -5,6 +5,7 @@ from collections.abc import Iterable
 
 from mgr_front.errands import Errand
 from mgr_front.keys import DELETE, RETURN
+from mgr_front.notes import LOG, why_not_written
 from mgr_front.statuses import COMMAND, FIND, KILL, SWITCH
 
 # The commands that M-x takes.
@@ -19,9 +20,9 @@ COMMANDS = """
 """.split()
 
 HOME = "~/"
+FAULT, ELSEWHERE = "File fault", ": another mgr has it open, or a file of it cannot be read"
 # Files that stand beside a note and are none.
 BESIDE = ("~", ".ops.new", ".ops.refused", ".ops.text")
-LOG = ".ops"
 
 
 def expanded(name: str) -> str:
@@ -73,18 +74,14 @@ def complete(label: str, answer: str, buffers: Iterable[str]) -> Errand:
 
 def accept(answer: str) -> Errand:
     """Accepts the answer of a prompt, with the home folder in place of a leading `~/`."""
-    yield _retyped(answer, expanded(answer)) + bytes([RETURN])
-    return None
+    name = expanded(answer)
+    status = yield _retyped(answer, name) + bytes([RETURN])
+    return FAULT + (why_not_written(name) or ELSEWHERE) if status.message == FAULT else None
 
 
 def asks_for_name(label: str) -> bool:
     """Whether a prompt asks for a name, of a command, a file or a buffer."""
     return label in (COMMAND, FIND, SWITCH, KILL)
-
-
-def begins_at_home(label: str, answer: str) -> bool:
-    """Whether a prompt asks for the name of a file or a buffer, and it begins in the home folder."""
-    return label in (FIND, SWITCH, KILL) and answer.startswith(HOME)
 
 
 def _retyped(answer: str, new: str) -> bytes:

@@ -10,12 +10,12 @@ from mgr_front.editor import Editor
 from mgr_front.errands import Errand, kill_word_backward
 from mgr_front.keys import CANCEL, CONTROL_X, DELETE, ESCAPE, NO_KEY, QUOTE, RETURN, TAB
 from mgr_front.keys import Meta, Named, Pasted, Stroke, Typed
-from mgr_front.minibuffer import Question, ask_for_line
-from mgr_front.statuses import PROMPT, QUERY
+from mgr_front.minibuffer import Help, Question, ask_for_line, ask_for_name
+from mgr_front.statuses import PLAIN, PROMPT, QUERY
 
-LEAVE, REPAINT, SAVE, SUSPEND = 0x03, 0x0C, 0x13, 0x1A
+LEAVE, HELP, REPAINT, SAVE, WRITE, SUSPEND = 0x03, 0x08, 0x0C, 0x13, 0x17, 0x1A
 # Keys that the front looks at, besides the one that erases.
-SPECIAL = bytes([SUSPEND, ESCAPE, CONTROL_X, TAB, RETURN])
+SPECIAL = bytes([SUSPEND, ESCAPE, CONTROL_X, TAB, RETURN, HELP])
 
 
 class Desk(Protocol):
@@ -114,7 +114,7 @@ class Dispatcher:
     def _answer(self, stroke: Stroke, desk: Desk) -> None:
         """Gives the front's own question the first key of a stroke; the others wait, as it may end."""
         if isinstance(stroke, Named | Meta):
-            return
+            stroke = Typed(bytes([ESCAPE]))
         keys = stroke.text.partition("\n")[0].encode() if isinstance(stroke, Pasted) else stroke.data
         if not keys:
             return
@@ -148,7 +148,9 @@ class Dispatcher:
             desk.complete()
         elif mode == PROMPT and key[0] == RETURN:
             desk.accept()
-        elif mode in LINE_MODES or key[0] in (TAB, RETURN):
+        elif mode == PLAIN and key[0] == HELP:
+            desk.ask(Help())
+        elif mode in LINE_MODES or key[0] in (TAB, RETURN, HELP):
             self._hand_on(key, desk)
         else:
             self.prefix = key
@@ -163,6 +165,8 @@ class Dispatcher:
             desk.start(kill_word_backward())
         elif not is_meta and byte == ord("g"):
             desk.ask(ask_for_line())
+        elif not is_meta and byte == WRITE:
+            desk.ask(ask_for_name())
         elif not is_meta and byte in (LEAVE, SAVE):
             desk.start(desk.leave() if byte == LEAVE else desk.save())
         elif not is_meta and byte == SUSPEND:
@@ -181,6 +185,10 @@ class Dispatcher:
             self._complete(byte, desk)
 
     def _press_named(self, name: str, desk: Desk) -> None:
+        if name == "help":
+            self._break_off()
+            desk.ask(Help())
+            return
         keys = named_keys(name, self.editor.status.mode, bool(self.prefix) or self._is_quoted())
         self._hand_on(self.prefix + keys, desk)
         self.prefix = b""

@@ -5,7 +5,7 @@ from mgr_front.keys import NO_KEY
 from mgr_front.notes import Note, found, put_back
 from mgr_front.saving import CANCEL
 from mgr_front.saying import tell
-from mgr_front.session import UNSAVED, Session
+from mgr_front.session import Session
 
 # Seconds until it is said what is waited for, and that others have to take what was told last.
 PATIENCE, LAST = 5.0, 2.0
@@ -46,5 +46,5 @@ def _leave(session: Session) -> None:
     company = session.company
     if company and not company.channel.close(LAST) and company.state.word == "live":
         tell("others get the last changes at the next start")
-    if session.editor.status.saved in UNSAVED and not session.apart:
-        tell(UNSAVED[session.editor.status.saved])
+    if session.fault and not session.apart:
+        tell(session.fault)

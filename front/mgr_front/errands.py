@@ -6,6 +6,7 @@ its end. What it returns stands in the echo line then; where that is None, mgr's
 
 from collections.abc import Generator
 
+from mgr_front.saving import SAVE
 from mgr_front.statuses import Status
 
 Errand = Generator[bytes, Status, str | None]
@@ -22,6 +23,15 @@ END_OF_BUFFER = "End of buffer"
 def switch_to(buffer: str) -> bytes:
     """Returns the keys that go to a buffer."""
     return b"\x18b" + buffer.encode() + b"\r"
+
+
+def copy_to(name: str, is_taken: bool) -> Errand:
+    """Goes to a new buffer of that name with the text of this one, and saves it, unless the name is taken."""
+    if is_taken:
+        return f"{name} is there already"
+    yield COPY_ALL + b"\x18\x06" + name.encode() + b"\r"
+    yield YANK + SAVE
+    return None
 
 
 def kill_word_backward() -> Errand:

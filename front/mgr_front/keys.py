@@ -62,6 +62,7 @@ NUMBERED = {
     b"3": "delete",
     b"5": "page-up",
     b"6": "page-down",
+    b"11": "help",
 }
 # What a modifier adds to the number behind the semicolon, which is 1 without any.
 CONTROL = 4
@@ -69,7 +70,7 @@ CONTROL = 4
 PASTE_BEGIN, PASTE_END = b"\x1b[200~", b"\x1b[201~"
 # No key has a number of more digits. Without a bound each of many would be tried as the last one.
 STROKE = re.compile(
-    rb"\x1b(?:O(?P<plain>[ -~])|\[\[[ -~]"
+    rb"\x1b(?:O(?P<plain>[ -~])|\[\[(?P<console>[ -~])"
     rb"|\[(?P<number>\d{0,3})(?:;(?P<modifier>\d{1,3})(?!\d))?[0-?]*[ -/]*(?P<last>[@-~]))"
     rb"|\x1b(?P<meta>[^\x1b])|(?P<typed>[^\x1b]+|\x1b)"
 )
@@ -128,11 +129,13 @@ class Keys:
 
 
 def _stroke(sent: re.Match[bytes]) -> Stroke | None:
-    """Returns the stroke that was sent; there is none for keys without a name, as F1."""
+    """Returns the stroke that was sent; there is none for keys without a name, as F5."""
     if sent["typed"]:
         return Typed(sent["typed"])
     if sent["meta"]:
         return Meta(sent["meta"][0])
+    if sent["plain"] == b"P" or sent["console"] == b"A":
+        return Named("help")
     is_numbered = sent["last"] == b"~"
     name = NUMBERED.get(sent["number"]) if is_numbered else LETTERS.get(sent["plain"] or sent["last"])
     if name and int(sent["modifier"] or 1) - 1 & CONTROL:

@@ -5,6 +5,10 @@ import os
 from dataclasses import dataclass
 
 
+# How the names of logs end.
+LOG = ".ops"
+
+
 class Refused(Exception):
     """A note is none that can be edited. Says why, and what the status is."""
 
@@ -21,7 +25,7 @@ class Note:
 
     @property
     def log(self) -> str:
-        return self.name + ".ops"
+        return self.name + LOG
 
     @property
     def has_log(self) -> bool:
@@ -47,6 +51,19 @@ def found(path: str) -> bytes | None:
         return read(path)
     except OSError:
         return None
+
+
+def why_not_written(name: str) -> str:
+    """Returns which file of a note cannot be written, and why, as far as that can be seen."""
+    folder = os.path.dirname(name) or "."
+    if not os.path.isdir(folder):
+        return f": {folder} is not there"
+    if not os.statvfs(folder).f_bavail:
+        return f": no room is left in {folder}"
+    for path in (Note(name).log, name):
+        if os.path.exists(path) and not (os.access(path, os.W_OK) and os.path.isfile(path)):
+            return f": {path} may not be written"
+    return "" if os.access(folder, os.W_OK) else f": {folder} takes no new file"
 
 
 def put_back(path: str, before: bytes | None) -> None:

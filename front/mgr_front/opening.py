@@ -13,14 +13,17 @@ from collections.abc import Sequence
 
 from mgr_front.asking import choice
 from mgr_front.channels.logs import counters
-from mgr_front.compaction import offer
 from mgr_front.copies import Copy
 from mgr_front.difference import changes, splices
 from mgr_front.editor import REPORT
-from mgr_front.notes import KeptFiles, Note, Refused, found, read
+from mgr_front.notes import KeptFiles, Note, Refused, found, read, why_not_written
 from mgr_front.options import Options
 from mgr_front.program import Log, ask, edit, log_of, text_of
-from mgr_front.saying import REFUSED, say
+from mgr_front.saying import REFUSED, say, tell
+
+# A log is large that has more bytes than this, and than so many times its text.
+LARGE, TIMES = 1_000_000, 20
+NEW = "New note: C-x C-s saves, C-x C-c leaves, C-_ undoes, C-h helps"
 
 
 class Opening:
@@ -40,7 +43,10 @@ class Opening:
         if log:
             self._keep_written(log)
             self._settle(log)
-            offer(mgr, note, log)
+        if not (log or os.path.exists(note.name)):
+            self.remarks.append(NEW)
+        if not os.path.isdir(os.path.dirname(note.name) or "."):
+            self.remarks.append(f"Nothing can be saved{why_not_written(note.name)}")
 
     def _keep_written(self, log: Log | None) -> None:
         """Keeps how far this copy wrote in the log, if it did: others are told that when they are joined."""
@@ -110,6 +116,16 @@ class Opening:
             return  # One of them is not there, or this person may not read it.
         if log and (log.text == "same" or is_older):
             self.copy.remember(text, log)
+        if log and log.bytes > max(LARGE, TIMES * len(text), 2 * self.copy.kept["compacted"]):
+            self._compact()
+
+    def _compact(self) -> None:
+        """Has the log be compacted; it is again once it has grown to twice of what it is then."""
+        try:
+            ask(self.mgr, self.note, "compact")
+            self.copy.compacted(os.path.getsize(self.note.log))
+        except Refused as refused:
+            tell(f"{self.note.log} was not compacted: {refused}")
 
 
 def differ(mgr: str, note: Note, log: Log, replica: int) -> bool:

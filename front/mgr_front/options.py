@@ -1,10 +1,12 @@
 """The command lines of mgr-live and mgr-hub."""
 
 import argparse
+import os
 from collections.abc import Callable, Sequence
 
 from mgr_front import VERSION
 from mgr_front.channels.choice import ENGINES
+from mgr_front.notes import LOG
 
 DESCRIPTION = "Edits a note on a terminal, by `mgr edit`, with the keys of mg(1)."
 EPILOG = (
@@ -39,9 +41,11 @@ class Options(argparse.Namespace):
 
 
 def note_name(word: str) -> str:
-    if not word:
+    """Reads the name of a note; that of its log stands for it."""
+    name = word.removesuffix(LOG)
+    if not os.path.basename(name):
         raise argparse.ArgumentTypeError("it is empty")
-    return word
+    return name
 
 
 def whole_number(least: int, most: int) -> Callable[[str], int]:

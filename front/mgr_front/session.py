@@ -10,20 +10,20 @@ from dataclasses import replace
 
 from mgr_front.cells import row_width
 from mgr_front.company import Company
-from mgr_front.completion import accept, asks_for_name, begins_at_home, complete
+from mgr_front.completion import accept, asks_for_name, complete
 from mgr_front.dispatch import Dispatcher
 from mgr_front.echo import Echo, echo_line
 from mgr_front.editor import BLOCK, LEAST_ROWS, MOST_ROWS, Editor
 from mgr_front.errands import COPY_ALL, LEAVE, YANK, Errand, switch_to
 from mgr_front.keys import CANCEL, NO_KEY, RETURN, TAB, Keys, Typed
-from mgr_front.minibuffer import Question
+from mgr_front.minibuffer import Help, Question
 from mgr_front.apart import place_apart
-from mgr_front.notes import KeptFiles, found
+from mgr_front.notes import KeptFiles, found, why_not_written
 from mgr_front.remarks import Remarks
 from mgr_front.saving import REST, SAVE
 from mgr_front.screen import Screen
 from mgr_front.signals import Signals
-from mgr_front.statuses import Status
+from mgr_front.statuses import FIND, KILL, SWITCH, Status
 from mgr_front.view import picture
 
 # Seconds until what may be the beginning of a longer key counts as keys of its own, as ESC does.
@@ -61,7 +61,8 @@ class Session:
         self.buffers: dict[str, bytes | None] = {}
         self.made: set[str] = set()
         self.discards = False
-        # Where texts stand that could not be saved, by the names of their buffers.
+        # What is said of a save that failed, and where texts stand that could not be saved, by the names of their buffers.
+        self.fault = ""
         self.apart: dict[str, str] = {}
         # What mgr put aside in a save, and what was said of that.
         self.kept = KeptFiles()
@@ -207,10 +208,12 @@ class Session:
             self.keep(status.operations)
         if status.is_changed and name != self.names[0]:
             self.made.add(name)
+        if status.saved in UNSAVED or status.saved == "ok":
+            self.remarks.drop(self.fault)
+            self.fault = ""
         if status.saved in UNSAVED:
-            self.remarks.hold(UNSAVED[status.saved], math.inf)
-        elif status.saved == "ok":
-            self.remarks.drop(UNSAVED.values())
+            self.fault = UNSAVED[status.saved] + why_not_written(name) * (status.saved == "file")
+            self.remarks.hold(self.fault, math.inf)
         own = self.editor.pasted & status.refused.keys()
         for number in own:
             self.remark(f"Not put in: {status.refused[number]}")
@@ -244,7 +247,8 @@ class Session:
         if not self.editor.status.frame or is_drawn or self.errand or self._draws_later(now):
             return
         columns, rows = os.get_terminal_size(1)
-        self.screen.draw(picture(self._shown(), self._echo(remarks), rows, columns, status), self.rings)
+        shown = Status(self.question.page(rows)) if isinstance(self.question, Help) else self._shown()
+        self.screen.draw(picture(shown, self._echo(remarks), rows, columns, status), self.rings)
         self.is_stale = self.rings = False
         self.drawn = remarks, status
         self.painted = now
@@ -342,9 +346,12 @@ class Session:
         failed = []
         for name in names:
             place = place_apart(name)
+            if not place:
+                failed.append(name)
+                continue
             yield switch_to(name) + COPY_ALL + b"\x18\x06" + place.encode() + b"\r"
             status = yield YANK + SAVE
-            if place and status.message == SAVED + place:
+            if status.message == SAVED + place:
                 self.apart[name] = place
             else:
                 failed.append(name)
@@ -367,7 +374,7 @@ class Session:
     def accept(self) -> None:
         """Accepts the answer of the open prompt."""
         status = self.editor.status
-        if begins_at_home(status.label, status.answer):
+        if status.label in (FIND, SWITCH, KILL):
             self.start(accept(status.answer))
         else:
             self.editor.hand_on(bytes([RETURN]))

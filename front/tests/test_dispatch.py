@@ -1,5 +1,7 @@
 """Strokes beside a mgr that answers by and by, and the keys that it is given."""
 
+import pathlib
+import tempfile
 import unittest
 from typing import Any
 
@@ -9,7 +11,7 @@ from mgr_front.dispatch import Dispatcher
 from mgr_front.editor import Talk
 from mgr_front.errands import Errand
 from mgr_front.keys import Keys
-from mgr_front.minibuffer import Question
+from mgr_front.minibuffer import HELP, Help, Question
 from mgr_front.statuses import Status
 
 
@@ -34,8 +36,11 @@ class FakeDesk:
         self.done.append("repaint")
 
     def start(self, errand: Errand) -> None:
-        self.errand = errand
-        self.editor.hand_on(next(errand))
+        try:
+            self.editor.hand_on(next(errand))
+            self.errand = errand
+        except StopIteration as end:
+            self.done.append(end.value)
 
     def save(self) -> Errand:
         yield b"\x18\x13"
@@ -157,6 +162,34 @@ class TestDispatch(unittest.TestCase):
         assert self.desk.question
         self.assertEqual(self.desk.question.answer, "9" * 9)
         self.assertEqual(self.press(b"\r"), b"\x1b<")
+
+    def test_help(self) -> None:
+        for keys in (b"\x1bOP", b"\x08"):
+            self.dispatcher = Dispatcher(self.editor)  # type: ignore[arg-type]
+            self.press(keys)
+            self.answer()
+            help = self.desk.question
+            assert isinstance(help, Help)
+            self.assertEqual(help.page(5), (*HELP[:4], ""))
+            self.press(b" ")
+            self.assertEqual(help.page(40), (*HELP[4:], *[""] * (44 - len(HELP))))
+            self.assertEqual(self.press(b"\x1b[A") + self.press(b"a"), b"a")
+            self.assertIsNone(self.desk.question)
+            self.answer()
+
+    def test_another_name(self) -> None:
+        with tempfile.TemporaryDirectory() as folder:
+            name = f"{folder}/é"
+            for taken in (False, True):
+                self.press(b"\x18\x17" + name.encode() + b"x\x08\r")
+                self.assertEqual(self.editor.waiting, b"" if taken else f"\x18h\x1bw\x18\x06{name}\r".encode())
+                pathlib.Path(name + ".ops").touch()
+                self.editor.waiting.clear()
+                if not taken:
+                    assert self.desk.errand
+                    self.assertEqual(self.desk.errand.send(Status()), b"\x19\x18\x13")
+                    self.desk.errand = None
+                    self.answer()
 
     def test_a_line_that_is_pasted(self) -> None:
         self.press(b"\x18g\x1b[200~12\r\x1b[201~\x1b[D\x1bf")

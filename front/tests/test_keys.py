@@ -23,7 +23,7 @@ SENT: list[tuple[str, bytes, bytes]] = [
     ("a paste", b"a\x1b[200~b\rc\td\x01\x1b[A\x1b[201~e", b"ab\nc\td\x01\x1b[Ae"),
     ("ends of lines in a paste", b"\x1b[200~1\r\n2\n3\r\x1b[201~", b"1\n2\n3\n"),
     ("wide characters in a paste", "\x1b[200~漢字😀\x1b[201~".encode(), "漢字😀".encode()),
-    ("F5, F1 of the console", b"\x1b[15~\x1b[[A", b""),
+    ("F5, F2 of the console", b"\x1b[15~\x1b[[B", b""),
     ("a meta key", b"\x1bf", b"\x1bf"),
     ("ESC and an arrow", b"\x1b\x1b[A", b"\x1b\x10"),
     ("text round an arrow", b"a\x1b[Cb", b"a\x06b"),
@@ -74,6 +74,9 @@ class TestKeys(unittest.TestCase):
         keys = Keys()
         self.assertEqual(keys.take(b"\x1b[200~ab\x1b[2"), [Pasted(b"ab", False)])
         self.assertEqual(keys.give_up(), [Pasted(b"\x1b[2", True)])
+
+    def test_help(self) -> None:
+        self.assertEqual(Keys().take(b"\x1bOP\x1b[11~\x1b[[A"), [Named("help")] * 3)
 
     def test_meta_is_told_from_escape(self) -> None:
         self.assertEqual(Keys().take(b"\x1bfg\x1b[A"), [Meta(ord("f")), Typed(b"g"), Named("up")])

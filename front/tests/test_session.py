@@ -267,7 +267,7 @@ class TestEnds(Sessions):
         with mock.patch.object(ending, "tell") as tell:
             self.type(edit, b"typed")
             ending.finish(edit, self.note)
-        tell.assert_called_once_with("Not saved: File fault")
+        tell.assert_called_once_with(f"Not saved: File fault: {self.note.name} may not be written")
 
     def test_a_question_of_the_front_is_left(self) -> None:
         edit = self.begin("note")
