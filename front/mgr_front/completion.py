@@ -72,11 +72,15 @@ def complete(label: str, answer: str, buffers: Iterable[str]) -> Errand:
     return "Sole completion" if len(found) == 1 else " ".join(os.path.basename(name) or name for name in found)
 
 
-def accept(answer: str) -> Errand:
-    """Accepts the answer of a prompt, with the home folder in place of a leading `~/`."""
+def accept(label: str, answer: str) -> Errand:
+    """Accepts the answer of a prompt, with the home folder in place of a leading `~/`; says what ails a file."""
     name = expanded(answer)
     status = yield _retyped(answer, name) + bytes([RETURN])
-    return FAULT + (why_not_written(name) or ELSEWHERE) if status.message == FAULT else None
+    if status.message == FAULT:
+        return FAULT + (why_not_written(name) or ELSEWHERE)
+    if label == FIND and not os.path.isdir(os.path.dirname(name) or "."):
+        return f"Nothing can be saved{why_not_written(name)}"
+    return None
 
 
 def asks_for_name(label: str) -> bool:

@@ -6,15 +6,17 @@ import tempfile
 from collections.abc import Sequence
 
 from mgr_front.company import Company
+from mgr_front.difference import changes, splices
 from mgr_front.editor import LEAST_ROWS, MOST_ROWS, Editor
 from mgr_front.ending import finish
 from mgr_front.guests import guest_of, take_back
+from mgr_front.history import choose
 from mgr_front.joining import meet
 from mgr_front.meeting import is_served
 from mgr_front.notes import Note, Refused
 from mgr_front.opening import Opening
 from mgr_front.options import Options, read as read_options
-from mgr_front.program import explained, find, shell_status
+from mgr_front.program import explained, find, shell_status, text_of
 from mgr_front.saying import stop, tell
 from mgr_front.screen import Screen
 from mgr_front.session import Session
@@ -53,12 +55,15 @@ def edit(opening: Opening, company: Company | None, signals: Signals) -> int:
     note, options = opening.note, opening.options
     rows = terminal_rows()
     screen = Screen()
+    put_back = [] if options.text is None else splices(changes(text_of(opening.mgr, note), options.text))
     with tempfile.TemporaryFile() as said:
         editor = Editor(opening.mgr, words_for_mgr(options, note, opening.number), rows, said)
         session = Session(editor, screen, signals, company)
         session.names = note.name, options.name
         session.greeting = "; ".join(opening.remarks)
         session.keep = opening.keep
+        for report in put_back:
+            editor.report(report)
         try:
             with screen:
                 session.run()
@@ -97,6 +102,8 @@ def main(words: Sequence[str], folder: str) -> int:
         stop(f"the program {os.environ.get('MGR') or 'mgr'} is not there")
     terminal_rows()
     try:
+        if options.history:
+            options.text = choose(mgr, note)
         if not options.address and is_served(note.name):
             return edit_as_guest(mgr, options)
         if said := take_back(mgr, note):

@@ -23,7 +23,7 @@ from mgr_front.saying import REFUSED, say, tell
 
 # A log is large that has more bytes than this, and than so many times its text.
 LARGE, TIMES = 1_000_000, 20
-NEW = "New note: C-x C-s saves, C-x C-c leaves, C-_ undoes, C-h helps"
+NEW = "New: C-x C-s saves, C-x C-c leaves, C-_ undoes, C-h helps"
 
 
 class Opening:
@@ -43,10 +43,10 @@ class Opening:
         if log:
             self._keep_written(log)
             self._settle(log)
-        if not (log or os.path.exists(note.name)):
-            self.remarks.append(NEW)
         if not os.path.isdir(os.path.dirname(note.name) or "."):
             self.remarks.append(f"Nothing can be saved{why_not_written(note.name)}")
+        elif not (log or os.path.exists(note.name)):
+            self.remarks.append(NEW)
 
     def _keep_written(self, log: Log | None) -> None:
         """Keeps how far this copy wrote in the log, if it did: others are told that when they are joined."""

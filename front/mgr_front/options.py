@@ -38,6 +38,9 @@ class Options(argparse.Namespace):
     adopts: bool
     takes_file: bool
     keeps_file: bool
+    history: bool
+    # The text that is put back, if one was chosen.
+    text: str | None = None
 
 
 def note_name(word: str) -> str:
@@ -102,6 +105,7 @@ def parser() -> argparse.ArgumentParser:
     )
     made.add_argument("--as", dest="person", metavar="NAME", default="", help="a name for others; else the login's")
     made.add_argument("--adopt", dest="adopts", action="store_true", help="join with another note: both become one")
+    made.add_argument("--history", action="store_true", help="show the texts that the note had; one may be put back")
     choice = made.add_mutually_exclusive_group()
     choice.add_argument(
         "--take-file",

@@ -206,14 +206,15 @@ class Session:
         if status.operations:
             self.made.add(self.names[0])
             self.keep(status.operations)
-        if status.is_changed and name != self.names[0]:
-            self.made.add(name)
         if status.saved in UNSAVED or status.saved == "ok":
             self.remarks.drop(self.fault)
-            self.fault = ""
-        if status.saved in UNSAVED:
-            self.fault = UNSAVED[status.saved] + why_not_written(name) * (status.saved == "file")
+            self.fault = UNSAVED.get(status.saved, "")
+        if self.fault and status.saved == "file":
+            self.fault += next(filter(None, map(why_not_written, self.buffers)), "")
+        if self.fault and status.saved in UNSAVED:
             self.remarks.hold(self.fault, math.inf)
+        if status.is_changed and (self.fault or name != self.names[0]):
+            self.made.add(name)
         own = self.editor.pasted & status.refused.keys()
         for number in own:
             self.remark(f"Not put in: {status.refused[number]}")
@@ -375,7 +376,7 @@ class Session:
         """Accepts the answer of the open prompt."""
         status = self.editor.status
         if status.label in (FIND, SWITCH, KILL):
-            self.start(accept(status.answer))
+            self.start(accept(status.label, status.answer))
         else:
             self.editor.hand_on(bytes([RETURN]))
 

@@ -158,7 +158,8 @@ def command(word: str, name: str) -> None:
     elif log[0] == "?":
         sys.exit(f"{path}: line 1: Json")
     elif word == "show":
-        sys.stdout.write(log)
+        count = int(sys.argv[sys.argv.index("--lines") + 1]) if "--lines" in sys.argv else None
+        sys.stdout.write("".join(log.splitlines(keepends=True)[:count]))
     elif word == "compact":
         path.rename(f"{path}~")
     else:

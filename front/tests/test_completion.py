@@ -70,7 +70,7 @@ class TestCompletion(unittest.TestCase):
         with mock.patch.dict(os.environ, HOME=os.getcwd()):
             home = os.getcwd().encode()
             self.assertEqual(play(complete("Find file: ", "~/not", [])), (b"\x7f" * 5 + home + b"/notes", None))
-            self.assertEqual(play(accept("~/notes")), (b"\x7f" * 7 + home + b"/notes\r", None))
+            self.assertEqual(play(accept("Find file: ", "~/notes")), (b"\x7f" * 7 + home + b"/notes\r", None))
 
     def test_what_asks_for_a_name(self) -> None:
         for label, wanted in [("Find file: ", True), ("M-x ", True), ("Query replace: ", False), ("", False)]:
@@ -78,13 +78,15 @@ class TestCompletion(unittest.TestCase):
                 self.assertEqual(asks_for_name(label), wanted)
 
     def test_a_fault_of_a_file_says_which_and_why(self) -> None:
-        for name, wanted in [
-            ("nowhere/n", "File fault: nowhere is not there"),
-            ("drafts", "File fault: drafts may not be written"),
-            ("notes", "File fault: another mgr has it open, or a file of it cannot be read"),
+        for name, message, wanted in [
+            ("nowhere/n", "File fault", "File fault: nowhere is not there"),
+            ("nowhere/n", "", "Nothing can be saved: nowhere is not there"),
+            ("drafts", "File fault", "File fault: drafts may not be written"),
+            ("notes", "File fault", "File fault: another mgr has it open, or a file of it cannot be read"),
+            ("notes", "", None),
         ]:
             with self.subTest(name):
-                self.assertEqual(play(accept(name), "File fault")[1], wanted)
+                self.assertEqual(play(accept("Find file: ", name), message)[1], wanted)
 
     @unittest.skipUnless(SOURCE.exists(), "the sources of mgr are not there")
     def test_the_commands_are_those_of_mgr(self) -> None:

@@ -137,7 +137,7 @@ class TestBeginnings(Openings):
 
     def test_an_absent_folder_is_said(self) -> None:
         self.note = Note(str(self.folder / "absent" / "note"))
-        self.assertEqual(self.remarks(self.open())[1:], ["Nothing can be saved: absent is not there"])
+        self.assertEqual(self.remarks(self.open()), ["Nothing can be saved: absent is not there"])
 
     def test_the_name_of_a_log_is_that_of_its_note(self) -> None:
         self.assertEqual((read(["a/note.ops"]).name, read(["note"]).name), ("a/note", "note"))
