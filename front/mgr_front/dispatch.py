@@ -3,53 +3,22 @@
 import re
 from collections import deque
 from collections.abc import Iterable
-from typing import Protocol
+from typing import TYPE_CHECKING
 
 from mgr_front.bindings import LINE_MODES, argument_keys, named_keys, plain_keys
 from mgr_front.editor import Editor
-from mgr_front.errands import Errand, kill_word_backward
+from mgr_front.errands import kill_word_backward
 from mgr_front.keys import CANCEL, CONTROL_X, DELETE, ESCAPE, NO_KEY, QUOTE, RETURN, TAB
 from mgr_front.keys import Meta, Named, Pasted, Stroke, Typed
-from mgr_front.minibuffer import Help, Question, ask_for_line, ask_for_name
+from mgr_front.minibuffer import Help, ask_for_line, ask_for_name
 from mgr_front.statuses import PLAIN, PROMPT, QUERY
+
+if TYPE_CHECKING:
+    from mgr_front.session import Session
 
 LEAVE, HELP, REPAINT, SAVE, WRITE, SUSPEND = 0x03, 0x08, 0x0C, 0x13, 0x17, 0x1A
 # Keys that the front looks at, besides the one that erases.
 SPECIAL = bytes([SUSPEND, ESCAPE, CONTROL_X, TAB, RETURN, HELP])
-
-
-class Desk(Protocol):
-    """What the front does itself."""
-
-    errand: Errand | None
-    question: Question | None
-
-    def suspend(self) -> None:
-        """Stops the program until it is continued."""
-
-    def repaint(self) -> None:
-        """Has all of the screen be drawn anew."""
-
-    def start(self, errand: Errand) -> None:
-        """Begins an errand."""
-
-    def ask(self, question: Question) -> None:
-        """Asks something in the echo line."""
-
-    def answer(self, byte: int) -> None:
-        """Takes a key of the answer to what is asked."""
-
-    def save(self) -> Errand:
-        """Saves the current buffer."""
-
-    def leave(self) -> Errand:
-        """Has all be saved, and leaves."""
-
-    def complete(self) -> None:
-        """Completes the answer of the open prompt."""
-
-    def accept(self) -> None:
-        """Accepts the answer of the open prompt."""
 
 
 class Dispatcher:
@@ -76,7 +45,7 @@ class Dispatcher:
             else:
                 self.strokes.append(stroke)
 
-    def run(self, desk: Desk) -> None:
+    def run(self, desk: "Session") -> None:
         """Does all strokes of which it is known what they do."""
         while self.strokes and self._is_clear(self.strokes[0], desk):
             stroke = self.strokes.popleft()
@@ -102,7 +71,7 @@ class Dispatcher:
             else:
                 self.editor.hand_on(plain_keys(stroke))
 
-    def _is_clear(self, stroke: Stroke, desk: Desk) -> bool:
+    def _is_clear(self, stroke: Stroke, desk: "Session") -> bool:
         """Whether it is known what a stroke does."""
         if desk.question:
             return True
@@ -111,7 +80,7 @@ class Dispatcher:
         is_text = isinstance(stroke, Typed) and not self.prefix and stroke.data[0] not in self.special
         return is_text or self.editor.is_settled
 
-    def _answer(self, stroke: Stroke, desk: Desk) -> None:
+    def _answer(self, stroke: Stroke, desk: "Session") -> None:
         """Gives the front's own question the first key of a stroke; the others wait, as it may end."""
         if isinstance(stroke, Named | Meta):
             stroke = Typed(bytes([ESCAPE]))
@@ -122,12 +91,12 @@ class Dispatcher:
             self.strokes.appendleft(Typed(keys[1:]))
         desk.answer(DELETE if keys[0] == self.erase else keys[0])
 
-    def _hand_on(self, keys: bytes, desk: Desk) -> None:
+    def _hand_on(self, keys: bytes, desk: "Session") -> None:
         self.editor.hand_on(keys)
         if REPAINT in keys:
             desk.repaint()
 
-    def _type(self, data: bytes, desk: Desk) -> None:
+    def _type(self, data: bytes, desk: "Session") -> None:
         if self.prefix:
             if data[1:]:
                 self.strokes.appendleft(Typed(data[1:]))
@@ -141,7 +110,7 @@ class Dispatcher:
         else:
             self._press(data, desk)
 
-    def _press(self, key: bytes, desk: Desk) -> None:
+    def _press(self, key: bytes, desk: "Session") -> None:
         """Does a key that means something else while a line is asked for."""
         mode = self.editor.status.mode
         if mode == PROMPT and key[0] == TAB:
@@ -155,7 +124,7 @@ class Dispatcher:
         else:
             self.prefix = key
 
-    def _complete(self, byte: int, desk: Desk) -> None:
+    def _complete(self, byte: int, desk: "Session") -> None:
         """Does the key that a byte makes with the one before it."""
         prefix, self.prefix = self.prefix, b""
         is_meta = prefix == bytes([ESCAPE])
@@ -174,7 +143,7 @@ class Dispatcher:
         else:
             self._hand_on(prefix + bytes([byte]), desk)
 
-    def _press_meta(self, byte: int, desk: Desk) -> None:
+    def _press_meta(self, byte: int, desk: "Session") -> None:
         if self.prefix or self._is_quoted():
             self._break_off()
         elif self.editor.status.mode in LINE_MODES:
@@ -184,7 +153,7 @@ class Dispatcher:
             self.prefix = bytes([ESCAPE])
             self._complete(byte, desk)
 
-    def _press_named(self, name: str, desk: Desk) -> None:
+    def _press_named(self, name: str, desk: "Session") -> None:
         if name == "help":
             self._break_off()
             desk.ask(Help())
