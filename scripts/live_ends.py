@@ -120,7 +120,7 @@ def saved_by_itself(terminal):
     terminal.expect_file("other", "b")
     terminal.expect("the one without", (terminal.folder / "read.ops").exists, False)
     terminal.see("nothing is said", {0: "ac", 9: ""}, (0, 2))
-    terminal.press("C-x", "C-c", "s")
+    terminal.leave()
     terminal.left("left", "status 0")
 
 

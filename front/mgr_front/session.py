@@ -60,6 +60,7 @@ class Session:
         # which something was made since; and whether their texts are to be so again.
         self.buffers: dict[str, bytes | None] = {}
         self.made: set[str] = set()
+        self.opened: dict[str, tuple[bool, int]] = {}
         self.discards = False
         # What is said of a save that failed, and where texts stand that could not be saved, by the names of their buffers.
         self.fault = ""
@@ -188,7 +189,7 @@ class Session:
         if self.editor.taken:
             self.said = None
         self.note(status)
-        is_saved = status.message.startswith(SAVED) and self.editor.taken or self._has_rested(status)
+        is_saved = self._has_rested(status) or self.editor.taken and status.message.startswith(SAVED)
         if is_saved or len(self.kept.known) < len(self.buffers):
             self.note_kept()
         if self.errand:
@@ -203,6 +204,8 @@ class Session:
         """Takes note of what a status tells of buffers, and tells others what was made."""
         name = status.buffer
         self.buffers.setdefault(name, found(name))
+        # A plain text counts as changed from the start.
+        was = self.opened.setdefault(name, (status.is_changed, status.unsaved))
         if status.operations:
             self.made.add(self.names[0])
             self.keep(status.operations)
@@ -213,7 +216,7 @@ class Session:
             self.fault += next(filter(None, map(why_not_written, self.buffers)), "")
         if self.fault and status.saved in UNSAVED:
             self.remarks.hold(self.fault, math.inf)
-        if status.is_changed and (self.fault or name != self.names[0]):
+        if status.is_changed and (status.is_changed, status.unsaved) != was and (self.fault or name != self.names[0]):
             self.made.add(name)
         own = self.editor.pasted & status.refused.keys()
         for number in own:
