@@ -12,7 +12,7 @@ from mgr_front.program import log_of
 
 
 def place_apart(name: str) -> str:
-    """Returns a place for a buffer's text, in a folder of its own beside the copies of that note; "" if there is none."""
+    """Returns a place for a buffer's text, in a folder beside the copies of that note; "" if there is none."""
     try:
         os.makedirs(copies_of(name), mode=0o700, exist_ok=True)
         return os.path.join(tempfile.mkdtemp(prefix=APART, dir=copies_of(name)), "text")

@@ -84,7 +84,8 @@ class Copy:
         would be given twice.
         """
         counters = log.counters if log else {}
-        numbers = [int(number) for number, told in self.kept["counters"].items() if counters.get(int(number), 0) >= told]
+        told = {int(number): counter for number, counter in self.kept["counters"].items()}
+        numbers = [number for number in told if counters.get(number, 0) >= told[number]]
         return numbers[-1] if numbers else self.new_number(log)
 
     def new_number(self, log: Log | None) -> int:

@@ -36,7 +36,7 @@ def guest_of(path: str) -> Note:
 
 
 def take_back(mgr: str, note: Note) -> str | None:
-    """Has mgr merge what was written in copies, of which the note may lack some; returns what it says if it does not."""
+    """Has mgr merge what copies have, of which the note may lack some; returns what it says if it does not."""
     for log in glob.glob(os.path.join(glob.escape(copies_of(note.name)), "*", os.path.basename(note.log))):
         said = _taken(mgr, note, log)
         if said and OTHER not in said:

@@ -28,7 +28,7 @@ def _printable(text: str) -> str:
 
 
 def steps(mgr: str, note: Note) -> list[Step]:
-    """Returns the texts that a note had: of commits, and after so many lines of its log; the last one is its text now."""
+    """Returns the texts that a note had, of commits and after so many lines of its log; the last is that of now."""
     folder, log = os.path.split(os.path.abspath(note.log))
     git = ["git", "-C", folder]
     made: list[Step] = []

@@ -59,7 +59,7 @@ class Question:
         elif byte == CANCEL or byte == RETURN and not self.keys:
             self.is_open = False
             return self.accept(self.answer) if byte == RETURN else None
-        elif len(self.typed) < self.most and (byte >= ord(" ") if self.most > MOST_DIGITS else chr(byte) in "0123456789"):
+        elif len(self.typed) < self.most and (byte in b"0123456789" or self.most > MOST_DIGITS and byte >= ord(" ")):
             self.typed += bytes([byte])
         return None
 

@@ -62,7 +62,7 @@ class Session:
         self.made: set[str] = set()
         self.opened: dict[str, tuple[bool, int]] = {}
         self.discards = False
-        # What is said of a save that failed, and where texts stand that could not be saved, by the names of their buffers.
+        # What is said of a save that failed, and where texts of buffers stand that could not be saved.
         self.fault = ""
         self.apart: dict[str, str] = {}
         # What mgr put aside in a save, and what was said of that.
