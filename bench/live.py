@@ -133,7 +133,7 @@ def measure(mgr, size):
         idle = [100 * (cost([pid]) - seconds) / IDLE for pid, seconds in zip(pids, before)]
         print(f"    idle                     hub {idle[0]:.2f} %, fronts {max(idle[1:]):.2f} % of a processor at most")
         for writer in writers:
-            os.write(writer.master, b"\x18\x03")
+            os.write(writer.master, b"\x18\x03s")
             os.waitpid(writer.pid, 0)
         hub.terminate()
     texts = {(FOLDER / name / "note").read_text() for name in ("hub", *map(str, range(WRITERS)))}

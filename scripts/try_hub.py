@@ -162,7 +162,7 @@ def settle(terminals, hub, words):
     """Ends all; the texts have to be one, with every word."""
     time.sleep(1.5)
     for terminal in terminals.values():
-        terminal.press("C-x", "C-c")
+        terminal.leave()
         terminal.expect(f"{terminal.name} leaves", lambda: any("status 0" in row for row in terminal.shown()), True)
     took = hub.end()
     texts = logs(hub, terminals)
@@ -297,13 +297,13 @@ def taken_back(server, mgr):
     hub.kill()
     alice.expect("alone", lambda: state(alice).startswith("alone since"), True)
     alice.write("never passed on ")
-    alice.press("C-x", "C-c")
+    alice.leave()
     alice.expect("left", lambda: any("status 0" in row for row in alice.shown()), True)
     if "never" in (hub.folder / "note").read_text():
         fail("it was passed on")
     alice.begin("note")
     alice.expect("all", lambda: alice.shown()[0], "never passed on the text of the hub")
-    alice.press("C-x", "C-c")
+    alice.leave()
     alice.expect("left", lambda: any("status 0" in row for row in alice.shown()), True)
     print(f"the note: {(hub.folder / 'note').read_text()!r}")
 
@@ -339,7 +339,7 @@ def another_note(server, mgr):
         terminal.press("Enter")
         if answer == "t":
             live(terminal)
-            terminal.press("C-x", "C-c")
+            terminal.leave()
         terminal.expect("left", lambda: any("same terminal" in row for row in terminal.shown()), True)
         seen = {name: (folder / name).read_text() for name in texts}
         if seen != texts or "mine" in text_of(mgr, hub.folder / "note.ops"):
@@ -357,7 +357,7 @@ def conflict(server, mgr):
     other = folder_of("conflict", "other")
     shutil.copy(bob.folder / "note.ops", other / "note.ops")
     number = [line.split()[-2].strip("()") for line in hub.lines() if "bob" in line][0]
-    bob.press("C-x", "C-c")
+    bob.leave()
     bob.expect("left", lambda: any("status 0" in row for row in bob.shown()), True)
     for folder, text in ((other, b"one"), (bob.folder, b"two")):
         command = [mgr, "edit", "note", "--replica", number]
@@ -365,7 +365,7 @@ def conflict(server, mgr):
     first = Terminal(server, "conflict-first", other, environment(mgr, other), ROWS, COLUMNS)
     first.begin(f"note --as first --replica {number} --with {hub.port}")
     live(first)
-    first.press("C-x", "C-c")
+    first.leave()
     first.expect("left", lambda: any("status 0" in row for row in first.shown()), True)
     bob.begin(f"note --as bob --with {hub.port}")
     bob.expect("a conflict", lambda: state(bob), "conflict")
@@ -373,7 +373,7 @@ def conflict(server, mgr):
     print(f"the hub printed: {[line for line in hub.lines() if 'onflict' in line]}")
     bob.write("typed on")
     bob.expect("typed on", lambda: "typed on" in " ".join(bob.shown()), True)
-    bob.press("C-x", "C-c")
+    bob.leave()
     bob.expect("left", lambda: any("status 0" in row for row in bob.shown()), True)
     del terminals["bob"]
     settle(terminals, hub, ["one"])
