@@ -2,13 +2,13 @@
 """Measures live sessions: `mgr edit --live` from a report or a key to the status and the frame that answer it.
 
 Prints a row a figure: how often it was measured, and the median and the worst milliseconds by the clock, as a front
-would wait for them. They are of a text of 100,000 characters in a log: an insertion of another anywhere in the text,
-up to its status with the frame, and with --changes up to the status that tells how the text changed; 100,000 such
-reports in one stream, and a tenth of them with --changes, up to the status that counts all; a character typed in the
-middle, up to its frame, up to the second status, which comes once it is in the log, and beside these up to its frame
-by --trace; a splice anywhere, up to the status that tells its change, and up to the second one; and a paste of 50 KB.
-An insertion and a key then are of 990,000 characters, too. A call by hand may name another mgr, and fewer characters
-and measurements.
+would wait for the lines; what it then reads in them is not counted. They are of a text of 100,000 characters in a
+log: an insertion of another anywhere in the text, up to its status with the frame, and with --changes up to the
+status that tells how the text changed; 100,000 such reports in one stream, and a tenth of them with --changes, up to
+the status that counts all; a character typed in the middle, up to its frame, up to the second status, which comes
+once it is in the log, and beside these up to its frame by --trace; a splice anywhere, up to the status that tells its
+change, and up to the second one; and a paste of 50 KB. An insertion and a key then are of 990,000 characters, too. A
+call by hand may name another mgr, and fewer characters and measurements.
 """
 
 import argparse
@@ -16,6 +16,7 @@ import json
 import os
 import pathlib
 import random
+import re
 import shutil
 import statistics
 import subprocess
@@ -31,6 +32,10 @@ TIMES, FEW_TIMES, PASTES = 1000, 200, 9
 PASTE = 50_000
 ROWS = 24
 BLOCK = 1 << 20
+
+# How many lines come after a status, and whether another one does. Within a text the quotes would be escaped.
+AFTER = re.compile(rb'"(?:operations|rows)":(\d+)')
+MORE = b'"more":true'
 
 # Who wrote the text, who reports, and who types.
 WRITER, OTHER, TYPIST = 9, 2, 1
@@ -54,6 +59,14 @@ def typed(count):
 
 def report(**members):
     return b"\xff" + json.dumps(members, separators=(",", ":"), sort_keys=True).encode() + b"\n"
+
+
+def told(line):
+    """Returns what the line of a status says."""
+    status = json.loads(line)
+    if status["refused"]:
+        raise SystemExit(f"a report is refused: {status['refused']}")
+    return status
 
 
 class Lines:
@@ -93,25 +106,27 @@ class Session:
         for _ in range(ROWS):
             self.lines.next()
 
-    def status(self):
-        """Returns the next status, once all lines after it are there."""
-        status = json.loads(self.lines.next())
-        for _ in range(status["rows"] + status["operations"]):
+    def line(self):
+        """Returns the line of the next status, once all lines after it are there."""
+        line = self.lines.next()
+        for _ in range(sum(int(count) for count in AFTER.findall(line))):
             self.lines.next()
-        if status["refused"]:
-            raise SystemExit(f"a report is refused: {status['refused']}")
-        return status
+        return line
+
+    def status(self):
+        return told(self.line())
 
     def answers(self, given):
         """Returns the seconds up to the first status that comes of a block, and up to the last one."""
         begin = time.perf_counter()
         self.write(given)
-        status = self.status()
-        first = last = time.perf_counter() - begin
-        while status["more"]:
-            status = self.status()
-            last = time.perf_counter() - begin
-        return first, last
+        lines, seconds = [self.line()], [time.perf_counter() - begin]
+        while MORE in lines[-1]:
+            lines.append(self.line())
+            seconds.append(time.perf_counter() - begin)
+        for line in lines:
+            told(line)
+        return seconds[0], seconds[-1]
 
     def insertion(self, chance):
         """Returns a report of an insertion of another anywhere in the text."""

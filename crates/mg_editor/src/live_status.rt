@@ -3,6 +3,7 @@ ghost use Rattle.std.specs.Prelude.{◌≡◌, ◌<◌, [], ◌∷◌, ◌++◌,
 ghost use Rattle.std.specs.Prelude.{IfOk, OnOk, IfErr, IfSome, string_bytes};
 ghost use Rattle.rga_ops.specs.Content.{clock_of};
 ghost use Rattle.rga_ops.specs.Order.{text};
+ghost use Rattle.rga_ops.specs.Places.{visible};
 ghost use Rattle.mg_minibuffer.specs.Messages.{message_text};
 ghost use Rattle.mg_workspace.specs.AtIndex.{state_at};
 ghost use Rattle.mg_workspace.specs.Buffers.{buffer_at};
@@ -15,7 +16,8 @@ use mg_minibuffer::Prompt;
 use mg_screen::column_of;
 use mg_status::{Asking, BufferStatus, PointStatus, PromptStatus, WindowStatus};
 use mg_workspace::Workspace;
-use rga_store::TextStore;
+use rga_ops::Id;
+use rga_store::{TextStore, position_of};
 use std::alloc::{AllocError, Global};
 
 /// What an open prompt asks.
@@ -177,6 +179,16 @@ impl<S: TextStore> Editor<S> {
         ensures { result ≡ clock_of (state_at index self.now.work).content }
     {
         self.work.at(index).buffer.store().clock()
+    }
+
+    /// The index of an element in the text of the buffer at an index; `None` where the text does not
+    /// show it. Takes no memory.
+    pub fn position_at(&self, index: usize, id: Id) -> Option<usize>
+        requires { index < length self.now.work.buffers.all }
+        ensures { let content = (state_at index self.now.work).content in
+            IfSome result (λ k. slice_get (visible content) k ≡ Some id) }
+    {
+        position_of(self.work.at(index).buffer.store(), id)
     }
 
     /// The text of the buffer at an index, lent. `None` if it is not listed. Takes no memory.

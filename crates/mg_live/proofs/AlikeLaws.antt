@@ -2,8 +2,8 @@
 use Rattle.std.proofs.Common.{◌≡◌, ◌≤◌, ◌+◌, ◌-◌, ℕ, zero, suc, List, [], ◌∷◌, ◌++◌, length, take, drop, reverse, if◌then◌else◌, arith, ap, sym, ◌∙◌}
 use Rattle.std.proofs.Math.Seq.{drop-append_seam}
 use Rattle.std.proofs.lemmas.Bool.{eq-eqb}
-use Rattle.std.proofs.lemmas.List.{reverse-reverse, reverse-append, length-reverse, length-drop, take-append-drop, drop-drop}
-use Rattle.mg_live.specs.Changes.{common_front}
+use Rattle.std.proofs.lemmas.List.{reverse-reverse, reverse-append, length-reverse, length-drop, take_all, take-append-drop, drop-drop, drop_all}
+use Rattle.mg_live.specs.Changes.{common_front, common_end}
 use Rattle.mg_live.proofs.ChangeTextLaws.{tail_reversed}
 
 one_more : (x y : ℕ) (xs ys : List ℕ) (n m : ℕ) → x ≡ y → common_front xs ys ≡ n + m → common_front (x ∷ xs) (y ∷ ys) ≡ suc n + m
@@ -53,3 +53,34 @@ pub end_block_on : (i n : ℕ) (old new : List ℕ) → i + n ≤ length old →
 end_block_on i n old new in_old in_new alike =
     block_on i n (reverse old) (reverse new) (omega (arith, in_old, length-reverse old)) (omega (arith, in_new, length-reverse new))
     (end_slice old i n (omega (arith, in_old)) ∙ ap reverse alike ∙ sym (end_slice new i n (omega (arith, in_new))))
+
+-- ---- what is known to be alike
+
+pub front_known : (n : ℕ) (old new : List ℕ) → n ≤ length old → n ≤ length new → take n old ≡ take n new
+    → n + common_front (drop n old) (drop n new) ≡ common_front old new
+front_known n old new in_old in_new alike = sym (goes_on n old new in_old in_new alike)
+
+pub end_known : (n : ℕ) (old new : List ℕ) → n ≤ length old → n ≤ length new → drop (length old - n) old ≡ drop (length new - n) new
+    → n + common_end (take (length old - n) old) (take (length new - n) new) ≡ common_end old new
+end_known n old new in_old in_new alike =
+    let reversed : take n (reverse old) ≡ take n (reverse new) =
+    sym (reverse-reverse (take n (reverse old))) ∙ ap reverse (sym (tail_reversed old n) ∙ alike ∙ tail_reversed new n) ∙ reverse-reverse (take n (reverse new)) in
+    sym (λ k. n + common_front (front_reversed old n in_old k) (front_reversed new n in_new k))
+    ∙ front_known n (reverse old) (reverse new) (omega (arith, in_old, length-reverse old)) (omega (arith, in_new, length-reverse new)) reversed
+
+pub whole_rest : (n : ℕ) (xs : List ℕ) → take (length xs - n) (drop n xs) ≡ drop n xs
+whole_rest n xs = take_all (length xs - n) (drop n xs) (omega (arith, length-drop n xs))
+
+-- less of an end that is alike, seen from a place on
+pub less_alike : (lo less more : ℕ) (old new : List ℕ) → less ≤ more → lo + less ≤ length old → lo + less ≤ length new → more ≤ length old → more ≤ length new
+    → drop (length old - more) old ≡ drop (length new - more) new
+    → drop (length (drop lo old) - less) (drop lo old) ≡ drop (length (drop lo new) - less) (drop lo new)
+less_alike lo less more old new le in_old in_new all_old all_new alike = from old in_old all_old ∙ ap (drop (more - less)) alike ∙ sym (from new in_new all_new)
+  where
+    from : (xs : List ℕ) → lo + less ≤ length xs → more ≤ length xs → drop (length (drop lo xs) - less) (drop lo xs) ≡ drop (more - less) (drop (length xs - more) xs)
+    from xs within all =
+        let place : lo + (length (drop lo xs) - less) ≡ length xs - more + (more - less) = omega (arith, le, within, all, length-drop lo xs) in
+        drop-drop (length (drop lo xs) - less) lo xs ∙ ap (λ n. drop n xs) place ∙ sym (drop-drop (more - less) (length xs - more) xs)
+
+pub nothing_alike : (old new : List ℕ) → drop (length old - 0) old ≡ drop (length new - 0) new
+nothing_alike old new = drop_all (length old - 0) old (omega arith) ∙ sym (drop_all (length new - 0) new (omega arith))

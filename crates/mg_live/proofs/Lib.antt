@@ -23,3 +23,5 @@ pub mod TogetherActs
 pub mod StartLaws
 pub mod TogetherLaws
 pub mod TakenKeyLaws
+pub mod ToldLaws
+pub mod ReachLaws

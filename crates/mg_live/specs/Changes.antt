@@ -1,8 +1,9 @@
 -- Changes of the live buffer's text, as splices.
-use Rattle.std.specs.Prelude.{ℕ, suc, ◌-◌, List, [], ◌∷◌, ◌++◌, length, drop, reverse, Option, Some, None, if◌then◌else◌, nat_eq}
+use Rattle.std.specs.Prelude.{◌≡◌, ◌≤◌, ℕ, suc, ◌-◌, List, [], ◌∷◌, ◌++◌, length, take, drop, reverse, Option, Some, None, if◌then◌else◌, nat_eq}
 use Rattle.std.specs.List.{slice_range}
 use Rattle.rga_devices.specs.Counting.{one_more}
 use Rattle.rga_ops.specs.Splice.{Splice}
+use Rattle.mg_live.specs.declared.changes.Kept.{Kept}
 
 -- the text as it was told last, how many changes were told since the start, and those of this block
 pub record Changes : Type 0 where
@@ -47,3 +48,12 @@ noted text c = elim (change_between c.text text) [
 abbrev pub change_count : Option Changes → ℕ
 change_count None = 0
 change_count (Some c) = c.count
+
+-- of the code: so much of two texts is the same
+pub record AreKept (kept : Kept) (old new : List ℕ) : Type 0 where
+  pub front_in_old : kept.front ≤ length old
+  pub front_in_new : kept.front ≤ length new
+  pub front : take kept.front old ≡ take kept.front new
+  pub end_in_old : kept.end ≤ length old
+  pub end_in_new : kept.end ≤ length new
+  pub end : drop (length old - kept.end) old ≡ drop (length new - kept.end) new

@@ -7,6 +7,7 @@ pub mod States
 pub mod Made
 pub mod Keys
 pub mod Reports
+pub mod Told
 pub mod Statuses
 pub mod Blocks
 pub mod Running

@@ -7,6 +7,18 @@ use rga_ops::Splice;
 use std::alloc::{AllocError, Global};
 use std::marker::Model;
 
+/// How much of a text is known to be as it was: so many characters at its beginning, and at its end.
+#[derive(Clone, Copy)]
+pub(crate) struct Kept {
+    pub(crate) front: usize,
+    pub(crate) end: usize,
+}
+
+impl Kept {
+    /// Nothing is known.
+    pub(crate) const NOTHING: Kept = Kept { front: 0, end: 0 };
+}
+
 /// The text as it was told last, how many changes were told since the start, and those of this block.
 #[derive(Drop)]
 pub(crate) struct Changes {
@@ -37,13 +49,14 @@ impl Changes {
         }
     }
 
-    /// The text is this now: where it is another one, a change is told. `AllocError` alone, and
-    /// nothing changes then.
-    pub(crate) fn note(&mut self, text: &[char]) -> Result<(), AllocError>
+    /// The text is this now, of which so much is as it was told: where it is another one, a change
+    /// is told. `AllocError` alone, and nothing changes then.
+    pub(crate) fn note(&mut self, text: &[char], kept: Kept) -> Result<(), AllocError>
+        requires { spec.AreKept kept self.old.text text.now }
         ensures noted { OnOk result (self.new ≡ spec.noted text.now self.old) }
         ensures same { OnErr result (self.new ≡ self.old) }
     {
-        let Some(change) = change_between(self.alloc, self.text.as_slice(), text)? else {
+        let Some(change) = change_between(self.alloc, self.text.as_slice(), text, kept)? else {
             return Ok(());
         };
         self.list.reserve(1)?;
@@ -67,6 +80,13 @@ impl Changes {
         ensures { result.now ≡ self.now.list }
     {
         &self.list
+    }
+
+    /// How many characters the text has that was told last.
+    pub(crate) fn text_len(&self) -> usize
+        ensures { result ≡ length self.now.text }
+    {
+        self.text.len()
     }
 
     pub(crate) fn count(&self) -> u64
@@ -183,12 +203,44 @@ fn common_end(old: &[char], new: &[char]) -> usize
     count
 }
 
-/// The change that makes one text the other; none where they are the same.
-fn change_between(alloc: Global, old: &[char], new: &[char]) -> Result<Option<Splice>, AllocError>
+/// How many characters two texts have in common at their beginnings, of which so many are known.
+fn front_beyond(old: &[char], new: &[char], known: usize) -> usize
+    requires old { known ≤ length old.now }
+    requires new { known ≤ length new.now }
+    requires alike { take known old.now ≡ take known new.now }
+    ensures exact { result ≡ spec.common_front old.now new.now }
+    ensures old { result ≤ length old.now }
+    ensures new { result ≤ length new.now }
+{
+    known + common_front(&old[known..], &new[known..])
+}
+
+/// How many they have in common at their ends, of which so many are known.
+fn end_beyond(old: &[char], new: &[char], known: usize) -> usize
+    requires old { known ≤ length old.now }
+    requires new { known ≤ length new.now }
+    requires alike { drop (length old.now - known) old.now
+        ≡ drop (length new.now - known) new.now }
+    ensures exact { result ≡ spec.common_end old.now new.now }
+    ensures old { result ≤ length old.now }
+    ensures new { result ≤ length new.now }
+{
+    known + common_end(&old[..old.len() - known], &new[..new.len() - known])
+}
+
+/// The change that makes one text the other, of which so much is the same; none where all is.
+fn change_between(
+    alloc: Global,
+    old: &[char],
+    new: &[char],
+    kept: Kept,
+) -> Result<Option<Splice>, AllocError>
+    requires { spec.AreKept kept old.now new.now }
     ensures { IfOk result (λ change. change ≡ spec.change_between old.now new.now) }
 {
-    let lo = common_front(old, new);
-    let same = common_end(&old[lo..], &new[lo..]);
+    let lo = front_beyond(old, new, kept.front);
+    let known = kept.end.min(old.len() - lo).min(new.len() - lo);
+    let same = end_beyond(&old[lo..], &new[lo..], known);
     let hi = old.len() - same;
     let put = &new[lo..new.len() - same];
     if lo == hi && put.is_empty() {

@@ -2,7 +2,9 @@
 ghost use Rattle.std.specs.Prelude.{◌≡◌, ◌≢◌, Err};
 ghost use Rattle.mg_events.specs.Reports.{HasSoundRun};
 ghost use Rattle.mg_live.specs.Reports as spec;
+ghost use Rattle.mg_live.specs.Told as told;
 
+use crate::changing::Reach;
 use crate::fault::ReportFault;
 use crate::live::Live;
 use crate::others::{take_list, take_one};
@@ -11,6 +13,7 @@ use mg_editor::Editor;
 use mg_events::{LineFault, Places, Report, read_report};
 use mg_screen::{MAX_COLUMNS, MAX_ROWS, MIN_COLUMNS, MIN_ROWS};
 use mg_session::Course;
+use rga_ops::Op;
 use rga_store::TextStore;
 
 /// The report that was counted last is refused. The session ends where there is no memory to note
@@ -103,17 +106,37 @@ fn follow<S: TextStore>(live: &mut Live, editor: &mut Editor<S>, report: Report)
     }
 }
 
-/// What the line of a report says is done, or what is wrong with it is told.
+/// How far a report reaches in the live buffer's text.
+fn reach_of(report: &Report) -> Reach
+    ensures { result ≡ told.reach_of report.now }
+{
+    match report {
+        Report::One(Op::Insert { id, .. }) => Reach::Element(*id),
+        Report::Splice { lo, hi, .. } => Reach::Between { lo: *lo, hi: *hi },
+        _ => Reach::Anywhere,
+    }
+}
+
+/// What the line of a report says is done, or what is wrong with it is told. Answers how the session
+/// stands then, and how far the report reached.
 pub(crate) fn take_line<S: TextStore>(
     live: &mut Live,
     editor: &mut Editor<S>,
     line: &[u8],
-) -> Course
-    ensures { spec.TakesLine line.now editor.old live.old editor.new live.new result }
+) -> (Course, Reach)
+    ensures taken { spec.TakesLine line.now editor.old live.old editor.new live.new result.0 }
+    ensures reach { told.IsTold live.old editor.old →
+        told.WasTold result.1 live.new editor.new }
 {
     live.tally.count_report();
     match read_report(live.alloc, line) {
-        Ok(report) => follow(live, editor, report),
-        Err(fault) => refuse(live, ReportFault::Line(fault), Course::On),
+        Ok(report) => {
+            let reach = reach_of(&report);
+            (follow(live, editor, report), reach)
+        }
+        Err(fault) => {
+            let course = refuse(live, ReportFault::Line(fault), Course::On);
+            (course, Reach::Anywhere)
+        }
     }
 }

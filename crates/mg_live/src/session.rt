@@ -8,7 +8,7 @@ ghost use Rattle.mg_session.specs.Running.{devices};
 ghost use Rattle.mg_session.specs.declared.fault.SessionFault.TheVariants.{File, Keys, Screen};
 
 use crate::blocks::end_block;
-use crate::changing::note_changes;
+use crate::changing::{Reach, note_changes};
 use crate::finishing::finish;
 use crate::live::Live;
 use crate::opening::note_start;
@@ -46,7 +46,7 @@ fn run<S: Teller, R: Read, W: Write, P: Port>(
         (seen W.contents screen.new) result live.new)
         keys.old keys.new }
 {
-    let noted = note_changes(live, editor, course);
+    let noted = note_changes(live, editor, course, Reach::Anywhere);
     let begun = end_block(live, editor, screen, port, noted);
     let mut reader = Reader::new(live.alloc);
     match take_keys(live, editor, &mut reader, keys, screen, port, begun) {

@@ -5,11 +5,12 @@ ghost use Rattle.rga_devices.specs.Counting.{Calls, Counts, IsReadToEnd};
 ghost use Rattle.mg_events.specs.Reading.{Reading, key, report, told_by};
 ghost use Rattle.mg_live.specs.Running as spec;
 ghost use Rattle.mg_live.specs.States.{moment};
+ghost use Rattle.mg_live.specs.Told.{IsTold};
 ghost use Rattle.mg_session.specs.Moments.{Known, ToldCalls, seen};
 ghost use Rattle.mg_session.specs.declared.course.Course.TheVariants.{On};
 
 use crate::blocks::end_block;
-use crate::changing::note_changes;
+use crate::changing::{Reach, note_changes};
 use crate::keys::take_key;
 use crate::live::Live;
 use crate::reports::{refuse_line, take_line};
@@ -32,23 +33,26 @@ fn take_noted_key<S: Teller, P: Port>(
     byte: u8,
     port: &mut P,
 ) -> Course
-    ensures { (screen : Calls Known) → spec.TakesEvent (key byte)
+    ensures taken { (screen : Calls Known) → spec.TakesEvent (key byte)
         (moment editor.old (P.calls port.old) (P.failures port.old) screen On live.old)
         (moment editor.new (P.calls port.new) (P.failures port.new) screen result live.new) }
+    ensures told { result ≡ On → IsTold live.new editor.new }
 {
     let course = take_key(live, editor, byte, port);
-    note_changes(live, editor, course)
+    note_changes(live, editor, course, Reach::Anywhere)
 }
 
 /// Takes a report, and notes how the text changed by it.
 fn take_noted_line<S: TextStore>(live: &mut Live, editor: &mut Editor<S>, line: &[u8]) -> Course
-    ensures { (calls : ToldCalls) (faults : ℕ) (screen : Calls Known) →
+    requires { IsTold live.old editor.old }
+    ensures taken { (calls : ToldCalls) (faults : ℕ) (screen : Calls Known) →
         spec.TakesEvent (report line.now)
         (moment editor.old calls faults screen On live.old)
         (moment editor.new calls faults screen result live.new) }
+    ensures told { result ≡ On → IsTold live.new editor.new }
 {
-    let course = take_line(live, editor, line);
-    note_changes(live, editor, course)
+    let (course, reach) = take_line(live, editor, line);
+    note_changes(live, editor, course, reach)
 }
 
 /// Takes an event.
@@ -59,10 +63,12 @@ fn take_event<S: Teller, P: Port>(
     line: &[u8],
     port: &mut P,
 ) -> Course
-    ensures { (screen : Calls Known) (left : Reading) → left.line ≡ line.now →
+    requires { IsTold live.old editor.old }
+    ensures taken { (screen : Calls Known) (left : Reading) → left.line ≡ line.now →
         spec.TakesEvents (told_by event left)
         (moment editor.old (P.calls port.old) (P.failures port.old) screen On live.old)
         (moment editor.new (P.calls port.new) (P.failures port.new) screen result live.new) }
+    ensures told { result ≡ On → IsTold live.new editor.new }
 {
     match event {
         Event::Nothing => Course::On,
@@ -97,10 +103,12 @@ fn take_bytes<S: Teller, P: Port>(
     block: &[u8],
     port: &mut P,
 ) -> Taken
-    ensures { (screen : Calls Known) → spec.TakesBytes block.now reader.old false
+    requires { IsTold live.old editor.old }
+    ensures taken { (screen : Calls Known) → spec.TakesBytes block.now reader.old false
         (moment editor.old (P.calls port.old) (P.failures port.old)
         screen On live.old) reader.new result.any
         (moment editor.new (P.calls port.new) (P.failures port.new) screen result.course live.new) }
+    ensures told { result.course ≡ On → IsTold live.new editor.new }
 {
     let mut any = false;
     for byte in block {
@@ -126,11 +134,13 @@ fn take_block<S: Teller, W: Write, P: Port>(
     screen: &mut Counted<W>,
     port: &mut P,
 ) -> Course
-    ensures { spec.TakesBlock block.now reader.old
+    requires { IsTold live.old editor.old }
+    ensures taken { spec.TakesBlock block.now reader.old
         (moment editor.old (P.calls port.old) (P.failures port.old)
         (seen W.contents screen.old) On live.old) reader.new
         (moment editor.new (P.calls port.new) (P.failures port.new)
         (seen W.contents screen.new) result live.new) }
+    ensures told { result ≡ On → IsTold live.new editor.new }
 {
     let taken = take_bytes(live, editor, reader, block, port);
     if taken.any {
@@ -166,6 +176,7 @@ pub(crate) fn take_keys<S: Teller, R: Read, W: Write, P: Port>(
     port: &mut P,
     begun: Course,
 ) -> Course
+    requires { begun ≡ On → IsTold live.old editor.old }
     ensures { spec.ReadsKeys reader.old
         (moment editor.old (P.calls port.old) (P.failures port.old)
         (seen W.contents screen.old) begun live.old)
