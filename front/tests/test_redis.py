@@ -13,6 +13,7 @@ from unittest import mock
 from writers import WithWriters, Writer
 
 from mgr_front.channels import presence, redis
+from mgr_front.channels.logs import Logs
 from mgr_front.channels.presence import Presence, place_of, saying_of
 from mgr_front.channels.redis import RedisStream
 from mgr_front.channels.stream import blocks, library, trim
@@ -174,6 +175,20 @@ class TestStream(TestRedis):
         self.assertLess(self.client().xlen("a/note"), 4)
         third = self.begin(3, self.make)
         self.wait("abcdef", third.signs)
+
+    def test_somebody_writes_while_it_is_trimmed(self) -> None:
+        self.pair()
+        joined = Logs.joined
+
+        def slowly(logs: Logs, *given: Any) -> bytes:
+            self.client().xadd("a/note", {"lines": LINE})
+            return joined(logs, *given)
+
+        with mock.patch.object(Logs, "joined", slowly):
+            trim(self.url, self.program)
+        self.assertEqual(self.client().xlen("a/note"), 2)
+        third = self.begin(3, self.make)
+        self.wait("abz", third.signs)
 
     def test_what_another_client_adds(self) -> None:
         one, other = self.pair()

@@ -137,20 +137,19 @@ class Stream:
 
 
 def trim(url: str, mgr: str) -> tuple[int, int]:
-    """Has a stream begin with one entry of its whole content; returns how many bytes it had, and has."""
+    """Has one entry of the content take the place of all; returns how many bytes these had, and it has.
+
+    What is written meanwhile stays beside it: a stream's order tells nothing.
+    """
     stream = Stream(url)
-    while True:
-        with stream.link.pipeline() as pipeline:
-            pipeline.watch(stream.key)
-            log = b"".join(entry.lines for entry in stream.news(FIRST).entries)
-            made = Logs(mgr).joined(log, ())
-            pipeline.multi()
-            pipeline.xadd(stream.key, {"by": stream.by, "lines": made})
-            pipeline.xtrim(stream.key, maxlen=1, approximate=False)
-            pipeline.set(stream.generation_key, VERSION + secrets.token_hex(16).encode())
-            stream._say(pipeline, op="entry")
-            try:
-                pipeline.execute()
-                return len(log), len(made)
-            except stream.redis.WatchError:
-                continue  # Somebody wrote meanwhile.
+    news = stream.news(FIRST)
+    log = b"".join(entry.lines for entry in news.entries)
+    made = Logs(mgr).joined(log, ())
+    moment, _, number = news.last.decode().partition("-")
+    pipeline = stream.link.pipeline()
+    pipeline.xadd(stream.key, {"by": stream.by, "lines": made})
+    pipeline.xtrim(stream.key, minid=f"{moment}-{int(number) + 1}", approximate=False)
+    pipeline.set(stream.generation_key, VERSION + secrets.token_hex(16).encode())
+    stream._say(pipeline, op="entry")
+    pipeline.execute()
+    return len(log), len(made)
