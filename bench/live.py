@@ -1,7 +1,7 @@
 #!/usr/bin/env python3
 """Measures what writing together is like, with mgr-live in pseudo terminals, and beside it what else there is.
 
-usage: live.py [--mgr MGR] [--keys N] [PART..]. Prints a row a figure, with what is wanted of it. From a key to a screen it is
+usage: live.py [--mgr MGR] [--keys N] [--idle N] [--largest N] [PART..]. Prints a row a figure, with what is wanted of it. From a key to a screen it is
 the time until the screen is sent what the key typed, a character that stands nowhere else. `turns` is four who type ten keys
 a second in turn; `no pause` is one who types as soon as the own screen has the last one, and `flood` the own keys of one while
 a peer sends as much as it can. Beside these stand crdt.el of Debian's package elpa-crdt, four emacsclients of one Emacs,
@@ -300,9 +300,14 @@ def together(screens, signs, median, count):
     row("no pause, to the three others", others, median, 150)
 
 
+def sizes(asked):
+    """Returns sizes of notes, and what is wanted of the median."""
+    return [(size, median) for size, median in zip(SIZES, (30, 50, 100)) if size <= asked.largest]
+
+
 def hub(asked):
     """four at a hub"""
-    for size, median in zip(SIZES, (30, 50, 100)):
+    for size, median in sizes(asked):
         print(f"  {size:,} characters")
         served = Hub(asked.mgr, size)
         screens = served.join()
@@ -469,7 +474,7 @@ def crdt(asked):
         return
     folder = next(pathlib.Path(CRDT).glob("crdt-*"))
     loads = f'(add-to-list \'load-path "{folder}") (require \'crdt) (setq crdt-ask-for-name nil crdt-ask-for-password nil)'
-    for size, median in zip(SIZES, (30, 50, 100)):
+    for size, median in sizes(asked):
         print(f"  {size:,} characters")
         shutil.rmtree(FOLDER, ignore_errors=True)
         (FOLDER / "1").mkdir(parents=True)
@@ -477,18 +482,11 @@ def crdt(asked):
         port, joined = free_port(), []
         screens = [emacs(1, loads, f'(find-file "note") (crdt-share-buffer "all" {port})')]
         await_all(screens, FIRST_LINE)
-        rest(screens, 2)
         for number in range(2, WRITERS + 1):
-            begun = time.monotonic()
-            screens.append(emacs(number, loads, f'(crdt-connect (url-generic-parse-url "tcp://{HOST}:{port}") "w{number}")'))
-            await_all(screens[-1:], b"note", all_screens=screens)
+            screens.append(emacs(number, loads, '(message "all is loaded")'))
+            await_all(screens[-1:], b"all is loaded", all_screens=screens)
             rest(screens, 1)
-            screens[-1].press(b"\x1b<\r")
-            await_all(screens[-1:], b"brown fox", all_screens=screens)
-            joined.append(1000 * (time.monotonic() - begun) - 1000)
-            screens[-1].shown = b""
-            screens[-1].press(b"\x181\x1b<\x0c")
-            await_all(screens[-1:], FIRST_LINE, all_screens=screens)
+            joined.append(connect(screens, f'(crdt-connect (url-generic-parse-url "tcp://{HOST}:{port}") "w{number}")'))
         row("joining", joined, 500 if size == 100_000 else None)
         screens[0].press(b"\x1b<")
         at_lines(screens)
@@ -496,6 +494,21 @@ def crdt(asked):
         for screen in screens:
             os.kill(screen.pid, signal.SIGKILL)
             os.waitpid(screen.pid, 0)
+
+
+def connect(screens, form):
+    """Has the last of the screens connect, and open the note; returns the milliseconds to its text."""
+    screen = screens[-1]
+    screen.shown, begun = b"", time.monotonic()
+    screen.press(b"\x1b:" + form.encode() + b"\r")
+    await_all([screen], b" note", all_screens=screens)
+    screen.press(b"\x1b<\r")
+    await_all([screen], b"brown fox", all_screens=screens)
+    took = 1000 * (time.monotonic() - begun)
+    screen.shown = b""
+    screen.press(b"\x181\x1b<\x0c")
+    await_all([screen], FIRST_LINE, all_screens=screens)
+    return took
 
 
 def one_emacs(asked):
@@ -562,6 +575,7 @@ def main():
     parser.add_argument("--mgr", metavar="PATH", default=str(ROOT / "build" / "mgr"), help="another mgr")
     parser.add_argument("--keys", metavar="N", type=int, default=KEYS, help="how many keys a row is measured with")
     parser.add_argument("--idle", metavar="N", type=float, default=IDLE, help="for how many seconds nothing is done")
+    parser.add_argument("--largest", metavar="N", type=int, default=max(SIZES), help="leave out notes of more characters")
     parser.add_argument("parts", metavar="PART", nargs="*", help=f"of {', '.join(PARTS)}; else all")
     asked = parser.parse_args()
     if not set(asked.parts) <= set(PARTS):

@@ -2,9 +2,9 @@
 
 import http.server
 import os
-import pathlib
 import shutil
 import signal
+import socket
 import subprocess
 import sys
 import threading
@@ -23,6 +23,8 @@ HUB = ROOT / "front" / "mgr-hub"
 SSHD = "/usr/sbin/sshd"
 # The delay of a line that is slow.
 SLOW = 0.3
+# So many MB a program of a hub may have at most.
+MOST_MEMORY = 1000
 SECONDS = 120
 
 
@@ -177,10 +179,11 @@ class GitOverHttp(http.server.BaseHTTPRequestHandler):
 class Engine:
     """What carries a note. `disturbances` are done to it while four write, each at least once."""
 
-    def __init__(self, mgr, folder, chance, seconds):
-        """`seconds` are those for which something is away."""
-        self.mgr, self.folder, self.chance, self.seconds = mgr, folder, chance, seconds
+    def __init__(self, mgr, folder, chance, seconds, text=""):
+        """`seconds` are those for which something is away, and `text` is what stands there at first."""
+        self.mgr, self.folder, self.chance, self.seconds, self.text = mgr, folder, chance, seconds, text
         self.lines, self.tools = [], ""
+        folder.mkdir(parents=True)
         self.open()
         self.disturbances += (self.cut_off, self.silence, self.slow) if self.lines else ()
 
@@ -249,12 +252,14 @@ class SharedHub(Engine):
 
     def open(self):
         (self.folder / "hub").mkdir()
+        if self.text:
+            (self.folder / "hub" / "note").write_text(self.text)
         self.hub = Hub(self.mgr, self.folder / "hub", free_port())
         self.port, self.kept = self.line(self.hub.port), self.folder / "kept"
         if Sshd.is_there():
             words = "".join(f"{key}={self.hub.words[key]} " for key in ("MGR", "PATH", "XDG_STATE_HOME"))
             self.ssh(f"{words}{HUB} --join {self.hub.folder / 'note'}")
-        self.disturbances = (self.kill, self.empty, self.keep, self.restore, self.compact)
+        self.disturbances = (self.kill, self.empty, self.keep, self.restore, self.compact, self.strangers)
 
     def address(self, number):
         by_ssh = "--with hub.example:note" if Sshd.is_there() else f"--with {self.port}"
@@ -304,6 +309,33 @@ class SharedHub(Engine):
         self.hub.end()
         subprocess.run([self.mgr, "compact", "note"], cwd=self.hub.folder, check=True, stdout=subprocess.DEVNULL)
         self.hub.begin()
+
+
+    def strangers(self):
+        """one floods, one drips, one says nothing, and one is far ahead"""
+        hello = b'{"op":"hello","version":1,"replica":%d,"name":"eve","token":"%d"}\n'
+        links = [socket.create_connection((HOST, self.hub.port)) for _ in range(4)]
+        links[0].sendall(b'{"op":')
+        links[1].sendall(hello % (77, 1))
+        links[2].sendall(hello % (78, 2) + b'{"char":"x","id":[9007199254740991,78],"op":"ins","parent":[0,0]}\n')
+        links[3].settimeout(0.2)
+        end = time.monotonic() + self.seconds
+        try:
+            links[3].sendall(hello % (79, 3))
+            while time.monotonic() < end:
+                links[3].sendall(b'{"id":[1,79],"op":"del"}\n' * 1000)
+        except OSError:
+            pass  # It is let go, or nothing more is taken of it.
+        for link in links:
+            link.close()
+        if (size := max(map(memory, (self.hub.process.pid, *children(self.hub.process.pid))))) > MOST_MEMORY:
+            fail(f"a program of the hub had {size:.0f} MB")
+
+
+def memory(pid):
+    """Returns the greatest size that a program had, in MB."""
+    with open(f"/proc/{pid}/status") as file:
+        return sum(int(line.split()[1]) for line in file if line.startswith("VmHWM")) / 1024
 
 
 class SharedFolder(Engine):

@@ -23,7 +23,7 @@ import threading
 import time
 
 from engines import ENGINES, await_that, fail, stop_all
-from live_writer import operations_of
+from live_writer import INSERTED, operations_of
 from terminal import ROOT, Server, Terminal, environment, is_gone
 
 FOLDER = ROOT / "build" / "try-engines"
@@ -66,12 +66,15 @@ class Person:
 
     def begin(self, words=None):
         """Begins an edit, and waits until keys are taken."""
+        self.start(words)
+        self.terminal.expect("an edit", self._is_begun, True, seconds=PATIENCE)
+
+    def start(self, words=None):
         words = self.engine.address(self.number) if words is None else words
         before = f"PATH={self.engine.tools}$PATH"
         if CLOCK and self.clock:
             before += f" LD_PRELOAD={CLOCK} FAKETIME={self.clock:+} FAKETIME_DONT_FAKE_MONOTONIC=1"
         self.terminal.begin(f"{NAME} --as writer{self.number} {words}", before=before)
-        self.terminal.expect("an edit", self._is_begun, True, seconds=PATIENCE)
 
     def _is_begun(self):
         """Whether an edit is shown. Where it is asked which text is gone on with, as behind a kill, it is the log's."""
@@ -81,6 +84,14 @@ class Person:
             self.terminal.write("l")
             self.terminal.press("Enter")
         return "Mg: " in shown[-2]
+
+    def live(self):
+        self.terminal.expect(f"{self.number} is live", lambda: state_of(self.terminal), "live", seconds=PATIENCE)
+
+    def write(self, text):
+        """Types some words."""
+        self.terminal.write(text)
+        self.words += text.split()
 
     def type(self):
         """Types a word as a line of its own, somewhere."""
@@ -114,16 +125,21 @@ class Person:
             os.kill(program, number)
         self.left()
 
+    def await_logged(self):
+        """Waits until the last word is shown, and then in the log."""
+        self.terminal.expect("its word", lambda: self.words[-1] in " ".join(self.terminal.shown()), True, seconds=PATIENCE)
+        time.sleep(LOGGED)
+
     def kill(self):
         """is killed, as for want of memory"""
-        time.sleep(LOGGED)
+        self.await_logged()
         for program in (programs := self.terminal.programs()):
             os.kill(program, signal.SIGKILL)
         self.close(programs)
 
     def kill_mgr(self):
         """has mgr killed"""
-        time.sleep(LOGGED)
+        self.await_logged()
         self.signal(signal.SIGKILL, self.terminal.programs()[1:])
 
     def terminate(self):
@@ -164,18 +180,20 @@ def ask(mgr, log, command, *words):
 
 
 class Trial:
-    """Four who write by an engine."""
+    """Those who write by an engine."""
 
-    def __init__(self, mgr, name, asked, server):
-        self.mgr, self.chance, self.server = mgr, random.Random(f"{asked.seed} {name}"), server
-        self.folder = FOLDER / name
-        self.folder.mkdir(parents=True)
-        self.engine = ENGINES[name](mgr, self.folder, self.chance, asked.away)
+    def __init__(self, server, engine):
+        self.server, self.engine, self.mgr, self.chance = server, engine, engine.mgr, engine.chance
         self.people = []
 
-    def person(self, number):
+    def writer(self, number):
+        """Returns one more, who has a terminal."""
         self.people.append(Person(self.server, self.engine, number, random.Random(self.chance.random())))
-        self.people[-1].begin()
+        return self.people[-1]
+
+    def person(self, number):
+        """Returns one more, who edits."""
+        self.writer(number).begin()
         return self.people[-1]
 
     def run(self, seconds):
@@ -186,6 +204,10 @@ class Trial:
             self.write(lambda: disturbing.done())
         counts = disturbing.result()
         taken = self.come_together()
+        self.leave()
+        late = self.person(WRITERS + 1)
+        self.come_together([late])
+        late.leave()
         self.compare()
         seen = sum((person.seen for person in self.people), collections.Counter())
         words = sum(len(person.words) for person in self.people)
@@ -235,54 +257,57 @@ class Trial:
 
     def note(self, what):
         """Takes note of what is done, and when."""
-        with open(self.folder / "done", "a") as done:
+        with open(self.engine.folder / "done", "a") as done:
             print(time.strftime("%H:%M:%S"), what, file=done)
 
     def logs(self):
         return [self.engine.log(person.number) for person in self.people] + self.engine.others()
 
-    def come_together(self):
+    def come_together(self, people=None):
         """Waits until all logs have the same; returns how many seconds that took."""
         begun = time.monotonic()
-        await_that(f"one text: {self.folder}", lambda: len({ask(self.mgr, log, "claims") for log in self.logs()}) == 1, TOGETHER)
-        for person in self.people:
-            person.terminal.expect(f"writer {person.number} is live", lambda: state_of(person.terminal), "live", seconds=PATIENCE)
+        await_that(f"one text: {self.engine.folder}", lambda: len({ask(self.mgr, log, "claims") for log in self.logs()}) == 1, TOGETHER)
+        for person in people or self.people:
+            person.live()
         return time.monotonic() - begun
 
-    def compare(self):
-        """All leave, and have one text, which has all words; so has one who joins then."""
+    def leave(self):
         for person in self.people:
             person.leave()
+
+    def settle(self):
+        """All come together, and leave; returns their text."""
+        self.come_together()
+        self.leave()
+        return self.compare()
+
+    def compare(self):
+        """All have one text, which has all words; returns it."""
         text = ask(self.mgr, self.logs()[0], "show").decode()
         made = operations_of(self.logs()[0].read_bytes().splitlines())
-        expect("how many characters there are", len(made), len(text))
         # Another one may write in the middle of a word of which a half has come.
         typed = collections.defaultdict(str)
-        for (_, _, replica), value in sorted(made.items()):
-            typed[replica] += value[0]
+        for (kind, _, replica), value in sorted(made.items()):
+            typed[replica] += value[0] if kind == INSERTED else ""
         there = {word for each in typed.values() for word in each.split()}
+        expect("how many characters there are", sum(map(len, typed.values())), len(text))
         expect("the words that are lost", [], sorted({word for person in self.people for word in person.words} - there))
-        self.join_late()
         for log in self.logs():
             expect(f"the text of {log}", text, ask(self.mgr, log, "show").decode())
-            expect(f"the file {log.with_suffix('')}", text, log.with_suffix("").read_text())
             expect(f"what waits in {log}", 0, json.loads(ask(self.mgr, log, "log", "--json"))["waiting"])
-        expect("what was put aside", [], self.put_aside())
         for person in self.people:
             expect(f"what {person.number} saw", set(), person.seen.keys() - {"joining", "live", "alone"})
         self.engine.end()
+        for log in self.logs():
+            expect(f"the file {log.with_suffix('')}", text, log.with_suffix("").read_text())
+        expect("what was put aside", [], self.put_aside())
+        return text
 
     def put_aside(self):
         """Returns what stands beside the notes, but where somebody was asked."""
         asked = [self.engine.log(person.number).parent for person in self.people if person.counts["asked"]]
         beside = [path for log in self.logs() for path in log.parent.glob("note*") if path.suffix not in ("", ".ops")]
         return [str(path) for path in beside if path.parent not in asked]
-
-    def join_late(self):
-        """One who has nothing joins."""
-        first, late = self.logs()[0], self.person(WRITERS + 1)
-        await_that("one who joins has the text", lambda: late.ask("claims") == ask(self.mgr, first, "claims"), TOGETHER)
-        late.leave()
 
 
 def expect(what, wanted, seen):
@@ -308,7 +333,9 @@ def main():
             if lacks := ENGINES[name].lacks():
                 print(f"    left out: {lacks}")
                 continue
-            Trial(os.path.abspath(asked.mgr), name, asked, server).run(asked.seconds)
+            chance = random.Random(f"{asked.seed} {name}")
+            engine = ENGINES[name](os.path.abspath(asked.mgr), FOLDER / name, chance, asked.away)
+            Trial(server, engine).run(asked.seconds)
     finally:
         server.end()
         stop_all()
