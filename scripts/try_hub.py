@@ -11,6 +11,7 @@ import random
 import shutil
 import subprocess
 import sys
+import time
 
 from engines import HUB, SharedHub, await_that, fail, stop_all
 from terminal import ROOT, Server, text_of
@@ -120,6 +121,31 @@ def another_note(server, mgr):
         print(f"{letter}: {seen}")
 
 
+def restored(server, mgr):
+    """one is killed, and the own log is put back to an older state: while the hub is there, and while it is not"""
+    for is_away in (False, True):
+        trial = begin(server, mgr, f"restored-{is_away}")
+        hub, bob = trial.engine.hub, trial.person(BY_PORT)
+        bob.live()
+        bob.write("one ")
+        await_that("it is passed on", lambda: "one" in (hub.folder / "note").read_text())
+        shutil.copy(bob.folder / "note.ops", bob.folder / "older")
+        bob.write("two ")
+        await_that("it is passed on", lambda: "two" in (hub.folder / "note").read_text())
+        bob.kill()
+        if is_away:
+            hub.end()
+        shutil.copy(bob.folder / "older", bob.folder / "note.ops")
+        bob.begin()
+        bob.write("three ")
+        if is_away:
+            alone(bob)
+            time.sleep(1)
+            hub.begin()
+        bob.live()
+        print(f"with the hub {'away' if is_away else 'there'}: {trial.settle()!r}")
+
+
 def conflict(server, mgr):
     """two copies that were written in under one number"""
     trial = begin(server, mgr, "conflict")
@@ -150,7 +176,7 @@ def conflict(server, mgr):
         fail("what was typed after the conflict is not in the note")
 
 
-PARTS = {part.__name__: part for part in (away_at_the_start, taken_back, a_plain_text, another_note, conflict)}
+PARTS = {part.__name__: part for part in (away_at_the_start, taken_back, a_plain_text, another_note, restored, conflict)}
 
 
 def main():
