@@ -41,8 +41,9 @@ CLOCK = "".join(glob.glob("/usr/lib/*/faketime/libfaketime.so.1")[:1])
 
 
 def state_of(terminal):
-    """Returns what the mode line of a terminal ends in."""
-    return terminal.shown()[-2].rstrip().rsplit("- ", 1)[-1]
+    """Returns what the mode line of a terminal ends in, without who is where."""
+    said = terminal.shown()[-2].rstrip().rsplit("- ", 1)[-1]
+    return "live" if said.startswith("live: ") else said
 
 
 class Person:
