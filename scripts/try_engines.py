@@ -19,6 +19,7 @@ import random
 import shutil
 import signal
 import subprocess
+import sys
 import threading
 import time
 
@@ -328,6 +329,7 @@ def main():
         parser.error(f"engines are {', '.join(ENGINES)}")
     shutil.rmtree(FOLDER, ignore_errors=True)
     server = Server()
+    signal.signal(signal.SIGTERM, lambda *_: sys.exit("ended"))
     try:
         for name in asked.engines or ENGINES:
             print(f"{name}: {ENGINES[name].__doc__}" + "; no faketime" * (not CLOCK), flush=True)

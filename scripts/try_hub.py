@@ -9,6 +9,7 @@ test waits for it.
 import os
 import random
 import shutil
+import signal
 import subprocess
 import sys
 import time
@@ -184,6 +185,7 @@ def main():
         sys.exit(f"usage: try_hub.py MGR [PART..], where PART is one of {', '.join(PARTS)}")
     shutil.rmtree(FOLDER, ignore_errors=True)
     server = Server()
+    signal.signal(signal.SIGTERM, lambda *_: sys.exit("ended"))
     try:
         for name in sys.argv[2:] or PARTS:
             print(f"\n{name}: {PARTS[name].__doc__}", flush=True)
