@@ -11,6 +11,7 @@ are by the clock: what else the processors did is told at each part's end.
 
 import argparse
 import fcntl
+import importlib.util
 import json
 import os
 import pathlib
@@ -31,10 +32,12 @@ import time
 ROOT = pathlib.Path(__file__).resolve().parent.parent
 sys.path.insert(0, str(ROOT / "scripts"))
 
+from engines import start, stop_all  # noqa: E402
 from line import Line  # noqa: E402
 from play.peers import HOST, free_port  # noqa: E402
 
 FOLDER = ROOT / "build" / "bench" / "live"
+LIVE = [sys.executable, ROOT / "front" / "mgr-live"]
 SIZES = (1_000, 100_000, 900_000)
 WRITERS, KEYS, EACH, IDLE = 4, 300, 0.1, 60.0
 ROWS, COLUMNS = 30, 100
@@ -246,8 +249,8 @@ class Hub:
         (self.folder / "note").write_text(text_of(size))
         self.port = free_port()
         words = {"MGR": mgr, "XDG_STATE_HOME": str(self.folder / "state")}
-        command = [ROOT / "front" / "mgr-hub", "note", "--port", str(self.port), "--replica", "9"]
-        self.process = subprocess.Popen(command, cwd=self.folder, env=os.environ | words, stdout=subprocess.PIPE)
+        command = [sys.executable, ROOT / "front" / "mgr-hub", "note", "--port", str(self.port), "--replica", "9"]
+        self.process = start(command, cwd=self.folder, env=os.environ | words, stdout=subprocess.PIPE)
         self.process.stdout.readline()
         self.screens, self.lines, self.joined = [], [], []
 
@@ -259,7 +262,7 @@ class Hub:
             self.screens.append(front(self.mgr, number, f"{port}"))
             await_all(self.screens[-1:], FIRST_LINE)
             self.joined.append(1000 * (time.monotonic() - begun))
-            await_all(self.screens[-1:], b" live ")
+            await_all(self.screens[-1:], b" live")
         at_lines(self.screens)
         return self.screens
 
@@ -280,7 +283,7 @@ class Hub:
 
 def front(mgr, number, address):
     words = ["note", *(["--with", address] if address else []), "--replica", str(number)]
-    return Screen([ROOT / "front" / "mgr-live", *words], FOLDER / str(number), MGR=mgr)
+    return Screen([*LIVE, *words], FOLDER / str(number), MGR=mgr)
 
 
 def at_lines(screens):
@@ -298,6 +301,11 @@ def together(screens, signs, median, count):
     own, others = without_pause(screens, signs[count:], count)
     row("no pause, to the own screen", own, 2, None, 50)
     row("no pause, to the three others", others, median, 150)
+
+
+def usual(asked):
+    """Returns the size of a note where one is enough."""
+    return min(SIZES[1], asked.largest)
 
 
 def sizes(asked):
@@ -318,7 +326,7 @@ def hub(asked):
 
 def flood(asked):
     """own keys, while a peer of the hub sends as much as it can"""
-    served = Hub(asked.mgr, 100_000)
+    served = Hub(asked.mgr, usual(asked))
     screens = served.join(1)
     stop = threading.Event()
     flooding = threading.Thread(target=_flood, args=(served.port, stop))
@@ -344,7 +352,7 @@ def _flood(port, stop):
 
 def quiet(asked):
     """four who do nothing for a minute, and then type ten keys a second each"""
-    served = Hub(asked.mgr, 100_000, True)
+    served = Hub(asked.mgr, usual(asked), True)
     screens = served.join()
     rest(screens, 5)
     _spent(served, "idle", lambda: rest(screens, asked.idle), 0.1, None, None)
@@ -378,7 +386,7 @@ def _spent(served, name, act, part, front_bytes, hub_bytes):
 
 def paste(asked):
     """50,000 characters pasted, and taken back by one C-_"""
-    served = Hub(asked.mgr, 100_000)
+    served = Hub(asked.mgr, usual(asked))
     screens = served.join(2)
     lines = "".join(f"{i:6} pasted line of the text\n" for i in range(50_000 // 32))
     took, back = [], []
@@ -403,12 +411,15 @@ def redis(asked):
     """four by a stream of Redis"""
     if lacks("redis-server"):
         return
+    if not importlib.util.find_spec("redis"):
+        print("    left out: python3-redis is not installed")
+        return
     shutil.rmtree(FOLDER, ignore_errors=True)
     (FOLDER / "redis").mkdir(parents=True)
     port = free_port()
     words = ["--port", str(port), "--bind", HOST, "--dir", FOLDER / "redis", "--save", "", "--appendonly", "yes", "--appendfsync", "always"]
-    server = subprocess.Popen(["redis-server", *words], stdout=subprocess.DEVNULL)
-    screens = begin_all(asked.mgr, f"redis://{HOST}:{port}/note")
+    server = start(["redis-server", *words], stdout=subprocess.DEVNULL)
+    screens = begin_all(asked, f"redis://{HOST}:{port}/note")
     together(screens, WIDE, 50, asked.keys)
     end_all(screens)
     server.terminate()
@@ -420,7 +431,7 @@ def git(asked):
     shutil.rmtree(FOLDER, ignore_errors=True)
     FOLDER.mkdir(parents=True)
     subprocess.run(["git", "init", "--quiet", "--bare", FOLDER / "note.git"], check=True)
-    screens = begin_all(asked.mgr, f"git:{FOLDER / 'note.git'}#notes")
+    screens = begin_all(asked, f"git:{FOLDER / 'note.git'}#notes")
     rest(screens, 31)
     took = []
     for i in range(4):
@@ -432,15 +443,17 @@ def git(asked):
     end_all(screens)
 
 
-def begin_all(mgr, address):
-    """Begins four; the first one brings the note."""
+def begin_all(asked, address):
+    """Begins four; the first one brings the note, by a key: a plain text is nobody's before."""
     (FOLDER / "1").mkdir()
-    (FOLDER / "1" / "note").write_text(text_of(100_000))
+    (FOLDER / "1" / "note").write_text(text_of(usual(asked)))
     screens = []
     for number in range(1, WRITERS + 1):
-        screens.append(front(mgr, number, address))
+        screens.append(front(asked.mgr, number, address))
         await_all(screens[-1:], FIRST_LINE, all_screens=screens)
-        await_all(screens[-1:], b" live ", all_screens=screens)
+        await_all(screens[-1:], b" live", all_screens=screens)
+        screens[-1].press(b"x\x7f" * (number == 1))
+        rest(screens, 1)
     at_lines(screens)
     return screens
 
@@ -517,7 +530,7 @@ def one_emacs(asked):
         return
     shutil.rmtree(FOLDER, ignore_errors=True)
     (FOLDER / "1").mkdir(parents=True)
-    (FOLDER / "1" / "note").write_text(text_of(100_000))
+    (FOLDER / "1" / "note").write_text(text_of(usual(asked)))
     place = FOLDER / "socket"
     subprocess.run(["emacs", "-Q", f"--daemon={place}", "--eval", f"(progn {QUIET})"], check=True, capture_output=True)
     screens = [Screen(["emacsclient", "-nw", "-s", place, FOLDER / "1" / "note"], FOLDER / str(number)) for number in range(1, WRITERS + 1)]
@@ -533,7 +546,7 @@ def one_tmux(asked):
         return
     shutil.rmtree(FOLDER, ignore_errors=True)
     (FOLDER / "1").mkdir(parents=True)
-    (FOLDER / "1" / "note").write_text(text_of(100_000))
+    (FOLDER / "1" / "note").write_text(text_of(usual(asked)))
     name = ["tmux", "-u", "-L", f"bench-{os.getpid()}", "-f", "/dev/null"]
     size = ["-x", str(COLUMNS), "-y", str(ROWS)]
     subprocess.run([*name, "new-session", "-d", *size, "mg", FOLDER / "1" / "note"], check=True)
@@ -548,9 +561,9 @@ def one_tmux(asked):
 
 def alone(asked):
     """own keys of one who writes alone"""
-    text = text_of(100_000)
+    text = text_of(usual(asked))
     for name, command, signs in (
-        ("mgr-live", [ROOT / "front" / "mgr-live", "note", "--replica", "1"], WIDE),
+        ("mgr-live", [*LIVE, "note", "--replica", "1"], WIDE),
         ("mg", ["mg", "note"], NARROW),
         ("emacs -nw -Q", ["emacs", "-nw", "-Q", "--eval", f"(progn {QUIET})", "note"], WIDE),
     ):
@@ -581,11 +594,14 @@ def main():
     if not set(asked.parts) <= set(PARTS):
         parser.error(f"parts are {', '.join(PARTS)}")
     asked.mgr = os.path.abspath(asked.mgr)
-    for name in asked.parts or PARTS:
-        print(f"{name}: {PARTS[name].__doc__}", flush=True)
-        load = Load()
-        PARTS[name](asked)
-        load.tell()
+    try:
+        for name in asked.parts or PARTS:
+            print(f"{name}: {PARTS[name].__doc__}", flush=True)
+            load = Load()
+            PARTS[name](asked)
+            load.tell()
+    finally:
+        stop_all()
 
 
 if __name__ == "__main__":
