@@ -267,8 +267,7 @@ class Hub:
         return self.screens
 
     def end(self):
-        for screen in self.screens:
-            screen.end()
+        end_all(self.screens)
         self.process.terminate()
         self.process.wait()
         texts = {(FOLDER / name / "note").read_text() for name in ("hub", *(str(i + 1) for i in range(len(self.screens))))}
@@ -339,15 +338,18 @@ def flood(asked):
 
 
 def _flood(port, stop):
-    """Inserts characters under the number 77, as fast as they are taken."""
+    """Inserts characters under the number 77, as fast as they are taken, and reads what comes."""
     with socket.create_connection((HOST, port)) as link:
         link.sendall(b'{"op":"hello","version":1,"replica":77,"name":"flood","token":"f"}\n')
-        threading.Thread(target=lambda: [None for _ in iter(lambda: link.recv(65536), b"")], daemon=True).start()
-        counter = 1_000_000
-        while not stop.is_set() and counter < 1_400_000:
+        for counter in range(1_000_000, 1_400_000, 100):
             lines = [{"char": "x", "id": [counter + i, 77], "op": "ins", "parent": [0, 0]} for i in range(100)]
-            link.sendall(b"".join(json.dumps(line, separators=(",", ":")).encode() + b"\n" for line in lines))
-            counter += 100
+            given = b"".join(json.dumps(line, separators=(",", ":")).encode() + b"\n" for line in lines)
+            while given and not stop.is_set():
+                ready, free, _ = select.select([link], [link], [], 0.1)
+                if ready:
+                    link.recv(65536)
+                if free:
+                    given = given[link.send(given, socket.MSG_DONTWAIT) :]
 
 
 def quiet(asked):
@@ -459,6 +461,10 @@ def begin_all(asked, address):
 
 
 def end_all(screens):
+    """Has all leave, once nothing is shown any more."""
+    shown = None
+    while shown != (shown := [len(screen.shown) for screen in screens]):
+        rest(screens, 4)
     for screen in screens:
         screen.end()
 
