@@ -77,23 +77,19 @@ def taken_back(server, mgr):
 def a_plain_text(server, mgr):
     """who joins with a plain text is asked, too"""
     trial = begin(server, mgr, "plain", "theirs\n")
-    bob = asked(trial, "mine\n")
+    bob = trial.writer(BY_PORT)
+    (bob.folder / "note").write_text("mine\n")
+    asked(bob)
     answer(bob, "f")
     bob.write("x")
     bob.terminal.expect("both", lambda: sorted(row for row in bob.terminal.shown()[:-2] if row), ["theirs", "xmine"])
     print(f"fused: {trial.settle()!r}")
 
 
-def asked(trial, text=None):
-    """Returns one who joins with this text, and is asked what becomes of it."""
-    home = trial.engine.home(BY_PORT)
-    home.mkdir(exist_ok=True)
-    if text:
-        (home / "note").write_text(text)
-    bob = trial.writer(BY_PORT)
-    bob.start()
-    bob.terminal.expect("the question", lambda: "t, f or q?" in bob.terminal.shown(), True, seconds=60)
-    return bob
+def asked(person):
+    """Has one join who is asked what becomes of a note."""
+    person.start()
+    person.terminal.expect("the question", lambda: "t, f or q?" in person.terminal.shown(), True, seconds=60)
 
 
 def answer(person, letter):
@@ -106,11 +102,11 @@ def answer(person, letter):
 def another_note(server, mgr):
     """a wrong port: one is asked, and nothing is fused"""
     trial = begin(server, mgr, "another", THEIRS)
-    home = trial.engine.home(BY_PORT)
-    home.mkdir()
+    bob = trial.writer(BY_PORT)
+    home = bob.folder
     edited(trial, home, 7, MINE)
     for letter, texts in (("q", {"note": MINE}), ("t", {"note": THEIRS, "note~": MINE})):
-        bob = asked(trial)
+        asked(bob)
         print("\n".join("    | " + row for row in bob.terminal.shown()[:8] if row))
         answer(bob, letter)
         if letter == "t":
