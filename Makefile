@@ -19,7 +19,7 @@ NEED_RT = command -v rt >/dev/null || { \
 
 NEED_PYTHON = command -v python3 >/dev/null || { echo "python3 is not installed" >&2; exit 1; }
 
-.PHONY: build try scenes test-front try-live try-hub try-exchange try-sharing try-engines crash hostile files test wrong-bodies other-store contracts bench bench-growth bench-live install clean help
+.PHONY: build try scenes test-front try-live try-hub try-exchange try-sharing try-engines crash hostile files test gate wrong-bodies other-store contracts bench bench-growth bench-live install clean help
 
 build: build/mgr
 	@echo "build/mgr is up to date"
@@ -81,10 +81,15 @@ hostile: build/mgr
 files: build/mgr
 	@scripts/files.py build/mgr
 
-# The gate's last line is the verdict, so nothing may follow it.
+# The last line is the verdict, so nothing may follow it.
 test:
 	@$(NEED_RT); $(NEED_PYTHON)
 	@scripts/documents.py && exec scripts/gate.py
+
+# The same, and the named wrong bodies.
+gate:
+	@$(NEED_RT); $(NEED_PYTHON)
+	@scripts/documents.py && exec scripts/gate.py --wrong-bodies
 
 # What one does with mgr, and what is to be seen of it: all, or those of one file.
 scenes: build/mgr
@@ -163,10 +168,11 @@ help:
 	@echo "               (needs python3 and tmux; sshd; git; redis-server and python3-redis; faketime: what is not there is said)"
 	@echo "make test      looks up each name in the documents, proves all that the kit does not have as proved, runs every"
 	@echo "               test and plays every scene; the last line counts all (needs python3)"
+	@echo "make gate      the same, and tries the wrong bodies of the gate: each must be refused (needs python3)"
 	@echo "make scenes    plays the scenes with the mgr that make built; those of one file: make scenes FILE=scenes/.."
 	@echo "               (needs python3)"
 	@echo "make wrong-bodies"
-	@echo "               tries the wrong bodies that make test leaves out: each must be refused (needs python3)"
+	@echo "               tries the wrong bodies that the gate leaves out: each must be refused (needs python3)"
 	@echo "make other-store"
 	@echo "               runs the tests of documents, buffers and sites over the other store, unproved (needs python3)"
 	@echo "make contracts prints each public call with its clauses, from the sources; of one call, with the definitions that"

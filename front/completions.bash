@@ -44,7 +44,7 @@ _mgr() {
     fi
     case ${1##*/} in
         mgr-live)
-            _mgr_word "$word" --replica --fill --port --with --as --adopt --take-file --keep-file --version --help
+            _mgr_word "$word" --replica --fill --port --with --as --no-colour --adopt --take-file --keep-file --trim --version --help
             ;;
         mgr-hub)
             _mgr_word "$word" --port --join --replica --version --help

@@ -24,20 +24,26 @@ LEFT_OUT = shutil.ignore_patterns("out", "must-fail", "wrong")
 TOLD = re.compile(r"rt: (\w+ (?:is kept|proved|NOT PROVED))")
 
 
+def listed():
+    """Returns each line of crates.txt by its crate."""
+    lines = [line.partition("#")[0].strip() for line in (TOP / "crates.txt").read_text().splitlines()]
+    return {line.partition(":")[0].split()[0]: line for line in lines if line}
+
+
 def lines_below(name):
     """Returns the lines of crates.txt of a crate and of those below it, each by its crate."""
-    lines = [line.partition("#")[0].strip() for line in (TOP / "crates.txt").read_text().splitlines()]
-    listed = {line.partition(":")[0].split()[0]: line for line in lines if line}
+    all_lines = listed()
     found, left = {}, [name]
     while left:
         crate = left.pop()
-        if crate in listed and crate not in found:
-            found[crate] = listed[crate]
-            left += listed[crate].partition(":")[2].split()
+        if crate in all_lines and crate not in found:
+            found[crate] = all_lines[crate]
+            left += all_lines[crate].partition(":")[2].split()
     return found
 
 
 def copy(lines, to):
+    """Makes a tree of the crates of these lines, without wrong bodies and what runs left."""
     to.mkdir()
     (to / "crates.txt").write_text("".join(f"{line}\n" for line in lines.values()))
     shutil.copy(TOP / "HANDLES", to)

@@ -7,6 +7,7 @@ from mgr_front.bindings import CONTROL_SIGN
 from mgr_front.errands import Errand
 from mgr_front.keys import DELETE, RETURN
 from mgr_front.statuses import COMMAND, FIND, KILL, SWITCH
+from mgr_front.who import WHO
 
 # The commands that M-x takes.
 COMMANDS = """
@@ -33,7 +34,7 @@ def expanded(name: str) -> str:
 def candidates(label: str, answer: str, buffers: Iterable[str]) -> list[str]:
     """Returns what an answer to this prompt may become, in order."""
     if label == COMMAND:
-        names: Iterable[str] = COMMANDS
+        names: Iterable[str] = [*COMMANDS, WHO]
     elif label == FIND:
         names = _notes(answer)
     else:

@@ -13,6 +13,8 @@ from functools import partial
 from typing import Any
 
 from mgr_front import meeting
+from mgr_front.channels import Apart
+from mgr_front.channels.presence import ALIVE, place_of
 from mgr_front.copies import Copy, digest
 from mgr_front.editor import Editor
 from mgr_front.guests import take_back
@@ -20,20 +22,18 @@ from mgr_front.mailbox import Mailbox
 from mgr_front.notes import KeptFiles, Note, Refused
 from mgr_front.opening import differ, mend
 from mgr_front.options import HubOptions, read_hub
-from mgr_front.peers import Peer, listener_at
+from mgr_front.peers import MOVE, Peer
 from mgr_front.program import edit, explained, find, log_of, shell_status
 from mgr_front.saving import REST, SAVE
 from mgr_front.saying import FAILED, stop, tell
 from mgr_front.screen import write_all
-from mgr_front.shared import SharedNote
+from mgr_front.shared import SharedNote, text_of
 from mgr_front.signals import Signals
 from mgr_front.statuses import Status
-from mgr_front.wire import ALIVE, VERSION, Broken, claims_said, with_ends
+from mgr_front.wire import VERSION, Broken, claims_said
 
 PROGRAM = "mgr-hub"
 ROWS = 3
-# So many bytes are given to mgr at once, of one peer after another.
-MOST_GIVEN = 16384
 MOST_PEERS = 200
 # Seconds between two savings, and until mgr is said to save at the end.
 REST_AFTER, PATIENCE = 1.0, 5.0
@@ -64,16 +64,17 @@ class Hub:
             self._step()
         for peer in self.peers.values():
             peer.link.close()
-        while any(peer.lines for peer in self.peers.values()):
-            self._feed(MOST_GIVEN)
 
     def _step(self) -> None:
-        """Waits for what is ready, and does that; nobody is waited for."""
-        heard = [number for number, peer in self.peers.items() if peer.is_heard]
+        """Waits for what is ready, and does that; nobody is waited for.
+
+        A block is read of each peer once mgr has answered all blocks before.
+        """
+        heard = [number for number, peer in self.peers.items() if peer.is_heard and self.editor.is_answered]
         reading = [self.signals.woken, self.editor.written, self.answers.woken, *self.listeners, *heard]
         writing = [number for number, peer in self.peers.items() if peer.has_more]
         writing += [self.editor.keys] * bool(self.editor.waiting)
-        ready, free, _ = select.select(reading, writing, [], self._patience())
+        ready, free, _ = select.select(reading, writing, [], REST_AFTER if self.unsaved or self.peers else ALIVE)
         if self.editor.keys in free:
             self.editor.write()
         if self.editor.written in ready:
@@ -89,10 +90,6 @@ class Hub:
                 self._serve(peer, number in ready, number in free)
         self._work()
 
-    def _patience(self) -> float:
-        """Returns after how many seconds something is to be done, whatever happens."""
-        return REST_AFTER if self.unsaved or self.peers else ALIVE
-
     def _accept(self, listener: socket.socket) -> None:
         link, _ = listener.accept()
         if len(self.peers) < MOST_PEERS:
@@ -105,8 +102,9 @@ class Hub:
         try:
             if is_free:
                 peer.write()
-            for told in peer.take() if is_ready and not peer.is_cut else ():
-                self._hear(peer, told)
+            for came in peer.take() if is_ready else ():
+                if not peer.is_cut:
+                    self._hear(peer, came)
             if peer.is_behind:
                 peer.drop()
             peer.check(time.monotonic())
@@ -115,19 +113,30 @@ class Hub:
         except OSError as error:
             self._drop(peer, str(error.strerror or error))
 
+    def _others(self, peer: Peer) -> list[Peer]:
+        return [other for other in self.peers.values() if other is not peer and other.is_known]
+
     def _drop(self, peer: Peer, why: str) -> None:
-        """Leaves a peer. What came of it whole is still taken."""
+        """Leaves a peer."""
         del self.peers[peer.reading]
         peer.link.close()
+        for other in self._others(peer) if peer.is_known else ():
+            other.say("leave", replica=peer.replica)
         if peer.is_known and (peer.is_leaving or not peer.is_cut):
             log(f"{peer.title} left" + f": {why}" * (why != "" and not peer.is_leaving))
-        while peer.lines:
-            self._give(peer)
 
-    def _hear(self, peer: Peer, told: dict[str, Any]) -> None:
-        """Does what a peer asks for."""
+    def _hear(self, peer: Peer, told: dict[str, Any] | bytes) -> None:
+        """Does what a peer asks for; gives mgr its operations."""
+        now = time.monotonic()
         if not peer.is_known:
             self._greet(peer, told)
+        elif isinstance(told, bytes):
+            self.given.append((self.editor.report(told), peer, told))
+            peer.unanswered += 1
+        elif (place := place_of(told)) and now > peer.moved + MOVE:
+            peer.moved = now
+            for other in self._others(peer):
+                other.say("place", replica=peer.replica, name=peer.name, place=place)
         elif told["op"] == "claims":
             claims = peer.take_claims(told)
             if claims is not None:
@@ -137,40 +146,42 @@ class Hub:
         elif told["op"] == "refused":
             log(f"{peer.title}: {CONFLICT if 'Conflict' in str(told.get('why')) else 'it has another note'}")
 
-    def _greet(self, peer: Peer, told: dict[str, Any]) -> None:
+    def _greet(self, peer: Peer, told: dict[str, Any] | bytes) -> None:
         """Lets a peer in, unless somebody else has its number, and gives it what is not in the log yet."""
         try:
-            if told["op"] != "hello":
+            if isinstance(told, bytes) or told["op"] != "hello":
                 raise Broken("no hello")
             peer.greet(told)
-            for other in list(self.peers.values()):
-                if other is not peer and other.replica == peer.replica and other.token == peer.token:
+            for other in self._others(peer):
+                if other.replica == peer.replica and other.token == peer.token:
                     self._drop(other, "it joins again")
-            others = [other.replica for other in self.peers.values() if other is not peer]
-            if peer.replica in (*others, self.note.replica):
+            if peer.replica in (self.note.replica, *[other.replica for other in self._others(peer)]):
                 raise Broken(f"the number {peer.replica} is in use by somebody who writes now")
         except Broken as broken:
             peer.replica = 0
             peer.cut("refused", str(broken))
             return
         peer.say("hello", version=VERSION)
-        peer.pass_on(self.unsaved)
+        peer.pass_on(text_of(self.unsaved))
         log(f"{peer.title} joined")
 
     def _look(self, look: Callable[[], Any], then: Callable[[Any], None]) -> None:
         """Looks at the log in a program, and does something with what comes of it: nobody waits for that."""
 
         def work() -> None:
-            found = look()
-            self.answers.post(lambda: then(found))
+            try:
+                found = look()
+                self.answers.post(lambda: then(found))
+            except (Apart, OSError) as fault:
+                log(f"the log was not read: {fault}")
 
         self.pool.submit(work)
 
-    def _missing(self, claims: bytes) -> list[bytes]:
+    def _missing(self, claims: bytes) -> bytes:
         """Returns what somebody with these claims lacks of the log, and then what that has, in short."""
-        return [*with_ends(self.note.missing(claims)), *claims_said(self.note.claims())]
+        return text_of(self.note.missing(claims)) + claims_said(self.note.claims())
 
-    def _answer(self, peer: Peer, lines: list[bytes]) -> None:
+    def _answer(self, peer: Peer, lines: bytes) -> None:
         if self.peers.get(peer.reading) is peer:
             peer.answer(lines)
 
@@ -183,10 +194,9 @@ class Hub:
             if fault:
                 self._refuse(peer, fault)
             else:
-                self.unsaved.append(line + b"\n")
-                for other in self.peers.values():
-                    if other is not peer and other.is_known:
-                        other.pass_on([line + b"\n"])
+                self.unsaved.append(line)
+                for other in self._others(peer):
+                    other.pass_on(line + b"\n")
         if self.saving and status.reports >= self.saving[0] and not status.more:
             fails, self.fails = self.fails, status.saved != "ok"
             if self.fails and not fails:
@@ -208,30 +218,16 @@ class Hub:
         else:
             peer.cut("refused", f"the hub did not take a line: {fault}")
 
-    def _give(self, peer: Peer) -> int:
-        """Gives mgr the next operation of a peer, and returns how many bytes that has."""
-        line = peer.next_line()
-        self.given.append((self.editor.report(line), peer, line))
-        return len(line)
-
-    def _feed(self, room: int) -> None:
-        """Gives mgr some of what came, of each peer in turn."""
-        while room > 0 and (peers := [peer for peer in self.peers.values() if peer.lines]):
-            for peer in peers:
-                room -= self._give(peer)
-
     def _work(self) -> None:
         """Goes on with what waits, and saves and gives signs of life from time to time."""
         now = time.monotonic()
-        if self.editor.is_answered:
-            self._feed(MOST_GIVEN)
         if self.unsaved and not self.saving and now > self.rested + REST_AFTER:
             self.rested, self.saving = now, (self.editor.report(REST), len(self.unsaved))
         if now > self.signed + ALIVE and self.peers:
             self.signed = now
             self._look(self.note.claims, self._sign)
         for peer in self.peers.values():
-            if peer.is_leaving and not (peer.lines or peer.unanswered or peer.is_cut):
+            if peer.is_leaving and not (peer.unanswered or peer.is_cut):
                 peer.cut("bye", "")
 
     def _sign(self, claims: bytes) -> None:
@@ -256,7 +252,7 @@ def serve(mgr: str, note: Note, number: int, port: int | None) -> int:
     listeners: list[socket.socket] = []
     with tempfile.TemporaryFile() as said:
         try:
-            listeners = [listener_at(port)] if port else []
+            listeners = [socket.create_server((meeting.HOST, port), backlog=meeting.BACKLOG)] if port else []
         except OSError as error:
             stop(f"port {port}: {os.strerror(error.errno or 0)}", FAILED, PROGRAM)
         editor = Editor(mgr, ["--replica", str(number), "--", note.name], ROWS, said)

@@ -5,42 +5,43 @@ import subprocess
 import time
 
 from mgr_front.asking import choice
-from mgr_front.channels import Channel, Post
-from mgr_front.channels.choice import ENGINES, channel_of
-from mgr_front.channels.hub import Hub, Way, by_note, by_port, by_ssh
+from mgr_front.channels import Post, shown
+from mgr_front.channels.folder import Folder
+from mgr_front.channels.git import GitBranch
+from mgr_front.channels.hub import Hub, by_note, by_port, by_ssh
+from mgr_front.channels.redis import RedisStream
+from mgr_front.channels.worker import Worker
 from mgr_front.company import Company
 from mgr_front.copies import user
 from mgr_front.notes import read
 from mgr_front.opening import Opening
-from mgr_front.options import HOSTS, PORTS, Options
+from mgr_front.options import FOLDER, GIT, HOSTS, PORTS, Options
 from mgr_front.saying import REFUSED, stop, tell
-from mgr_front.shared import SharedNote
+from mgr_front.shared import MANY, SharedNote, text_of
 
 # Seconds for which an edit waits for others before it begins alone, and for what comes of a hub that is there;
 # ssh may ask for a word, and ends by itself.
 PATIENCE, COMING, SSH = 2.0, 30.0, 600.0
-MOST_NAME = 32
-# More lines than these are merged before the edit begins: a live session takes them one by one.
-MANY = 500
 # So much of a line is shown.
 SHOWN = 60
 
 
-def way_to(options: Options) -> Way:
-    """Returns the way to a hub: the one of this machine that has the note, if no other is named."""
+def channel(options: Options, note: SharedNote, post: Post) -> Worker:
+    """Returns the channel that the command line asks for: the hub of this machine that has the note, if none is named.
+
+    `Refused` says what it lacks.
+    """
     kind, rest = options.address or ("", options.name)
+    person = options.person or user()
+    if kind == GIT:
+        return GitBranch(note, post, rest, options.person)
+    if kind == FOLDER:
+        return Folder(note, post, rest)
     if kind == PORTS:
-        return by_port(int(rest))
-    host, _, path = rest.partition(":")
-    return by_ssh(host, path) if kind == HOSTS else by_note(rest)
-
-
-def channel(options: Options, note: SharedNote, post: Post) -> Channel:
-    """Returns the channel that the command line asks for."""
-    if options.address and options.address[0] in ENGINES:
-        return channel_of(options.address, note, post, note.mgr, options.person)
-    name = "".join(sign if sign.isprintable() else "?" for sign in options.person or user())
-    return Hub(note, post, way_to(options), name[:MOST_NAME])
+        return Hub(note, post, by_port(int(rest)), person)
+    if kind == HOSTS:
+        return Hub(note, post, by_ssh(*rest.split(":", 1)), person)
+    return RedisStream(note, post, f"{kind}:{rest}", person) if kind else Hub(note, post, by_note(rest), person)
 
 
 def meet(opening: Opening) -> Company | None:
@@ -78,7 +79,7 @@ def _wait(company: Company, seconds: float) -> None:
 def _settle(opening: Opening, note: SharedNote) -> None:
     """Asks what becomes of a note if others have another one."""
     name = opening.note.name
-    theirs, mine = (_first_line(note, given) for given in (b"\n".join(note.refused) + b"\n", None))
+    theirs, mine = (_first_line(note, given) for given in (text_of(note.refused), None))
     asked = (
         f"{name} and what the others have are two notes: they share nothing.\n"
         f"here:  {mine}\nthere: {theirs}\n"
@@ -100,6 +101,4 @@ def _first_line(note: SharedNote, log: bytes | None) -> str:
     text = subprocess.run(command, input=log, capture_output=True).stdout
     if log is None and not note.note.has_log:
         text = read(note.name)
-    line = text.decode("utf-8", "replace").strip().split("\n")[0]
-    return "".join(sign if sign.isprintable() else "?" for sign in line)[:SHOWN]
-
+    return shown(text.decode("utf-8", "replace").strip().split("\n")[0], SHOWN)

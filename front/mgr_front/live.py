@@ -5,6 +5,8 @@ import signal
 import tempfile
 from collections.abc import Sequence
 
+from mgr_front.channels import Apart
+from mgr_front.channels.stream import trim
 from mgr_front.company import Company
 from mgr_front.editor import LEAST_ROWS, MOST_ROWS, Editor
 from mgr_front.ending import finish
@@ -13,7 +15,7 @@ from mgr_front.joining import meet
 from mgr_front.meeting import is_served
 from mgr_front.notes import Note, Refused
 from mgr_front.opening import Opening
-from mgr_front.options import Options, read as read_options
+from mgr_front.options import REDIS, SECURE_REDIS, Options, read as read_options
 from mgr_front.program import explained, find, shell_status
 from mgr_front.saying import stop, tell
 from mgr_front.screen import Screen
@@ -21,6 +23,8 @@ from mgr_front.session import Session
 from mgr_front.signals import Signals
 
 LEAST_COLUMNS = 20
+# The status of a wrong command line.
+WRONG = 2
 
 
 def terminal_rows() -> int:
@@ -57,6 +61,7 @@ def edit(opening: Opening, company: Company | None, signals: Signals) -> int:
         editor = Editor(opening.mgr, words_for_mgr(options, note, opening.number), rows, said)
         session = Session(editor, screen, signals, options.port, company)
         session.names = note.name, options.name
+        session.has_colours = not (options.is_plain or os.environ.get("NO_COLOR"))
         session.greeting = "; ".join(opening.remarks)
         session.changed.append(opening.keep_number)
         try:
@@ -88,6 +93,16 @@ def edit_as_guest(mgr: str, options: Options) -> int:
     return begin(mgr, guest_of(options.name), options, True)
 
 
+def trim_stream(mgr: str, options: Options) -> int:
+    """Has the stream of Redis hold one content in few lines, and returns the status."""
+    kind, rest = options.address or ("", "")
+    if kind not in (REDIS, SECURE_REDIS):
+        raise Refused("--trim goes with --with redis://HOST/KEY", WRONG)
+    before, after = trim(f"{kind}:{rest}", mgr)
+    tell(f"the stream had {before:,} bytes of lines, and has {after:,}")
+    return 0
+
+
 def main(words: Sequence[str], folder: str) -> int:
     """Edits as the command line says, and returns the status; `folder` is where mgr-live stands."""
     options = read_options(words)
@@ -95,8 +110,10 @@ def main(words: Sequence[str], folder: str) -> int:
     mgr = find(folder)
     if mgr is None:
         stop(f"the program {os.environ.get('MGR') or 'mgr'} is not there")
-    terminal_rows()
     try:
+        if options.trims:
+            return trim_stream(mgr, options)
+        terminal_rows()
         if not (options.address or options.port) and is_served(note.name):
             return edit_as_guest(mgr, options)
         if said := take_back(mgr, note):
@@ -104,5 +121,7 @@ def main(words: Sequence[str], folder: str) -> int:
         return begin(mgr, note, options, options.address is not None)
     except Refused as refused:
         stop(str(refused), refused.status)
+    except Apart as apart:
+        stop(str(apart))
     except OSError as error:
         stop(f"{error.filename or note.name}: {error.strerror}")

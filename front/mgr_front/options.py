@@ -4,7 +4,6 @@ import argparse
 from collections.abc import Callable, Sequence
 
 from mgr_front import VERSION
-from mgr_front.channels.choice import ENGINES
 
 DESCRIPTION = "Edits a note on a terminal, by `mgr edit`, with the keys of mg(1)."
 EPILOG = (
@@ -34,6 +33,8 @@ class Options(argparse.Namespace):
     # The way to others, by its kind and what follows, if there is one.
     address: tuple[str, str] | None
     person: str
+    is_plain: bool
+    trims: bool
     adopts: bool
     takes_file: bool
     keeps_file: bool
@@ -60,6 +61,9 @@ PORT = whole_number(1, 65535)
 
 
 PORTS, HOSTS = "port", "host"
+# The words before the colon of a way that is no hub's.
+GIT, FOLDER, REDIS, SECURE_REDIS = "git", "dir", "redis", "rediss"
+ENGINES = (GIT, FOLDER, REDIS, SECURE_REDIS)
 
 
 def way(word: str) -> tuple[str, str]:
@@ -100,6 +104,8 @@ def parser() -> argparse.ArgumentParser:
         "git:REPOSITORY#BRANCH, dir:FOLDER, redis://HOST/KEY, rediss://HOST/KEY",
     )
     made.add_argument("--as", dest="person", metavar="NAME", default="", help="a name for others; else the login's")
+    made.add_argument("--no-colour", dest="is_plain", action="store_true", help="show others without colours")
+    made.add_argument("--trim", dest="trims", action="store_true", help="only have the stream of Redis hold few lines")
     made.add_argument("--adopt", dest="adopts", action="store_true", help="join with another note: both become one")
     choice = made.add_mutually_exclusive_group()
     choice.add_argument(

@@ -8,6 +8,7 @@ import time
 from collections.abc import Callable, Sequence
 from dataclasses import replace
 
+from mgr_front import who
 from mgr_front.cells import row_width
 from mgr_front.company import Company
 from mgr_front.completion import accept, asks_for_name, begins_at_home, complete
@@ -23,8 +24,9 @@ from mgr_front.remarks import Remarks
 from mgr_front.saving import EXCHANGE, REST, SERVE, Buffers
 from mgr_front.screen import Screen
 from mgr_front.signals import Signals
-from mgr_front.statuses import Status
-from mgr_front.view import picture
+from mgr_front.statuses import COMMAND, Status
+from mgr_front.view import Mark, picture
+from mgr_front.who import WHO
 
 # Seconds until what may be the beginning of a longer key counts as keys of its own, as ESC does.
 PATIENCE = 0.05
@@ -80,9 +82,10 @@ class Session:
         # What the front says in place of mgr's message; the remarks and the status that were drawn last,
         # and when.
         self.said: str | None = None
-        self.drawn: tuple[list[str], str] = [], ""
+        self.drawn: tuple[list[str], str, list[Mark]] = [], "", []
         self.painted = -math.inf
         self.is_stale = self.rings = self.is_ending = False
+        self.has_colours = True
         # Whether a wait for a peer is to be ended.
         self.breaks_off = False
         # When a key was typed, when mgr was given or told something, when all was saved, and by which report.
@@ -135,7 +138,7 @@ class Session:
     def _patience(self) -> float | None:
         """Returns after how many seconds something is to be done, whatever happens."""
         now = time.monotonic()
-        dues = [self._rest_due(), self.remarks.patience(now)]
+        dues = [self._rest_due(), self.remarks.patience(now), self.company.patience(now) if self.company else None]
         seconds = [max(0.0, due) for due in dues if due is not None]
         seconds += [PATIENCE] * self.keys.is_in_doubt + [KNOCK] * self.breaks_off + [PICTURE] * self.is_stale
         return min(seconds, default=None)
@@ -170,6 +173,8 @@ class Session:
     def _take_keys(self) -> bool:
         sent = os.read(0, BLOCK)
         self.typed = time.monotonic()
+        if self.company:
+            self.company.press()
         try:
             strokes = self.keys.take(sent)
             if CANCEL in sent:
@@ -258,13 +263,17 @@ class Session:
             self.remarks.hold(self.company.said, math.inf)
             self.company.said = ""
         remarks, status = self.remarks.at(now), self.company.shown() if self.company else ""
-        is_drawn = not self.is_stale and (remarks, status) == self.drawn
+        marks = self.company.marks(self.editor.status, self.has_colours) if self.company else []
+        is_drawn = not self.is_stale and (remarks, status, marks) == self.drawn
         if not self.editor.status.frame or is_drawn or self.errand or self._draws_later(now):
             return
         columns, rows = os.get_terminal_size(1)
-        self.screen.draw(picture(self._shown(), self._echo(remarks), rows, columns, status), self.rings)
+        if isinstance(self.question, who.Page):
+            self.screen.draw(self.question.picture(rows, columns))
+        else:
+            self.screen.draw(picture(self._shown(), self._echo(remarks), rows, columns, status, marks), self.rings)
         self.is_stale = self.rings = False
-        self.drawn = remarks, status
+        self.drawn = remarks, status, marks
         self.painted = now
 
     def _draws_later(self, now: float) -> bool:
@@ -338,7 +347,11 @@ class Session:
     def accept(self) -> None:
         """Accepts the answer of the open prompt."""
         status = self.editor.status
-        if begins_at_home(status.label, status.answer):
+        if (status.label, status.answer) == (COMMAND, WHO):
+            self.rest()
+            names = self.company.names if self.company else {}
+            self.start(who.show(self.editor.program, status.buffer, names, self.has_colours, self.ask))
+        elif begins_at_home(status.label, status.answer):
             self.start(accept(status.answer))
         else:
             self.editor.hand_on(bytes([RETURN]))

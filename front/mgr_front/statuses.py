@@ -41,6 +41,11 @@ class Status:
     # Own operations that are saved, as lines; the faults of reports, by the numbers of these.
     operations: tuple[bytes, ...] = ()
     refused: Mapping[int, str] = field(default_factory=dict)
+    # Whether the current buffer is the live one; where its point is, as line, column, counter and replica.
+    is_live: bool = True
+    point: tuple[int, ...] = (0, 0, 0, 0)
+    # Of places of others in the live buffer that show: counter, replica, row and column.
+    places: tuple[tuple[int, ...], ...] = ()
 
     @property
     def mode_rows(self) -> list[int]:
@@ -102,5 +107,8 @@ def _status(frame: tuple[str, ...], operations: tuple[bytes, ...], told: dict[st
         is_changed=buffer["changed"],
         operations=operations,
         refused=dict(told["refused"]),
+        is_live=buffer["name"] == (told["live"] or {}).get("name"),
+        point=tuple(told["point"]),
+        places=tuple(map(tuple, told["places"])),
         **{name: told[name] for name in KEPT},
     )

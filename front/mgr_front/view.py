@@ -1,9 +1,10 @@
 """What a terminal of some size shows of a frame."""
 
 import functools
+from collections.abc import Sequence
 from dataclasses import dataclass
 
-from mgr_front.cells import Cell, beginning, cells, part, shift, total_width
+from mgr_front.cells import BLANK, Cell, beginning, cells, part, shift, total_width
 from mgr_front.echo import Echo
 from mgr_front.statuses import Status
 
@@ -11,6 +12,30 @@ from mgr_front.statuses import Status
 MOST_LINES = 1024
 # Of a terminal that has less than this a part is drawn beyond its edges.
 LEAST_FRAME_ROWS, LEAST_COLUMNS = 2, 4
+LEAST_NOTE = 20
+
+
+# What ends a colour; how many colours writers have.
+RESET = "\x1b[m"
+COLOURS = 6
+
+
+@dataclass(frozen=True)
+class Mark:
+    """What is shown of another writer, and how: a letter at a place, if nothing stands there, or what stands before it."""
+
+    row: int
+    column: int
+    style: str
+    letter: str = ""
+
+
+def style(replica: int, has_colours: bool, is_text: bool = False) -> str:
+    """Returns what a terminal is sent before what is shown of a writer: of its point, or of its text."""
+    colour = replica % COLOURS + 1
+    if not has_colours:
+        return "\x1b[4m" if is_text else "\x1b[7m"
+    return f"\x1b[3{colour}m" if is_text else f"\x1b[30;4{colour}m"
 
 
 @dataclass(frozen=True)
@@ -30,8 +55,10 @@ class Picture:
     column: int
 
 
-def picture(status: Status, echo: Echo, rows: int, columns: int, note: str = "") -> Picture:
-    """Returns what shows of a frame, with this echo line.
+def picture(
+    status: Status, echo: Echo, rows: int, columns: int, note: str = "", marks: Sequence[Mark] = ()
+) -> Picture:
+    """Returns what shows of a frame, with this echo line and these marks.
 
     The row of the cursor is shifted sideways so that the cursor shows. Where the terminal has fewer
     rows than the frame, the echo line, the rows round the cursor and the mode line of its window
@@ -43,7 +70,10 @@ def picture(status: Status, echo: Echo, rows: int, columns: int, note: str = "")
     if echo.column is not None:
         row, column = len(frame) - 1, echo.column
     left = shift(column, columns)
-    lines = [_line(text, left if i == row else 0, columns) for i, text in enumerate((*frame[:-1], echo.text))]
+    lines = [
+        _line(text, left if i == row else 0, columns, tuple(mark for mark in marks if mark.row == i))
+        for i, text in enumerate((*frame[:-1], echo.text))
+    ]
     for i in status.mode_rows:
         lines[i] = _mode_line(frame[i], columns, note if i == current else "")
     if len(lines) > rows:
@@ -62,11 +92,27 @@ def _cut(lines: list[Line], row: int, mode: int, rows: int) -> tuple[list[Line],
 
 
 @functools.lru_cache(maxsize=MOST_LINES)
-def _line(text: str, left: int, columns: int) -> Line:
-    return Line(part(cells(text), left, columns))
+def _line(text: str, left: int, columns: int, marks: tuple[Mark, ...] = ()) -> Line:
+    row = cells(text)
+    for mark in marks:
+        _put(mark, row)
+    return Line(part(row, left, columns))
+
+
+def _put(mark: Mark, row: list[Cell]) -> None:
+    """Shows a mark in a row."""
+    end = 0
+    for i, (signs, width) in enumerate(row):
+        end += width
+        if mark.column < end if mark.letter else mark.column == end:
+            # No character of the text is hidden.
+            row[i] = f"{mark.style}{mark.letter if mark.letter and signs == ' ' else signs}{RESET}", width
+            return
+    if mark.letter:
+        row += [BLANK] * (mark.column - end) + [(f"{mark.style}{mark.letter}{RESET}", 1)]
 
 
 def _mode_line(text: str, columns: int, note: str) -> Line:
-    """A mode line, cut to the columns, with the note at its end."""
-    end = cells(f" {note} ") if note else []
+    """A mode line, cut to the columns, with the note at its end, of which most is left out that has no room."""
+    end = beginning(cells(f" {note} "), max(LEAST_NOTE, columns * 2 // 3)) if note else []
     return Line(beginning(cells(text), max(0, columns - total_width(end))) + end, True)

@@ -7,18 +7,18 @@ import json
 import os
 import re
 import time
-from collections import deque
-from collections.abc import Iterable, Iterator, Sequence
+from collections.abc import Iterable, Iterator
 from typing import Any
 
 VERSION = 1
 # No line is longer; claims of more come in several.
 LONGEST, PIECE = 65536, 16384
-BLOCK = 65536
+# So many bytes are read or written at once.
+BLOCK = 16384
 # So many bytes of claims at most, and so many that wait for a peer beside what it asked for.
 MOST_CLAIMS, MOST_WAITING = 1 << 23, 1 << 20
-# Seconds: that a peer may say nothing, that it may take nothing, and between two signs of life.
-SILENCE, STUCK, ALIVE = 150.0, 20.0, 60.0
+# Seconds: that a peer may say nothing, that it may take nothing.
+SILENCE, STUCK = 150.0, 20.0
 
 _TEXT = rb'"[^"\\]*(?:\\.[^"\\]*)*"'
 _ID = rb"\[\d{1,16},\d{1,5}\]"
@@ -35,8 +35,13 @@ class Broken(OSError):
 
 
 def is_operation(line: bytes) -> bool:
-    """Whether a line is an operation: nothing else of others is told mgr as a report."""
+    """Whether a line is an operation: nothing else of others is told mgr as a report, which would press keys, say."""
     return bool(OPERATION.fullmatch(line)) and len(line) <= LONGEST
+
+
+def operations(lines: Iterable[bytes]) -> list[bytes]:
+    """Returns those lines that are operations."""
+    return [line for line in lines if is_operation(line)]
 
 
 def said(op: str, **members: Any) -> bytes:
@@ -55,12 +60,11 @@ def saying(line: bytes) -> dict[str, Any] | None:
         raise Broken("a line that is neither an operation nor anything else") from None
 
 
-def claims_said(claims: bytes) -> Iterator[bytes]:
-    """Yields the lines that give claims."""
+def claims_said(claims: bytes) -> bytes:
+    """Returns the lines that give claims."""
     text = claims.decode("ascii", "replace")
-    for place in range(0, len(text) or 1, PIECE):
-        more = place + PIECE < len(text)
-        yield said("claims", text=text[place : place + PIECE], more=more)
+    places = range(0, len(text) or 1, PIECE)
+    return b"".join(said("claims", text=text[at : at + PIECE], more=at + PIECE < len(text)) for at in places)
 
 
 class Wire:
@@ -72,35 +76,29 @@ class Wire:
         os.set_blocking(writing, False)
         self.begun = b""
         self.claims = ""
-        # What waits, and what follows it once there is room: it was asked for, and may be long.
-        self.waiting, self.coming, self.late = bytearray(), deque[bytes](), 0
+        # What waits, and how many of its bytes were asked for, and may be many.
+        self.waiting, self.asked = bytearray(), 0
         # When something was read, and when something was written or nothing waited; how many bytes were read.
         self.heard = self.written = self.begun_at = time.monotonic()
         self.total = 0
 
     @property
     def has_more(self) -> bool:
-        return bool(self.waiting or self.coming)
+        return bool(self.waiting)
 
     def say(self, op: str, **members: Any) -> None:
-        self.pass_on([said(op, **members)])
+        self.pass_on(said(op, **members))
 
-    def pass_on(self, lines: Iterable[bytes]) -> None:
-        """Has these lines wait, each with its newline: after all that was asked for, if that is not written yet."""
-        if not self.has_more:
+    def pass_on(self, lines: bytes) -> None:
+        """Has whole lines wait."""
+        if not self.waiting:
             self.written = time.monotonic()
-        block = b"".join(lines)
-        if self.coming:
-            self.coming.append(block)
-            self.late += len(block)
-        else:
-            self.waiting += block
+        self.waiting += lines
 
-    def answer(self, lines: Iterable[bytes]) -> None:
+    def answer(self, lines: bytes) -> None:
         """Has lines wait that were asked for, however many."""
-        if not self.has_more:
-            self.written = time.monotonic()
-        self.coming.extend(lines)
+        self.pass_on(lines)
+        self.asked += len(lines)
 
     def read(self) -> list[bytes]:
         """Returns the lines that came, without newlines; the end is `Broken`."""
@@ -117,35 +115,40 @@ class Wire:
             raise Broken("a line that is too long")
         return lines
 
+    def take(self) -> Iterator[dict[str, Any] | bytes]:
+        """Reads what came, and yields what is said, and operations; anything else is `Broken`."""
+        for line in self.read():
+            told = saying(line)
+            if told is None and not is_operation(line):
+                raise Broken("a line that is no operation")
+            yield line if told is None else told
+
     def write(self) -> None:
-        """Writes as much as is taken now."""
-        while self.coming and len(self.waiting) < BLOCK:
-            self.waiting += self.coming.popleft()
-        if not self.coming:
-            self.late = 0
+        """Writes as much as is taken now. What was asked for counts as written first."""
         try:
-            del self.waiting[: os.write(self.writing, self.waiting[:BLOCK])]
-            self.written = time.monotonic()
+            count = os.write(self.writing, self.waiting[:BLOCK])
         except BlockingIOError:
-            pass
+            return
+        del self.waiting[:count]
+        self.asked = max(0, self.asked - count)
+        self.written = time.monotonic()
 
     @property
     def is_behind(self) -> bool:
         """Whether more waits than is kept for one that takes it slowly."""
-        return max(len(self.waiting), self.late) > MOST_WAITING
+        return len(self.waiting) - self.asked > MOST_WAITING
 
     def drop(self) -> None:
         """Forgets what waits, but for a line that was begun: the other end asks for it once it has taken that."""
         del self.waiting[self.waiting.find(b"\n") + 1 :]
-        self.coming.clear()
-        self.late = 0
+        self.asked = 0
         self.say("behind")
 
     def check(self, now: float) -> None:
         """A peer that says or takes nothing for too long is `Broken`."""
         if now > self.heard + SILENCE:
             raise Broken("nothing was heard")
-        if self.has_more and now > self.written + STUCK:
+        if self.waiting and now > self.written + STUCK:
             raise Broken("nothing is taken")
 
     def take_claims(self, told: dict[str, Any]) -> bytes | None:
@@ -158,8 +161,3 @@ class Wire:
             return None
         claims, self.claims = self.claims, ""
         return claims.encode("ascii", "replace")
-
-
-def with_ends(lines: Sequence[bytes]) -> list[bytes]:
-    """Returns lines with their newlines."""
-    return [line + b"\n" for line in lines]

@@ -8,6 +8,7 @@ import json
 import os
 import pathlib
 import sys
+from collections.abc import Callable
 from typing import Any
 
 HEAD, END = '{"op":"claims","version":1}', '"op":"end"'
@@ -69,6 +70,14 @@ def join(*paths: str) -> None:
     write(sorted(found))
 
 
+def merge(name: str, *_: str) -> None:
+    """Tries a merge: one with no tie to the log is another note's."""
+    known = [read(line) for line in lines_of(log(name))]
+    ids = [told["id"] for told in known]
+    if not any(told["id"] in ids or told.get("parent") in ids for told in map(read, lines_of("-"))):
+        sys.exit("-: a log of another note, which --adopt takes")
+
+
 def mend(name: str) -> None:
     path = pathlib.Path(log(name))
     lines = path.read_bytes().splitlines()
@@ -86,7 +95,7 @@ def main() -> None:
     command, *words = sys.argv[1:]
     if command != "show" and words[-1] != "-" and not os.path.exists(log(words[-1])) and command != "join":
         sys.exit(3)
-    jobs = {"claims": claims, "missing": missing, "join": join, "mend": mend, "show": show}
+    jobs: dict[str, Callable[..., None]] = {"claims": claims, "missing": missing, "join": join, "merge": merge, "mend": mend, "show": show}
     jobs[command](*[word for word in words if word != "--"])
 
 

@@ -1,8 +1,8 @@
 """A program that takes the place of mgr: it knows text, saving, one buffer, and a command that serves.
 
 It answers each block of keys by a status, and by a second one with an operation where a text was typed
-in it. With `silent` for a name it serves for ever; with `faulty` it serves nobody. A save keeps what another program has written. Of reports it knows sizes, rests and operations,
-which it adds to a log at once; those of replica 13 are conflicts. The end of the keys is a save, which takes
+in it. With `silent` for a name it serves for ever; with `faulty` it serves nobody. A save keeps what another program has written. Of reports it knows sizes, rests, places, whose columns
+are their counters, and operations, which it adds to a log at once; those of replica 13 are conflicts. The end of the keys is a save, which takes
 long with `slow` for a name.
 
 `claims`, `missing` and `merge` look at the lines of a log alone. One with replica 99 is another note's.
@@ -34,6 +34,7 @@ class Live:
         self.asks = self.is_typed = False
         self.refused: list[list[object]] = []
         self.end = "none"
+        self.places: list[list[int]] = []
         # What came of a report, up to its end.
         self.report: bytes | None = None
 
@@ -43,7 +44,7 @@ class Live:
         buffer = BUFFER | {"changed": self.is_changed, "name": self.name}
         prompt = {"mode": "prompt", "prompt": {"answer": self.answer, "label": "M-x "}} if self.asks else {}
         said = {"begun": bool(self.begun), "message": self.message, "cursor": [0, len(self.text)]}
-        said |= {"refused": self.refused, "saved": self.end}
+        said |= {"refused": self.refused, "saved": self.end, "places": self.places}
         frame = [self.text, *[""] * (self.rows - 3), f"----Mg: {self.name} (fundamental)", self.message] if not operations else []
         os.write(1, written(frame, operations, buffer=buffer, live=buffer, **counts, **prompt, **said))
 
@@ -68,6 +69,8 @@ class Live:
         elif told["op"] == "rest":
             self.save()
             self.message = ""
+        elif told["op"] == "places":
+            self.places = [[*place, 0, place[0]] for place in told["places"]]
         elif told["id"][1] == 13:
             self.refused.append([self.reports, "Conflict"])
         else:

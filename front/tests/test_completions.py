@@ -38,7 +38,7 @@ class TestCompletions(unittest.TestCase):
         self.assertEqual(completed("mgr-hub", "note", "--"), options_of(hub_parser()))
         told = {f"--{name}" for name in re.findall(r"Fl -(\w+)", MANUAL.read_text())}
         self.assertEqual(completed("/usr/bin/mgr", "edit", "note", "--"), sorted(told - {"--adopt", "--dels", "--json", "--lines"} | {"--help"}))
-        self.assertEqual(completed("mgr-live", "--t"), ["--take-file"])
+        self.assertEqual(completed("mgr-live", "--ta"), ["--take-file"])
 
     def test_jobs(self) -> None:
         self.assertEqual(completed("mgr", "e"), ["edit"])

@@ -31,21 +31,11 @@ class TestFolder(WithWriters):
         self.addCleanup(sooner.stop)
 
     def make(self, writer: Writer) -> Folder:
-        return Folder(writer, writer.post, writer.mgr, str(self.shared))
+        return Folder(writer, writer.post, str(self.shared))
 
     def own(self, writer: Writer) -> str:
         assert isinstance(writer.channel, Folder)
         return str(self.shared / writer.channel.own)
-
-    def pair(self) -> tuple[Writer, Writer]:
-        one = self.begin(1, self.make, "a")
-        self.wait("live", one.word)
-        other = self.begin(2, self.make)
-        self.wait("live", other.word)
-        other.type("b")
-        self.wait("ab", one.signs)
-        self.wait("ab", other.signs)
-        return one, other
 
     def test_two_who_write(self) -> None:
         one, other = self.pair()

@@ -10,8 +10,7 @@ from unittest import mock
 from writers import WithWriters, Writer
 
 from mgr_front.channels import State, git
-from mgr_front.channels.clone import fault_of
-from mgr_front.channels.git import GitBranch, Pace
+from mgr_front.channels.git import GitBranch, Pace, fault_of
 
 QUICK = Pace(commits=0.3, soon=0.1, later=0.2, lively=60)
 IDENTITY = {"GIT_CONFIG_GLOBAL": os.devnull, "GIT_CONFIG_NOSYSTEM": "1"}
@@ -54,16 +53,7 @@ class TestGit(WithWriters):
 
     def make(self, writer: Writer, pace: Pace = QUICK) -> GitBranch:
         name = f"Writer {writer.replica}"
-        return GitBranch(writer, writer.post, writer.mgr, str(self.shared), self.branch, name, pace)
-
-    def pair(self) -> tuple[Writer, Writer]:
-        one = self.begin(1, self.make, "a")
-        self.wait("live", one.word)
-        other = self.begin(2, self.make)
-        self.wait("a", other.signs)
-        other.type("b")
-        self.wait("ab", one.signs)
-        return one, other
+        return GitBranch(writer, writer.post, f"{self.shared}#{self.branch}", name, pace)
 
     def tip(self) -> str:
         return self.git("show", f"{self.branch}:note.ops")

@@ -10,13 +10,13 @@ import tempfile
 import threading
 import time
 import unittest
-from collections.abc import Callable
+from collections.abc import Callable, Mapping
 from unittest import mock
 
 from context import TESTS, InFolder
 
 from mgr_front import hub, meeting
-from mgr_front.channels import Event, State, Took
+from mgr_front.channels import Event, Present, State, Took
 from mgr_front.channels.hub import Hub as Channel
 from mgr_front.channels.hub import Way, by_note, by_port
 from mgr_front.editor import Editor
@@ -69,7 +69,7 @@ class Hubs(InFolder):
             listener.close()
         meeting.leave(self.path)
 
-    def expect(self, look: Callable[[], object], wanted: object, seconds: float = 10) -> None:
+    def expect(self, look: Callable[[], object], wanted: object, seconds: float = 60) -> None:
         """Waits until what is looked at is what is wanted."""
         until = time.monotonic() + seconds
         while (seen := look()) != wanted:
@@ -113,6 +113,9 @@ class Writer:
 
     def why(self) -> str:
         return [event.why for event in self.events if isinstance(event, State)][-1]
+
+    def who(self) -> Mapping[int, object]:
+        return [event.who for event in self.events if isinstance(event, Present)][-1]
 
     def lines(self) -> set[bytes]:
         return set(pathlib.Path(self.note.log).read_bytes().splitlines())
@@ -169,6 +172,20 @@ class TestWriters(Hubs):
         self.assertEqual(len(self.log()), 1999)
         self.expect(lambda: self.printed, ["alice (1) joined", "alice (1) left"])
 
+    def test_who_is_where(self) -> None:
+        # It comes without anything else that is to be done.
+        self.open.enter_context(mock.patch("mgr_front.channels.hub.LOOK", 600))
+        alice, bob = self.join("alice", 1), self.join("bob", 2)
+        alice.channel.show_place((4, 1, 2))
+        self.expect(lambda: bob.who().get(1), ("alice", (4, 1, 2)))
+        carol = self.join("carol", 3)
+        self.expect(carol.who, {1: ("alice", (4, 1, 2)), 2: ("bob", (0, 0, 0))})
+        self.assertTrue(alice.channel.close(60))
+        self.expect(bob.who, {3: ("carol", (0, 0, 0))})
+        self.end()
+        self.expect(bob.who, {})
+        self.begin()
+
     def test_a_number_in_use_is_refused(self) -> None:
         self.join("alice", 1)
         for replica in (1, 9):
@@ -198,7 +215,7 @@ class TestStrangers(Hubs):
     """Those who say something else: nobody waits for them."""
 
     def stranger(self, *said: bytes) -> socket.socket:
-        link = self.open.enter_context(socket.create_connection((meeting.HOST, self.port), 5))
+        link = self.open.enter_context(socket.create_connection((meeting.HOST, self.port), 60))
         link.sendall(b"".join(said))
         return link
 
@@ -228,6 +245,8 @@ class TestStrangers(Hubs):
 
     def test_others_do_not_wait_for_one_that_takes_nothing(self) -> None:
         slow = self.stranger(self.hello())
+        # Else the system takes more and more for it.
+        slow.setsockopt(socket.SOL_SOCKET, socket.SO_RCVBUF, 65536)
         alice, bob = (Writer(self, name, replica, by_note(self.path)) for name, replica in (("alice", 1), ("bob", 2)))
         for writer in (alice, bob):
             self.expect(writer.state, "live")
@@ -239,9 +258,11 @@ class TestStrangers(Hubs):
         while b'{"op":"behind"}\n' not in came:
             came += slow.recv(1 << 20)
         self.assertLess(len(came), 2_000_000)
+        for i in range(600, 1200):
+            alice.write(text % (1 + 4000 * i))
+        self.expect(lambda: len(bob.lines()), 1200)
+        # Nobody else has anything to take now.
         with mock.patch("mgr_front.wire.STUCK", 0.5):
-            for i in range(600, 1200):
-                alice.write(text % (1 + 4000 * i))
             self.expect(lambda: self.printed[-1:], ["eve (5) left: nothing is taken"])
 
     def test_one_that_floods_is_left(self) -> None:

@@ -3,20 +3,24 @@
 import os
 import pathlib
 import subprocess
+import sys
 import unittest
 from unittest import mock
 
 from context import InFolder
 
 from mgr_front import guests, joining
-from mgr_front.channels import State, Took
+from mgr_front.channels import Apart, State, Took, stream
+from mgr_front.channels.folder import Folder
+from mgr_front.channels.git import GitBranch
 from mgr_front.channels.hub import Hub
+from mgr_front.channels.redis import RedisStream
 from mgr_front.company import Company
 from mgr_front.joining import meet
-from mgr_front.notes import Note
+from mgr_front.notes import Note, Refused
 from mgr_front.opening import Opening
 from mgr_front.options import read
-from mgr_front.shared import SharedNote
+from mgr_front.shared import Others, SharedNote
 
 HEAD = b'{"op":"claims","version":1}\n'
 LINE = '{"char":"a","id":[1,%d],"op":"ins","parent":[0,0]}'
@@ -26,10 +30,13 @@ class TestShared(InFolder):
     def shared(self, name: str = "note", adopts: bool = False) -> SharedNote:
         return SharedNote(self.mgr, Note(str(self.folder / name)), 7, adopts)
 
+    def others(self, replica: int, claims: bytes = HEAD) -> Others:
+        return Others([(LINE % replica).encode()], claims)
+
     def test_without_a_log_there_is_nothing(self) -> None:
         note = self.shared()
         self.assertEqual((note.claims(), note.missing(b""), note.is_empty), (HEAD, [], True))
-        self.assertTrue(note.accepts([(LINE % 99).encode()]))
+        self.assertEqual(note.given(self.others(99), True), [])
 
     def test_what_is_missing(self) -> None:
         self.put(note_ops=f"{LINE % 1}\n{LINE % 2}\n")
@@ -38,15 +45,19 @@ class TestShared(InFolder):
         self.assertEqual(note.missing(HEAD + note.claims().splitlines(keepends=True)[1]), [(LINE % 2).encode()])
 
     def test_another_note_is_not_accepted(self) -> None:
-        lines = [(LINE % 99).encode()]
         self.put(note_ops=f"{LINE % 1}\n", text="a text without a log")
-        self.assertTrue(self.shared().accepts([(LINE % 2).encode()]))
-        self.assertTrue(self.shared(adopts=True).accepts(lines))
+        for note, others in (
+            (self.shared(), self.others(2)),
+            (self.shared(adopts=True), self.others(99)),
+            (self.shared(), self.others(99, self.shared().claims())),
+        ):
+            note.given(others, True)
         for name in ("note", "text"):
-            note = self.shared(name)
-            self.assertFalse(note.accepts(lines))
-            self.assertEqual(note.refused, tuple(lines))
-        self.assertTrue(self.shared().accepts(lines, self.shared().claims()))
+            note, others = self.shared(name), self.others(99)
+            with self.assertRaises(Apart) as caught:
+                note.given(others, True)
+            self.assertEqual((caught.exception.state.word, note.refused), ("refused", tuple(others.lines)))
+            note.given(others, False)
 
 
 class TestMeeting(InFolder):
@@ -105,12 +116,47 @@ class TestMeeting(InFolder):
         self.assertEqual((company, opening.options.adopts), (None, False))
         self.assertEqual((self.text("note~"), self.text("note~.ops"), opening.note.has_log), ("mine", "mine", False))
 
-    def test_the_channel_is_that_of_the_command_line(self) -> None:
-        note = SharedNote(self.mgr, Note(str(self.folder / "note")), 7)
-        for words in (["--with", "7000"], ["--with", "host:note", "--as", "A\x1b"], []):
-            made = joining.channel(read(["note", *words]), note, lambda event: None)
-            self.assertIsInstance(made, Hub)
-            self.assertNotIn("\x1b", made.name if isinstance(made, Hub) else "")
+
+class TestChannels(unittest.TestCase):
+    """Which channel a command line asks for."""
+
+    def made(self, *words: str) -> object:
+        note = SharedNote("mgr", Note("note"), 7)
+        return joining.channel(read(["note", *words]), note, lambda event: None)
+
+    def test_engines(self) -> None:
+        with mock.patch.object(stream, "library", mock.Mock()):
+            for word, made in (
+                ("7000", Hub),
+                ("host:note", Hub),
+                ("dir:/a", Folder),
+                ("git:a", GitBranch),
+                ("redis://a/b", RedisStream),
+                ("rediss://a/b", RedisStream),
+            ):
+                self.assertIs(type(self.made("--with", word)), made)
+        self.assertIs(type(self.made()), Hub)
+
+    def test_a_name(self) -> None:
+        made = self.made("--as", "A\x1b")
+        assert isinstance(made, Hub)
+        self.assertEqual(made.presence.name, "A?")
+
+    def test_a_branch(self) -> None:
+        cases = (("a#b", "a", "b"), ("a", "a", ""), ("ssh://host/a#b#c", "ssh://host/a", "b#c"), (".", os.getcwd(), ""))
+        for word, place, branch in cases:
+            made = self.made("--with", f"git:{word}")
+            assert isinstance(made, GitBranch)
+            self.assertEqual((made.url, made.branch), (place, branch))
+
+    def test_what_is_refused(self) -> None:
+        with mock.patch.object(stream, "library", mock.Mock()):
+            for word in ("redis://host", "redis://host/", "redis:///key", "redis:key"):
+                with self.assertRaises(Refused, msg=word):
+                    self.made("--with", word)
+        with mock.patch.dict(sys.modules, redis=None), self.assertRaises(Refused) as caught:
+            self.made("--with", "redis://a/b")
+        self.assertIn("python3-redis", str(caught.exception))
 
 
 class TestGuests(InFolder):

@@ -12,11 +12,9 @@ from unittest import mock
 
 from writers import WithWriters, Writer
 
-from mgr_front.channels import presence, redis
-from mgr_front.channels.logs import Logs
-from mgr_front.channels.presence import Presence, place_of, saying_of
+from mgr_front.channels import Apart, presence, redis, stream
 from mgr_front.channels.redis import RedisStream
-from mgr_front.channels.stream import blocks, library, trim
+from mgr_front.channels.stream import library, trim
 from mgr_front.notes import Refused
 
 HOST, SECRET = "127.0.0.1", "a word: @/"
@@ -30,35 +28,6 @@ def is_installed() -> bool:
     except Refused:
         return False
     return bool(shutil.which("redis-server"))
-
-
-class TestSayings(unittest.TestCase):
-    def test_what_says_nothing(self) -> None:
-        for data in (b"", b"x", b"[]", b'{"by":1}', b"{}", b"[" * 100_000, None):
-            self.assertIsNone(saying_of({"data": data}))
-        self.assertIsNone(saying_of(None))
-
-    def test_places(self) -> None:
-        self.assertEqual(place_of({"name": "A\x1b" + "b" * 40, "place": [1, 2]}), ("A?" + "b" * 30, (1, 2)))
-        for told in ({}, {"name": "A"}, {"name": 1, "place": [1, 2]}, {"name": "A", "place": [1]}, {"name": "A", "place": [1, True]}):
-            self.assertIsNone(place_of(told))
-
-    def test_who_is_there(self) -> None:
-        others = Presence("own")
-        others.take({"by": "a", "op": "place", "name": "A", "place": [1, 2]})
-        others.take({"by": "own", "op": "place", "name": "O", "place": [1, 2]})
-        others.take({"by": "b", "op": "sign", "name": "B", "place": [3, 4], "claims": "x"})
-        self.assertEqual(others.who(), {"a": ("A", (1, 2)), "b": ("B", (3, 4))})
-        self.assertEqual([others.differ("x"), others.differ("y")], [False, False])
-        others.take({"by": "a", "op": "leave"})
-        self.assertEqual(list(others.who()), ["b"])
-        with mock.patch.object(presence, "GONE", 0):
-            self.assertEqual(others.who(), {})
-
-    def test_blocks(self) -> None:
-        lines = [b"a" * 100_000, b"b" * 100_000, b"c" * 100_000, b"d" * 300_000, b"e"]
-        self.assertEqual([block[:1] + str(block.count(b"\n")).encode() for block in blocks(lines)], [b"a2", b"c1", b"d1", b"e1"])
-        self.assertEqual(b"".join(blocks(lines)).splitlines(), lines)
 
 
 @unittest.skipUnless(is_installed(), "redis-server or python3-redis is not installed")
@@ -92,17 +61,7 @@ class TestRedis(WithWriters):
         return library().Redis(HOST, self.port)
 
     def make(self, writer: Writer) -> RedisStream:
-        return RedisStream(writer, writer.post, writer.mgr, self.url, f"Writer {writer.replica}")
-
-    def pair(self) -> tuple[Writer, Writer]:
-        one = self.begin(1, self.make, "a")
-        self.wait("live", one.word)
-        other = self.begin(2, self.make)
-        self.wait("live", other.word)
-        other.type("b")
-        self.wait("ab", one.signs)
-        self.wait("ab", other.signs)
-        return one, other
+        return RedisStream(writer, writer.post, self.url, f"Writer {writer.replica}")
 
 
 class TestStream(TestRedis):
@@ -178,13 +137,13 @@ class TestStream(TestRedis):
 
     def test_somebody_writes_while_it_is_trimmed(self) -> None:
         self.pair()
-        joined = Logs.joined
+        joined = stream.joined
 
-        def slowly(logs: Logs, *given: Any) -> bytes:
+        def slowly(*given: Any) -> bytes:
             self.client().xadd("a/note", {"lines": LINE})
-            return joined(logs, *given)
+            return joined(*given)
 
-        with mock.patch.object(Logs, "joined", slowly):
+        with mock.patch.object(stream, "joined", slowly):
             trim(self.url, self.program)
         self.assertEqual(self.client().xlen("a/note"), 2)
         third = self.begin(3, self.make)
@@ -212,16 +171,15 @@ class TestStream(TestRedis):
     def test_who_is_where(self) -> None:
         one, other = self.pair()
         assert one.channel and other.channel
-        one.channel.show_place((1, 1))
-        self.wait([("Writer 1", (1, 1))], lambda: list(other.present[-1].who.values()) if other.present else [])
+        one.channel.show_place((1, 1, 1))
+        self.wait(("Writer 1", (1, 1, 1)), lambda: other.present[-1].who.get(1))
         third = self.begin(3, self.make)
-        wanted = [("Writer 1", (1, 1)), ("Writer 2", (0, 0))]
-        self.wait(wanted, lambda: sorted(third.present[-1].who.values()) if third.present else [])
+        self.wait({1: ("Writer 1", (1, 1, 1)), 2: ("Writer 2", (0, 0, 0))}, lambda: third.present[-1].who)
         self.close(one)
-        self.wait(["Writer 3"], lambda: [name for name, _ in other.present[-1].who.values()])
+        self.wait([3], lambda: list(other.present[-1].who))
 
     def test_where_claims_differ_all_is_compared(self) -> None:
-        with mock.patch.multiple(redis, SIGN=0.5, UNDER_WAY=0.0):
+        with mock.patch.object(presence, "ALIVE", 0.5), mock.patch.object(redis, "UNDER_WAY", 0.0):
             one, other = self.pair()
             # Something was lost between the channel and a log.
             made = LINE.strip().encode()
@@ -245,6 +203,8 @@ class TestStream(TestRedis):
         one = self.begin(1, self.make, "a")
         self.wait("alone", one.word)
         self.assertIn("refused", one.states[-1].why)
+        with self.assertRaises(Apart):
+            trim(self.url, self.program)
         self.begin_server()
         self.wait("live", one.word)
 

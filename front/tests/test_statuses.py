@@ -24,9 +24,13 @@ SAID = [
     ),
     (
         written(("x", "y"), 1, buffer=OTHER, cursor=[1, 13], keys=8, mode="prompt", prompt=PROMPT),
-        Status(("x", "y"), (1, 13), (1,), 8, 0, False, "prompt", "Find file: ", "no", "", "other", True, operations=(LINE,)),
+        Status(("x", "y"), (1, 13), (1,), 8, 0, False, "prompt", "Find file: ", "no", "", "other", True, operations=(LINE,), is_live=False),
     ),
-    (written(live=None), Status(("x", "y"), heights=(1,), buffer="note")),
+    (
+        written(places=[[4, 7, 0, 1]], point=[1, 2, 3, 7]),
+        Status(("x", "y"), heights=(1,), buffer="note", point=(1, 2, 3, 7), places=((4, 7, 0, 1),)),
+    ),
+    (written(live=None), Status(("x", "y"), heights=(1,), buffer="note", is_live=False)),
 ]
 
 

@@ -12,7 +12,7 @@ from mgr_front.cells import cells, total_width
 from mgr_front.echo import Echo, echo_line
 from mgr_front.screen import CLOSE, Screen, change, until_done
 from mgr_front.statuses import Status
-from mgr_front.view import Line, Picture, picture
+from mgr_front.view import Line, Mark, Picture, picture, style
 
 MODE = "----Mg: n (fundamental) L1 C0 W0".ljust(500, "-")
 
@@ -69,6 +69,31 @@ class TestPictures(unittest.TestCase):
         self.assertEqual([line.is_reverse for line in shown.lines], [False, True, False, True, False])
         self.assertEqual(texts(shown)[1], "----Mg: n (fundamental) L1 C0 W0-- live ")
         self.assertEqual(texts(shown)[3], MODE[:40])
+
+
+    def test_what_is_shown_of_others(self) -> None:
+        for text, marks, wanted in [
+            ("a c", [(1, "A")], "a<A>c"),
+            ("abc", [(1, "A")], "a<b>c"),
+            ("abc", [(3, "A")], "abc<A>"),
+            (" bc", [(5, "A"), (0, "B")], "<B>bc  <A>"),
+            ("a\u6f22c", [(2, "A")], "a<\u6f22>c"),
+            ("abc", [(2, ""), (3, "")], "a<b><c>"),
+            ("abc", [(0, ""), (9, "")], "abc"),
+            ("", [(0, "A")], "<A>"),
+        ]:
+            with self.subTest(text=text, marks=marks):
+                made = [Mark(0, column, "<", letter) for column, letter in marks]
+                shown = picture(Status((text, MODE, ""), (0, 0), (1,)), Echo(""), 3, 20, "", made)
+                self.assertEqual(texts(shown)[0].replace("\x1b[m", ">"), wanted)
+
+    def test_colours(self) -> None:
+        self.assertEqual([style(7, True), style(7, True, True)], ["\x1b[30;42m", "\x1b[32m"])
+        self.assertEqual([style(7, False), style(7, False, True)], ["\x1b[7m", "\x1b[4m"])
+
+    def test_a_mode_line_has_room_for_some_of_who_is_there(self) -> None:
+        shown = picture(Status(("a", MODE, ""), (0, 0), (1,)), Echo(""), 3, 60, "live: " + "Alice L12, " * 20)
+        self.assertEqual((len(shown.lines[1].cells), texts(shown)[1][:26]), (60, "----Mg: n (fundament live:"))
 
 
 class TestEchoLines(unittest.TestCase):

@@ -7,7 +7,7 @@ import unittest
 
 import context  # noqa: F401
 
-from mgr_front.wire import LONGEST, MOST_WAITING, SILENCE, STUCK, Broken, Wire, claims_said, is_operation, said, saying
+from mgr_front.wire import BLOCK, LONGEST, MOST_WAITING, SILENCE, STUCK, Broken, Wire, claims_said, is_operation, said, saying
 
 INSERTION = '{"char":"%s","id":[3,2],"op":"ins","parent":[1,1]}'
 
@@ -57,7 +57,8 @@ class TestWire(unittest.TestCase):
 
     def test_a_line_that_never_ends_and_an_end(self) -> None:
         self.far.send(b"x" * LONGEST)
-        self.wire.read()
+        for _ in range(LONGEST // BLOCK):
+            self.assertEqual(self.wire.read(), [])
         self.far.send(b"x")
         with self.assertRaises(Broken):
             self.wire.read()
@@ -68,7 +69,7 @@ class TestWire(unittest.TestCase):
     def test_claims_come_whole(self) -> None:
         for size in (0, 1, 16384, 100000):
             claims = os.urandom(size).hex().encode()
-            told = [saying(line) or {} for line in claims_said(claims)]
+            told = [saying(line) or {} for line in claims_said(claims).splitlines()]
             came = [self.wire.take_claims(each) for each in told]
             self.assertEqual(came, [*[None] * (len(told) - 1), claims])
 
@@ -80,29 +81,29 @@ class TestWire(unittest.TestCase):
     def test_who_takes_nothing_is_left(self) -> None:
         now = time.monotonic()
         self.wire.check(now + STUCK + 1)
-        self.wire.pass_on([b"x\n"])
+        self.wire.pass_on(b"x\n")
         with self.assertRaises(Broken):
             self.wire.check(now + STUCK + 1)
         with self.assertRaises(Broken):
             Wire(self.near.fileno(), self.near.fileno()).check(now + SILENCE + 1)
 
     def test_who_takes_it_slowly_is_told_to_ask_again(self) -> None:
-        lines = [b"x" * 1023 + b"\n"] * (MOST_WAITING // 1024 + 1)
+        lines = (b"x" * 1023 + b"\n") * (MOST_WAITING // 1024 + 1)
         self.wire.answer(lines)
         self.wire.write()
         self.assertFalse(self.wire.is_behind)
         self.wire.pass_on(lines)
         self.assertTrue(self.wire.is_behind)
         self.wire.drop()
-        self.assertEqual(self.wire.waiting, b'{"op":"behind"}\n')
+        self.assertEqual(self.wire.waiting, b"x" * 1023 + b'\n{"op":"behind"}\n')
         self.wire.pass_on(lines)
         del self.wire.waiting[:-2000]
         self.wire.drop()
         self.assertEqual(self.wire.waiting, b"x" * 975 + b'\n{"op":"behind"}\n')
 
     def test_all_is_written_in_order(self) -> None:
-        self.wire.answer([b"%d\n" % i for i in range(50000)])
-        self.wire.pass_on([b"last\n"])
+        self.wire.answer(b"".join(b"%d\n" % i for i in range(50000)))
+        self.wire.pass_on(b"last\n")
         came = b""
         while self.wire.has_more:
             self.wire.write()

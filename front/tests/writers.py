@@ -6,7 +6,6 @@ import os
 import pathlib
 import shutil
 import stat
-import subprocess
 import sys
 import threading
 import time
@@ -18,6 +17,8 @@ from context import TESTS, InFolder
 
 from mgr_front.channels import Event, Present, State, Took
 from mgr_front.channels.worker import Worker
+from mgr_front.notes import Note
+from mgr_front.shared import SharedNote
 
 SECONDS = 60.0
 # A built mgr, where there is one.
@@ -34,36 +35,18 @@ def program(folder: pathlib.Path) -> str:
     return str(path)
 
 
-class Writer:
+class Writer(SharedNote):
     """One who writes, as a note for a channel and as a front."""
 
     def __init__(self, mgr: str, folder: pathlib.Path, replica: int) -> None:
         folder.mkdir(exist_ok=True)
-        self.mgr, self.replica, self.name = mgr, replica, str(folder / "note")
-        self.log = self.name + ".ops"
-        self.text = self.name
-        self.adopts = False
+        super().__init__(mgr, Note(str(folder / "note")), replica)
         self.lock = threading.Lock()
         self.states: list[State] = []
         self.present: list[Present] = []
         self.channel: Worker | None = None
 
     # ---- what a channel calls
-
-    def claims(self) -> bytes:
-        return self.run("claims", self.name) if self.lines() else b""
-
-    def missing(self, claims: bytes) -> list[bytes]:
-        return self.run("missing", self.name, given=claims).splitlines() if self.lines() else []
-
-    def accepts(self, lines: Sequence[bytes], claims: bytes = b"") -> bool:
-        own = [json.loads(line)["id"] for line in self.lines()]
-        theirs = [json.loads(line) for line in lines]
-        is_tied = any(told["id"] in own or told.get("parent") in own for told in theirs)
-        return self.adopts or is_tied or not (lines and own)
-
-    def run(self, *words: str, given: bytes = b"") -> bytes:
-        return subprocess.run([self.mgr, *words], input=given, capture_output=True, check=True).stdout
 
     def post(self, event: Event) -> None:
         if isinstance(event, Took):
@@ -137,6 +120,22 @@ class WithWriters(InFolder):
         assert writer.channel
         self.assertTrue(writer.channel.close(SECONDS), writer.states)
         writer.channel = None
+
+    def make(self, writer: Writer) -> Worker:
+        """Returns a writer's channel."""
+        raise NotImplementedError
+
+    def pair(self) -> tuple[Writer, Writer]:
+        """Returns two who have joined and written `ab`."""
+        one = self.begin(1, self.make, "a")
+        self.wait("live", one.word)
+        other = self.begin(2, self.make)
+        self.wait("a", other.signs)
+        self.wait("live", other.word)
+        other.type("b")
+        for writer in (one, other):
+            self.wait("ab", writer.signs)
+        return one, other
 
     def wait(self, wanted: object, of: Callable[[], object]) -> None:
         """Waits until something is as it has to be."""

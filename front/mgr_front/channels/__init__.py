@@ -4,9 +4,14 @@ Only lines of operations that mgr told once they were saved are given to a chann
 writes the note's files: what it took it posts, and mgr saves that.
 """
 
-from collections.abc import Callable, Mapping, Sequence
+from collections.abc import Callable, Mapping
 from dataclasses import dataclass
-from typing import Protocol
+
+# So many characters of a sentence are shown, and of a name.
+SHOWN, MOST_NAME = 100, 32
+
+# Counter and replica of the identifier that point stands after, and its line.
+Place = tuple[int, int, int]
 
 
 @dataclass(frozen=True)
@@ -26,9 +31,9 @@ class State:
 
 @dataclass(frozen=True)
 class Present:
-    """Who else is there: of each writer a name, and the identifier that point stands after."""
+    """Who else is there, by their numbers: a name, and where point stands."""
 
-    who: Mapping[str, tuple[str, tuple[int, int]]]
+    who: Mapping[int, tuple[str, Place]]
 
 
 Event = Took | State | Present
@@ -36,47 +41,14 @@ Event = Took | State | Present
 Post = Callable[[Event], None]
 
 
-class Shared(Protocol):
-    """What an engine knows of a note. Each call may be made from any thread, while mgr has the note open."""
+class Apart(Exception):
+    """A channel can't carry a note. Says why, and how the channel stands then."""
 
-    name: str
-    replica: int
-    # Why it did not accept what others have, as mgr said it.
-    refusal: str
-
-    @property
-    def log(self) -> str:
-        """The path of its log."""
-
-    @property
-    def text(self) -> str:
-        """The path of its text."""
-
-    def claims(self) -> bytes:
-        """Returns what `mgr claims` writes: what its log has, in short."""
-
-    def missing(self, claims: bytes) -> list[bytes]:
-        """Returns the lines that its log has and these claims lack."""
-
-    def accepts(self, lines: Sequence[bytes], claims: bytes = b"") -> bool:
-        """Whether what others have belongs to this note; else the channel says `refused`, and tells nothing.
-
-        That is asked at each joining, of the lines that the note lacks, or of all, and of what others
-        have in short, if that is known.
-        """
+    def __init__(self, why: str, word: str = "alone") -> None:
+        super().__init__(why)
+        self.state = State(word, why)
 
 
-class Channel(Protocol):
-    """A way to others. Nothing here waits, but `close`."""
-
-    def start(self) -> None:
-        """Begins to join. What comes is posted."""
-
-    def tell(self, lines: Sequence[bytes]) -> None:
-        """Passes on own operations, which are saved, in their order."""
-
-    def show_place(self, identifier: tuple[int, int]) -> None:
-        """Says which identifier point stands after."""
-
-    def close(self, seconds: float) -> bool:
-        """Leaves, and answers whether all that was told had been passed on within that time."""
+def shown(text: str, most: int = SHOWN) -> str:
+    """Returns what a terminal may be given of a text."""
+    return "".join(sign if sign.isprintable() else "?" for sign in text)[:most]

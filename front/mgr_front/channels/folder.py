@@ -8,10 +8,11 @@ import stat
 import time
 from dataclasses import dataclass
 
-from mgr_front.channels import Post, Shared
-from mgr_front.channels.logs import operations, text_of
+from mgr_front.channels import Post
 from mgr_front.channels.worker import Worker
 from mgr_front.copies import digest, machine, state_folder, user
+from mgr_front.shared import SharedNote, text_of
+from mgr_front.wire import operations
 
 # The name of a log, and that of another state of it, which a sync tool keeps beside it.
 NAME = re.compile(r"[0-9a-f]{32}.*\.ops")
@@ -19,18 +20,12 @@ LEAST_POLL, MOST_POLL, SLOWER = 0.5, 5.0, 1.25
 # How many bytes before what is new are read once more: where they differ, the file is another one.
 OVERLAP = 4096
 
-
-@dataclass(frozen=True)
-class Stamp:
-    """How a file looks from outside; one that was written to looks different."""
-
-    size: int
-    inode: int
-    date: int
+# How a file looks from outside: size, inode and date. One that was written to looks different.
+Stamp = tuple[int, int, int]
 
 
 def stamp_of(seen: os.stat_result) -> Stamp:
-    return Stamp(seen.st_size, seen.st_ino, seen.st_mtime_ns)
+    return seen.st_size, seen.st_ino, seen.st_mtime_ns
 
 
 @dataclass(frozen=True)
@@ -38,8 +33,8 @@ class Taken:
     """What was taken of a file: how it looked, how many bytes, and the last of these."""
 
     stamp: Stamp
-    size: int
-    tail: bytes
+    size: int = 0
+    tail: bytes = b""
 
     def after(self, stamp: Stamp, lines: bytes) -> "Taken":
         return Taken(stamp, self.size + len(lines), (self.tail + lines)[-OVERLAP:])
@@ -51,43 +46,16 @@ def whole_lines(data: bytes) -> bytes:
     return data[: data.rfind(b"\n") + 1]
 
 
-class OwnName:
-    """The name of the own log, which is kept for this note and this folder, on this machine alone."""
-
-    def __init__(self, note: Shared, folder: str) -> None:
-        owner = [machine(), user(), os.path.realpath(note.log), os.path.realpath(folder)]
-        self.path = os.path.join(state_folder(), "folders", digest(json.dumps(owner).encode()))
-
-    def read(self) -> str:
-        """Returns the name that is kept, or a new one."""
-        try:
-            with open(self.path, encoding="ascii") as file:
-                name = file.read()
-        except (OSError, UnicodeDecodeError):
-            name = ""
-        return name if re.fullmatch(r"[0-9a-f]{32}\.ops", name) else self.draw()
-
-    def draw(self) -> str:
-        """Returns a new name; where it can't be kept, the next one begins another log."""
-        name = secrets.token_hex(16) + ".ops"
-        try:
-            os.makedirs(os.path.dirname(self.path), mode=0o700, exist_ok=True)
-            with open(self.path + ".new", "w", encoding="ascii") as file:
-                file.write(name)
-            os.replace(self.path + ".new", self.path)
-        except OSError:
-            pass
-        return name
-
-
 class Folder(Worker):
     """A note that is carried by the files of a folder."""
 
-    def __init__(self, note: Shared, post: Post, mgr: str, folder: str) -> None:
-        super().__init__(note, post, mgr)
+    def __init__(self, note: SharedNote, post: Post, folder: str) -> None:
+        super().__init__(note, post)
         self.folder = os.path.abspath(folder)
-        self.own_name = OwnName(note, self.folder)
-        self.own = self.own_name.read()
+        owner = [machine(), user(), os.path.realpath(note.log), os.path.realpath(folder)]
+        # Where the name of the own log is kept, for this note and this folder, on this machine alone.
+        self.kept = os.path.join(state_folder(), "folders", digest(json.dumps(owner).encode()))
+        self.own = self._kept_name() or self._draw_name()
         self.files: dict[str, Taken] = {}
         self.poll, self.last_append = LEAST_POLL, 0.0
 
@@ -95,9 +63,9 @@ class Folder(Worker):
         """Reads all files; what they lack is appended to the own one."""
         self.files, self.poll = {}, LEAST_POLL
         lines = b"".join(self._read(name, stamp) for name, stamp in self._stamps().items())
-        found = self.compare(lines, mends=True)
-        self._append(found.given)
-        return found.remark
+        given, others = self.compare(lines, mends=True)
+        self._append(given)
+        return others.remark
 
     def turn(self) -> float:
         stamps = self._stamps()
@@ -107,13 +75,12 @@ class Folder(Worker):
             return self.poll
         news = b"".join(self._read(name, stamp) for name, stamp in changed.items())
         self.take(operations(news.splitlines()))
-        told = self.told()
-        self.poll = LEAST_POLL if news or told else min(self.poll * SLOWER, MOST_POLL)
+        self.poll = LEAST_POLL if news or self.told else min(self.poll * SLOWER, MOST_POLL)
         left = self.last_append + LEAST_POLL - time.monotonic()
-        if told and left > 0 and not self.is_leaving:
+        if self.told and left > 0 and not self.is_leaving:
             return left
-        self._append(told)
-        self.passed(len(told))
+        self._append(self.told)
+        self.passed(len(self.told))
         return self.poll
 
     # ---- files of all
@@ -149,29 +116,49 @@ class Folder(Worker):
 
     def _read(self, name: str, stamp: Stamp) -> bytes:
         """Returns the whole lines of a file that were not taken, and takes note of them."""
-        taken = self.files.get(name, Taken(stamp, 0, b""))
+        taken = self.files.get(name, Taken(stamp))
         lines = whole_lines(self._bytes(name, taken.size))
         self.files[name] = taken.after(stamp, lines)
         return lines
 
     # ---- the own file
 
+    def _kept_name(self) -> str:
+        try:
+            with open(self.kept, encoding="ascii") as file:
+                name = file.read()
+        except (OSError, UnicodeDecodeError):
+            return ""
+        return name if re.fullmatch(r"[0-9a-f]{32}\.ops", name) else ""
+
+    def _draw_name(self) -> str:
+        """Returns a new name; where it can't be kept, the next edit begins another log."""
+        name = secrets.token_hex(16) + ".ops"
+        try:
+            os.makedirs(os.path.dirname(self.kept), mode=0o700, exist_ok=True)
+            with open(self.kept + ".new", "w", encoding="ascii") as file:
+                file.write(name)
+            os.replace(self.kept + ".new", self.kept)
+        except OSError:
+            pass
+        return name
+
     def _is_own(self, stamps: dict[str, Stamp]) -> bool:
         """Whether the own file is as it was left. Where another one wrote to it, a new one is begun."""
         taken, stamp = self.files.get(self.own), stamps.get(self.own)
         if not (taken and stamp):
             return not (taken or stamp)
-        if stamp.size > taken.size:
-            self.own = self.own_name.draw()
+        if stamp[0] > taken.size:
+            self.own = self._draw_name()
         # A mount may give it another date when it was written.
-        return stamp == taken.stamp or stamp.size == taken.size and self._has_grown(self.own)
+        return stamp == taken.stamp or stamp[0] == taken.size and self._has_grown(self.own)
 
     def _append(self, lines: list[bytes]) -> None:
         """Appends lines to the own file. What is half written there is cut off before."""
         if not lines:
             return
         path, text = os.path.join(self.folder, self.own), text_of(lines)
-        taken = self.files.get(self.own, Taken(Stamp(0, 0, 0), 0, b""))
+        taken = self.files.get(self.own, Taken((0, 0, 0)))
         with open(path, "r+b" if self.own in self.files else "xb") as file:
             file.truncate(taken.size)
             file.seek(taken.size)

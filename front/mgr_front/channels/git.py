@@ -1,15 +1,30 @@
-"""A branch of a git repository, whose commits carry a note's log."""
+"""A branch of a git repository, whose commits carry a note's log.
 
+It goes by a bare clone in the user's cache, and git's own commands. Nobody's working tree is touched.
+"""
+
+import os
 import random
+import signal
+import socket
+import subprocess
 import time
 from dataclasses import dataclass
 
-from mgr_front.channels import Post, Shared
-from mgr_front.channels.clone import Clone, Outrun
+from mgr_front.channels import Apart, Post, shown
 from mgr_front.channels.worker import Worker
+from mgr_front.copies import digest, user
+from mgr_front.shared import SharedNote, joined, text_of
 
-# Seconds before another push where others pushed, and how often it is tried.
-AGAIN, TRIES = (0.1, 1.0), 10
+# Seconds before another push where others pushed, and how often it is tried; those that a command may take.
+AGAIN, TRIES, LONGEST = (0.1, 1.0), 10, 60.0
+# Git's own variables, as within a hook, name another repository.
+FOREIGN = ("GIT_DIR", "GIT_WORK_TREE", "GIT_INDEX_FILE", "GIT_OBJECT_DIRECTORY", "GIT_COMMON_DIR", "GIT_NAMESPACE")
+# What git adds to why it could not reach a repository.
+ADVICE = ("fatal: Could not read from remote", "Please make sure you have", "and the repository exists.")
+# How a line begins that tells of a branch that was not pushed.
+NOT_PUSHED = "!\t"
+UNBORN = "main"
 
 
 @dataclass(frozen=True)
@@ -23,24 +38,47 @@ class Pace:
     lively: float = 600.0
 
 
+class Outrun(Apart):
+    """A push was refused, as where another one was quicker."""
+
+
+def fault_of(said: bytes) -> Apart:
+    """Returns why git did not do it: the reason of a push that was refused, else its last line."""
+    lines = said.decode("utf-8", "replace").splitlines()
+    refused = [line.rpartition("\t")[2] for line in lines if line.startswith(NOT_PUSHED)]
+    if refused:
+        return Outrun(shown(refused[0]))
+    reasons = [line for line in lines if line.strip() and not line.startswith(ADVICE)]
+    return Apart(shown([*reasons[-1:], *lines[-1:], "git says nothing"][0]))
+
+
 class GitBranch(Worker):
     """A note that is carried by the tip of a branch."""
 
-    def __init__(
-        self, note: Shared, post: Post, mgr: str, place: str, branch: str = "", name: str = "", pace: Pace = Pace()
-    ) -> None:
-        """`name` is the writer's in commits; else it is that of git's settings, or of the login."""
-        super().__init__(note, post, mgr)
-        self.clone, self.pace = Clone(place, branch, note, name), pace
+    def __init__(self, note: SharedNote, post: Post, place: str, person: str = "", pace: Pace = Pace()) -> None:
+        """`place` is a path or a URL, and after a `#` a branch, else the one that the repository calls its head.
+
+        `person` is the writer in commits; else it is that of git's settings, or of the login.
+        """
+        super().__init__(note, post)
+        place, _, self.branch = place.partition("#")
+        path = os.path.expanduser(place)
+        self.url = os.path.abspath(path) if os.path.exists(path) else place
+        self.person, self.pace = person, pace
+        self.file = os.path.basename(note.log)
+        cache = os.environ.get("XDG_CACHE_HOME", "")
+        cache = cache if os.path.isabs(cache) else os.path.expanduser("~/.cache")
+        self.clone = os.path.join(cache, "mgr", "git", digest(self.url.encode()))
+        self.ref = f"refs/mgr/{digest(os.path.realpath(note.log).encode())}"
         # The tip that was taken last, its log and the claims of that, and whether the note has more.
         self.tip: str | None = None
-        self.log = self.claims = b""
+        self.tip_log = self.claims = b""
         self.is_ahead = False
         self.changed = self.next_look = self.next_commit = 0.0
 
     def join(self) -> str:
         self.tip = None
-        self.clone.open()
+        self._open()
         self._look()
         if self.is_ahead and self._may_commit():
             self._commit()
@@ -49,35 +87,42 @@ class GitBranch(Worker):
     def turn(self) -> float:
         if time.monotonic() >= self.next_look:
             self._look()
-        if (self.is_ahead or self.told()) and self._may_commit():
+        if (self.is_ahead or self.told) and self._may_commit():
             self._commit()
-        next_turn = min(self.next_look, self.next_commit) if self.is_ahead or self.told() else self.next_look
-        return max(0.0, next_turn - time.monotonic())
+        next_turn = min(self.next_look, self.next_commit) if self.is_ahead or self.told else self.next_look
+        return next_turn - time.monotonic()
 
     def _may_commit(self) -> bool:
         """Whether the last commit is long ago; who leaves does not wait for that."""
         return time.monotonic() >= self.next_commit or self.is_leaving
 
     def _look(self) -> None:
-        """Takes what the tip has, where it is another one."""
-        tip = self.clone.tip()
+        """Takes what the tip has, where it is another one, also one that was forced back."""
+        ref = f"refs/heads/{self.branch}"
+        found = self._git("ls-remote", "--", self.url, ref).decode().splitlines()
+        tip = next((line.split("\t")[0] for line in found if line.endswith(f"\t{ref}")), "")
         if tip != self.tip:
-            self.tip = self.clone.fetch() if tip else ""
-            self.log = self.clone.log(self.tip)
-            found = self.compare(self.log)
-            self.claims, self.is_ahead = found.claims, bool(found.given)
+            self.tip = tip
+            if tip:
+                fetch = ("fetch", "--quiet", "--no-tags", "--no-write-fetch-head", "--")
+                self._git(*fetch, self.url, f"+{ref}:{self.ref}")
+                self.tip = self._word("rev-parse", "--verify", self.ref)
+            entry = self._entries().get(self.file)
+            self.tip_log = self._git("cat-file", "blob", entry.split()[2].decode()) if entry else b""
+            given, others = self.compare(self.tip_log)
+            self.claims, self.is_ahead = others.claims, bool(given)
             self.changed = time.monotonic()
         is_lively = time.monotonic() < self.changed + self.pace.lively
         self.next_look = time.monotonic() + (self.pace.soon if is_lively else self.pace.later)
 
     def _commit(self) -> None:
         """Has the branch have all that the note has; again where others were quicker."""
-        count = len(self.told())
+        count = len(self.told)
         for tries in range(TRIES, 0, -1):
             lines = self.note.missing(self.claims)
             try:
                 if lines:
-                    self._push(self.logs.joined(self.log, lines))
+                    self._push(joined(self.note.mgr, self.tip_log + text_of(lines)))
                 self.passed(count)
                 self.is_ahead = False
                 return
@@ -88,8 +133,59 @@ class GitBranch(Worker):
             self._look()
 
     def _push(self, log: bytes) -> None:
-        commit = self.clone.commit(self.tip or "", log)
-        self.clone.push(commit)
-        self.tip, self.log, self.claims = commit, log, self.logs.claims(log)
+        """Has the branch have a commit on the tip, with this log beside all else that stands there, never by force."""
+        blob = self._git("hash-object", "-w", "--stdin", given=log).strip()
+        entries = self._entries() | {self.file: b"100644 blob " + blob + b"\t" + os.fsencode(self.file)}
+        tree = self._word("mktree", "-z", given=b"".join(entry + b"\0" for entry in entries.values()))
+        message = f"{self.file}: what {self.person} wrote"
+        commit = self._word("commit-tree", tree, *(["-p", self.tip] if self.tip else []), "-m", message)
+        self._git("push", "--quiet", "--porcelain", "--", self.url, f"{commit}:refs/heads/{self.branch}")
+        self._git("update-ref", self.ref, commit)
+        self._git("gc", "--auto", "--quiet")
+        self.tip, self.tip_log, self.claims = commit, log, self.note.claims_of(log)
         self.changed = time.monotonic()
         self.next_commit = self.changed + self.pace.commits
+
+    def _entries(self) -> dict[str, bytes]:
+        """Returns what stands in the folder of the tip, as git has it, by its name."""
+        entries = self._git("ls-tree", "-z", self.tip).split(b"\0")[:-1] if self.tip else []
+        return {os.fsdecode(entry.partition(b"\t")[2]): entry for entry in entries}
+
+    # ---- git
+
+    def _open(self) -> None:
+        """Makes the clone where it is not there, and asks for the names of the writer and of the branch."""
+        if not os.path.isdir(self.clone):
+            os.makedirs(self.clone, mode=0o700)
+            self._git("init", "--quiet", "--bare", "--template=", self.clone)
+        if not self.person:
+            self.person = self._word("config", "--default", user(), "user.name")
+        if not self.branch:
+            head = self._git("ls-remote", "--symref", "--", self.url, "HEAD").decode()
+            self.branch = head.partition("ref: refs/heads/")[2].partition("\t")[0] or UNBORN
+
+    def _git(self, *words: str, given: bytes = b"") -> bytes:
+        """Runs git apart from the terminal, on which it asks nothing, and returns what it writes."""
+        kept = {name: value for name, value in os.environ.items() if name not in FOREIGN}
+        kept.setdefault("EMAIL", f"{user()}@{socket.gethostname()}")
+        author = {f"GIT_{who}_NAME": self.person for who in ("AUTHOR", "COMMITTER") if self.person}
+        git = subprocess.Popen(
+            ["git", f"--git-dir={self.clone}", *words],
+            env=kept | author | {"GIT_TERMINAL_PROMPT": "0", "LC_ALL": "C"},
+            start_new_session=True,
+            stdin=subprocess.PIPE,
+            stdout=subprocess.PIPE,
+            stderr=subprocess.PIPE,
+        )
+        try:
+            written, said = git.communicate(given, LONGEST)
+        except subprocess.TimeoutExpired:
+            os.killpg(git.pid, signal.SIGKILL)
+            git.communicate()
+            raise Apart(f"git {words[0]} took more than {LONGEST:.0f} seconds") from None
+        if git.returncode:
+            raise fault_of(written + said)
+        return written
+
+    def _word(self, *words: str, given: bytes = b"") -> str:
+        return self._git(*words, given=given).decode().strip()

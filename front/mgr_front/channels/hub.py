@@ -1,41 +1,32 @@
 """The way to a hub: by its note's socket, by a port of this machine, or by ssh to another one."""
 
 import secrets
-import select
 import shlex
 import socket
 import subprocess
 import tempfile
-import threading
 import time
-from collections import deque
-from collections.abc import Callable, Iterator, Sequence
+from collections.abc import Callable, Iterator
 from contextlib import AbstractContextManager, contextmanager
 from typing import Any
 
 from mgr_front import meeting
-from mgr_front.channels import Post, Shared, State, Took
+from mgr_front.channels import Apart, Post, State
+from mgr_front.channels.presence import Presence
+from mgr_front.channels.worker import Worker
 from mgr_front.copies import digest
-from mgr_front.mailbox import Mailbox
+from mgr_front.shared import Others, SharedNote, text_of
 from mgr_front.signals import held_back
-from mgr_front.wire import ALIVE, VERSION, Broken, Wire, claims_said, is_operation, saying, with_ends
+from mgr_front.wire import VERSION, Broken, Wire, claims_said
 
-# Seconds between two tries, and that the other end has for its first word.
-LEAST, MOST, FIRST = 1.0, 30.0, 60.0
+# Seconds that the other end has for its first word, and between two looks whether it is still there.
+FIRST, LOOK = 60.0, 10.0
 # So that a machine that is away is noticed, and nobody is asked for a word while the terminal shows a note.
 SETTINGS = ("ConnectTimeout=5", "ServerAliveInterval=5", "ServerAliveCountMax=2", "ControlPath=none")
 SILENT = "BatchMode=yes"
 
 # Opens a connection; the first one may ask the person for a word.
 Way = Callable[[bool], AbstractContextManager[Wire]]
-
-
-class Refusal(Exception):
-    """The hub does not let one write, or has another note. Says why, by the word of a state."""
-
-    def __init__(self, word: str, why: str) -> None:
-        super().__init__(why)
-        self.word = word
 
 
 def _by_socket(connect: Callable[[], socket.socket]) -> Way:
@@ -89,148 +80,112 @@ def by_ssh(host: str, path: str) -> Way:
     return way
 
 
-class Hub:
+class Hub(Worker):
     """What is written at a hub, which passes it on to all others."""
 
-    def __init__(self, note: Shared, post: Post, way: Way, name: str = "") -> None:
-        """`name` is that of the person."""
-        self.note, self.post, self.way, self.name = note, post, way, name
+    def __init__(self, note: SharedNote, post: Post, way: Way, person: str = "") -> None:
+        super().__init__(note, post)
+        self.way = way
+        self.presence: Presence = Presence(note.replica, person, post)
+        self.wire: Wire | None = None
         # By this the hub knows it again, if it has not noticed a break yet.
         self.token = secrets.token_hex(8)
-        # What the front gave: operations that are saved, an identifier, or None as it leaves.
-        self.given: Mailbox[tuple[bytes, ...] | tuple[int, int] | None] = Mailbox()
-        self.thread = threading.Thread(target=self._run, daemon=True)
-        self.is_leaving = self.has_joined = False
-        # Whether all that was told had been taken as it left.
-        self.is_passed_on = False
-        # When nobody waits any more for what is still on its way.
-        self.end = 0.0
-        # Of this connection: what came before it was clear that it is of this note, and what was told before.
-        self.held: list[bytes] | None = None
-        self.told: deque[bytes] = deque()
+        self.is_first, self.is_joined = True, False
+        # What came of this connection and was not taken.
+        self.came: list[bytes] = []
+        # Whether the hub has taken all that it was told, of which it tells at the end alone.
+        self.is_taken = True
 
-    def start(self) -> None:
-        self.thread.start()
+    @contextmanager
+    def connected(self) -> Iterator[None]:
+        is_first, self.is_first = self.is_first, False
+        with self.way(is_first) as wire:
+            self.wire, self.is_joined, self.came = wire, False, []
+            try:
+                yield
+            finally:
+                self.wire = None
 
-    def tell(self, lines: Sequence[bytes]) -> None:
-        self.given.post(tuple(with_ends(lines)))
-
-    def show_place(self, identifier: tuple[int, int]) -> None:
-        pass
+    def descriptors(self) -> tuple[list[int], list[int]]:
+        return ([self.wire.reading], [self.wire.writing] * self.wire.has_more) if self.wire else ([], [])
 
     def close(self, seconds: float) -> bool:
-        self.end = time.monotonic() + seconds
-        self.given.post(None)
-        self.thread.join(seconds)
-        return self.is_passed_on
+        return super().close(seconds) and self.is_taken
 
-    def _run(self) -> None:
-        """Joins, and again after each break, with growing waits."""
-        wait, is_first = LEAST, True
-        while not self.is_leaving:
-            self.post(State("joining"))
-            self.has_joined = False
-            try:
-                with self.way(is_first) as wire:
-                    self._talk(wire)
-            except Refusal as refusal:
-                self.post(State(refusal.word, str(refusal)))
-                return
-            except OSError as error:
-                self.post(State("alone", error.strerror or str(error)))
-            wait, is_first = LEAST if self.has_joined else min(2 * wait, MOST), False
-            self._rest(time.monotonic() + wait)
-
-    def _rest(self, until: float) -> None:
-        """Waits. What is told meanwhile is in the log, and found by claims."""
-        while not self.is_leaving and (left := until - time.monotonic()) > 0:
-            if select.select([self.given.woken], [], [], left)[0]:
-                self.is_leaving = None in self.given.take()
-
-    def _talk(self, wire: Wire) -> None:
-        """Joins and passes on, until the connection breaks or the front leaves."""
-        self.held, self.told = [], deque()
-        wire.say("hello", version=VERSION, replica=self.note.replica, name=self.name, token=self.token)
-        first, signed = time.monotonic() + FIRST, time.monotonic()
-        while not self.is_passed_on:
-            writing = [wire.writing] * wire.has_more
-            ready, free, _ = select.select([wire.reading, self.given.woken], writing, [], 1.0)
-            if free:
-                wire.write()
-            if wire.reading in ready:
-                self._take(wire, wire.read())
-            if self.given.woken in ready:
-                self._give(wire)
-            now = time.monotonic()
-            wire.check(now)
-            if not self.has_joined and now > first or self.is_leaving and now > self.end:
+    def join(self) -> str:
+        """Says hello and what the note has; what it lacks comes, and then what the hub has, in short."""
+        self._say("hello", version=VERSION, replica=self.note.replica, name=self.presence.name, token=self.token)
+        until = time.monotonic() + FIRST
+        while not self.is_joined:
+            if self.is_leaving or time.monotonic() > until:
                 raise Broken("no answer")
-            if now > signed + ALIVE:
-                signed = now
-                wire.say("alive")
+            self._talk()
+            self.wait(0.0 if self.is_joined else 1.0)
+        return ""
 
-    def _give(self, wire: Wire) -> None:
-        """Passes on what the front gave: once it has joined, and nothing before."""
-        for given in self.given.take():
-            if given is None:
-                self.is_leaving = True
-                if not self.has_joined:
-                    raise Broken("left before it joined")
-                wire.say("bye")
-            elif given and isinstance(given[0], bytes):
-                self.told.extend(line for line in given if isinstance(line, bytes))
-        if self.has_joined and self.told:
-            wire.pass_on(self.told)
-            self.told.clear()
+    def turn(self) -> float:
+        assert self.wire
+        self._talk()
+        if self.told:
+            self.is_taken = False
+            self.wire.pass_on(text_of(self.told))
+            self.passed(len(self.told))
+        return min(self.presence.turn(self._say, self.note.claims), LOOK)
 
-    def _take(self, wire: Wire, lines: list[bytes]) -> None:
-        """Takes lines: operations are posted, once it is clear that they are of this note."""
-        operations: list[bytes] = []
-        for line in lines:
-            told = saying(line)
-            if told is not None:
-                self._hear(wire, told, operations)
-            elif is_operation(line):
-                operations.append(line)
+    def leave(self) -> None:
+        self.is_taken = False
+        self._say("bye")
+        while not self.is_taken:
+            self._talk()
+            self.wait(0.0 if self.is_taken else 1.0)
+
+    def _say(self, op: str, **members: object) -> None:
+        assert self.wire
+        self.wire.say(op, **members)
+
+    def _talk(self) -> None:
+        """Writes and reads what can be now. Operations are taken once it is clear that they are of this note."""
+        assert self.wire
+        if self.wire.has_more:
+            self.wire.write()
+        for came in self.wire.take():
+            if isinstance(came, bytes):
+                self.came.append(came)
             else:
-                raise Broken("a line that is no operation")
-        if self.held is not None:
-            self.held += operations
-        elif operations:
-            self.post(Took(tuple(operations)))
+                self._hear(self.wire, came)
+        self.wire.check(time.monotonic())
+        if self.is_joined:
+            self.take(self.came)
+            self.came = []
 
-    def _hear(self, wire: Wire, told: dict[str, Any], operations: list[bytes]) -> None:
+    def _hear(self, wire: Wire, told: dict[str, Any]) -> None:
         """Takes what the hub says."""
-        if told["op"] == "hello":
-            if told.get("version") != VERSION:
-                raise Refusal("refused", f"the hub speaks version {told.get('version')}, and this is {VERSION}")
+        op = told["op"]
+        if op == "hello" and told.get("version") != VERSION:
+            raise Apart(f"the hub speaks version {told.get('version')}, and this is {VERSION}", "refused")
+        if op == "hello":
             self.post(State("joining", "the hub is there"))
+        if op in ("hello", "behind") or op == "alive" and told.get("digest") not in (None, digest(self.note.claims())):
             wire.answer(claims_said(self.note.claims()))
-        elif told["op"] == "claims":
-            claims = wire.take_claims(told)
-            if claims is not None:
-                self._join(wire, claims, operations)
-        elif told["op"] == "behind":
-            wire.answer(claims_said(self.note.claims()))
-        elif told["op"] == "alive":
-            if told.get("digest") not in (None, digest(self.note.claims())):
-                wire.answer(claims_said(self.note.claims()))
-        elif told["op"] in ("refused", "conflict"):
-            raise Refusal(told["op"], str(told.get("why")))
-        elif told["op"] == "bye":
-            self.is_passed_on = True
+        elif op == "claims" and (claims := wire.take_claims(told)) is not None:
+            self._give(wire, claims)
+        elif op in ("refused", "conflict"):
+            raise Apart(str(told.get("why")), op)
+        elif op == "bye":
+            self.is_taken = True
+        elif op in ("place", "leave"):
+            self.presence.take(told)
 
-    def _join(self, wire: Wire, claims: bytes, operations: list[bytes]) -> None:
-        """All that the note lacked has come, and then what the hub has, in short: gives what that lacks."""
-        if self.held is not None:
-            lines, self.held = self.held + operations, None
-            operations.clear()
-            if not self.note.accepts(lines, claims):
-                wire.say("refused", why=self.note.refusal)
-                wire.write()
-                raise Refusal("refused", "another note")
-            self.post(Took(tuple(lines)))
-        wire.answer(with_ends(self.note.missing(claims)))
-        self.has_joined = True
-        self.post(State("live"))
-        self.given.post(())
+    def _give(self, wire: Wire, claims: bytes) -> None:
+        """Gives the hub, which has this, what it lacks. At first all that the note lacked has come before."""
+        if self.is_joined:
+            wire.answer(text_of(self.note.missing(claims)))
+            return
+        try:
+            given = self.accept(Others(self.came, claims))
+        except Apart:
+            wire.say("refused", why=self.note.refusal)
+            wire.write()
+            raise
+        wire.answer(text_of(given))
+        self.is_joined, self.came = True, []

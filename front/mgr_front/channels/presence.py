@@ -1,103 +1,69 @@
-"""What writers say of themselves on the channel of a stream: that there is news, where they are, what they claim."""
+"""What writers say of themselves: where they are, that they live and what their notes have, that they leave."""
 
-import json
-import threading
 import time
 from collections.abc import Callable
 from typing import Any
 
-from mgr_front.channels.logs import shown
+from mgr_front.channels import MOST_NAME, Place, Post, Present, shown
+from mgr_front.copies import digest
 
-# Seconds for which one is there who says nothing, and after which who listens looks whether it is to end.
-GONE, LISTENING = 90.0, 1.0
-LONGEST_NAME = 32
-
-Place = tuple[int, int]
-
-
-def name_of(name: str) -> str:
-    """Returns a writer's name as it is shown."""
-    return shown(name)[:LONGEST_NAME]
+# Seconds for which one is there who says nothing, between two signs of life, and between two places.
+GONE, ALIVE, MOVE = 90.0, 60.0, 0.2
+MOST = 1 << 53, 1 << 16, 1 << 32
 
 
-def place_of(told: dict[str, Any]) -> tuple[str, Place] | None:
-    """Returns the name and the place that somebody says, if it is one."""
-    name, place = told.get("name"), told.get("place")
-    if not (isinstance(name, str) and isinstance(place, list) and [type(part) for part in place] == [int, int]):
+def place_of(told: dict[str, Any]) -> Place | None:
+    """Returns the place that somebody says, if it is one."""
+    place = told.get("place")
+    if not (isinstance(place, list) and [type(part) for part in place] == [int] * 3):
         return None
-    return name_of(name), (place[0], place[1])
-
-
-def saying_of(message: Any) -> dict[str, Any] | None:
-    """Returns what a message of the channel says, if it says something."""
-    try:
-        told = json.loads(message["data"]) if message else None
-    except (ValueError, TypeError, RecursionError):
-        return None
-    return told if isinstance(told, dict) and isinstance(told.get("by"), str) else None
-
-
-class Listener(threading.Thread):
-    """Takes note of what is said, until the connection ends."""
-
-    def __init__(self, heard: Any, wake: Callable[[], None]) -> None:
-        super().__init__(daemon=True)
-        self.heard, self.wake = heard, wake
-        self.sayings: list[dict[str, Any]] = []
-        self.has_ended = False
-
-    def run(self) -> None:
-        try:
-            while not self.has_ended:
-                if told := saying_of(self.heard.get_message(timeout=LISTENING)):
-                    self.sayings.append(told)
-                    self.wake()
-            self.heard.close()
-        except Exception:  # The connection is gone.
-            self.has_ended = True
-            self.wake()
-
-    def take(self) -> list[dict[str, Any]]:
-        """Returns what was said since the last call."""
-        taken = len(self.sayings)
-        said, self.sayings[:taken] = self.sayings[:taken], []
-        return said
+    is_one = all(0 <= part < most for part, most in zip(place, MOST)) and bool(place[0]) == bool(place[1])
+    return (place[0], place[1], place[2]) if is_one else None
 
 
 class Presence:
-    """Who else is there, and what each claimed last."""
+    """Who else is there and where, and where this writer is."""
 
-    def __init__(self, own: str) -> None:
-        self.own = own
-        self.places: dict[str, tuple[str, Place]] = {}
-        self.claims: dict[str, str] = {}
-        self.times: dict[str, float] = {}
-        # Whether an entry was added, whether somebody new is there, and when the own voice was heard last.
-        self.has_news = self.is_joined = False
-        self.own_heard = time.monotonic()
+    def __init__(self, replica: int, name: str, post: Post) -> None:
+        self.replica, self.name, self.post = replica, shown(name, MOST_NAME), post
+        self.place: Place = (0, 0, 0)
+        self.begin()
+
+    def begin(self) -> None:
+        """Nobody is known to be there, and nobody was told of this writer."""
+        self.who: dict[int, tuple[str, Place]] = {}
+        self.times: dict[int, float] = {}
+        self.told: dict[int, tuple[str, Place]] = {}
+        self.said: Place | None = None
+        self.moved, self.signed = 0.0, time.monotonic()
+        self.post(Present({}))
 
     def take(self, told: dict[str, Any]) -> None:
-        """Takes what somebody said."""
-        by, op = told["by"], told.get("op")
-        self.has_news |= op == "entry"
-        if by == self.own:
-            self.own_heard = time.monotonic()
-        elif op == "leave":
-            self.times.pop(by, None)
-        elif found := place_of(told):
-            self.is_joined |= by not in self.times
-            self.places[by], self.times[by] = found, time.monotonic()
-            if op == "sign":
-                self.claims[by] = str(told.get("claims"))
+        """Takes what somebody says of themselves. To one who is new it is said where this writer is."""
+        replica, name, place = told.get("replica"), told.get("name"), place_of(told)
+        if type(replica) is not int or replica == self.replica:
+            return
+        if told.get("op") == "leave":
+            self.times.pop(replica, None)
+        elif isinstance(name, str) and place:
+            if replica not in self.times:
+                self.said = None
+            self.who[replica], self.times[replica] = (shown(name, MOST_NAME), place), time.monotonic()
 
-    def who(self) -> dict[str, tuple[str, Place]]:
-        """Returns who is there now, and forgets who is gone."""
+    def turn(self, say: Callable[..., None], claims: Callable[[], bytes]) -> float:
+        """Says what is due, and posts who is there, where that is news; returns seconds until the next turn."""
         now = time.monotonic()
-        self.times = {by: when for by, when in self.times.items() if when > now - GONE}
-        self.places = {by: place for by, place in self.places.items() if by in self.times}
-        return dict(self.places)
-
-    def differ(self, claims: str) -> bool:
-        """Whether somebody claimed something else since the last call."""
-        said, self.claims = self.claims, {}
-        return any(each != claims for each in said.values())
+        what = {"replica": self.replica, "name": self.name, "place": self.place}
+        if now >= self.signed + ALIVE:
+            self.signed = now
+            say("alive", **what, digest=digest(claims()))
+        if self.place != self.said and now >= self.moved + MOVE:
+            self.moved, self.said = now, self.place
+            say("place", **what)
+        self.times = {who: heard for who, heard in self.times.items() if heard > now - GONE}
+        self.who = {who: place for who, place in self.who.items() if who in self.times}
+        if self.who != self.told:
+            self.told = dict(self.who)
+            self.post(Present(self.told))
+        dues = [self.signed + ALIVE, *[self.moved + MOVE] * (self.place != self.said)]
+        return max(0.0, min(dues + [heard + GONE for heard in self.times.values()]) - now)

@@ -1,153 +1,119 @@
 """A stream of Redis that carries a note between many writers."""
 
-import os
+import json
 import time
+from collections import deque
+from collections.abc import Iterator
+from contextlib import contextmanager, suppress
+from typing import Any
 
-from mgr_front.channels import Post, Present, Shared
-from mgr_front.channels.logs import Apart, operations
-from mgr_front.channels.presence import Listener, Place, Presence, name_of
-from mgr_front.channels.stream import ANSWER, FIRST, Stream
+from mgr_front.channels import Apart, Post
+from mgr_front.channels.presence import Presence
+from mgr_front.channels.stream import ANSWER, FIRST, News, Stream
 from mgr_front.channels.worker import Worker
-from mgr_front.copies import digest, user
+from mgr_front.copies import digest
+from mgr_front.shared import SharedNote
+from mgr_front.wire import operations
 
-# Seconds: between two signs of life, between two places, for which claims may differ since something is under way,
-# and between two looks whether another one has given what is missing.
-SIGN, PLACE, UNDER_WAY, LOOK = 60.0, 0.2, 10.0, 0.1
+# Seconds: for one writer to give what the stream lacks, for which claims may differ since something is under way, and
+# after which who listens looks whether it is to end.
+GIVING, UNDER_WAY, LISTENING = 10.0, 10.0, 1.0
 
 
 class RedisStream(Worker):
     """A note that is carried by a stream of Redis."""
 
-    def __init__(self, note: Shared, post: Post, mgr: str, url: str, name: str = "") -> None:
-        super().__init__(note, post, mgr)
-        self.stream, self.name = Stream(url), name_of(name or user())
-        self.listener: Listener | None = None
-        self.presence = Presence(self.stream.by.decode())
+    def __init__(self, note: SharedNote, post: Post, url: str, person: str = "") -> None:
+        super().__init__(note, post)
+        self.stream = Stream(url)
+        self.presence: Presence = Presence(note.replica, person, post)
         # What was read of the stream: its generation, how many entries, and the last one.
         self.generation, self.count, self.last = b"", 0, FIRST
-        self.place: Place = (0, 0)
-        self.shown_place: Place | None = None
-        self.who: dict[str, tuple[str, Place]] = {}
-        # When a place was said, a sign of life, and when something came or was told.
-        self.moved = self.signed = self.changed = 0.0
-        self.digest: tuple[object, str] = (None, "")
+        # What was said on the channel, and what ended that.
+        self.sayings: deque[dict[str, Any]] = deque()
+        self.fault: BaseException | None = None
+        # When the own voice was heard last, and when something came or was told.
+        self.heard = self.changed = 0.0
 
-    def show_place(self, identifier: Place) -> None:
-        self.place = identifier
+    @contextmanager
+    def connected(self) -> Iterator[None]:
+        """Hears the channel from now on. That is done by a thread of python3-redis."""
+        self.fault, self.sayings = None, deque()
+        heard = self.stream.link.pubsub()
+        heard.subscribe(**{self.stream.channel: self._hear})
+        heard.get_message(timeout=ANSWER)
+        thread = heard.run_in_thread(LISTENING, daemon=True, exception_handler=self._end)
+        self.heard = self.presence.signed
+        try:
+            yield
+        finally:
+            thread.stop()
+            with suppress(Exception):  # If the connection is gone, others find out that this writer is.
+                self.stream.say("leave", replica=self.note.replica)
+            self.stream.link.connection_pool.disconnect(inuse_connections=False)
+
+    def _hear(self, message: dict[str, Any]) -> None:
+        try:
+            told = json.loads(message["data"])
+        except (ValueError, RecursionError):
+            return
+        if isinstance(told, dict):
+            self.sayings.append(told)
+            self.wake()
+
+    def _end(self, fault: BaseException, _: object, thread: Any) -> None:
+        self.fault = fault
+        thread.stop()
         self.wake()
 
-    # ---- joining
-
     def join(self) -> str:
-        self._listen()
-        lacks, remark = self._compare_all()
-        while lacks:
-            if self.stream.may_give():
-                try:
-                    # What another one gave meanwhile is there now.
-                    lacks, remark = self._compare_all()
-                    self.stream.add(lacks)
-                finally:
-                    self.stream.has_given()
-                break
-            while not self.stream.is_given():
-                time.sleep(LOOK)
-            lacks, remark = self._compare_all()
+        """Takes all of the stream, and gives what it lacks: one at a time does, after what others gave."""
+        given, remark, read = self._compare_all()
+        if given:
+            with self.stream.link.lock(self.stream.giver, timeout=GIVING):
+                if self.stream.news(FIRST) != read:
+                    given, remark, _ = self._compare_all()
+                self.stream.add(given)
         return remark
 
-    def _listen(self) -> None:
-        """Hears the channel from now on, where it is not heard."""
-        if self.listener and not self.listener.has_ended:
-            return
-        self.listener = Listener(self.stream.subscribe(), self.wake)
-        self.listener.start()
-        self.presence = Presence(self.stream.by.decode())
-        self.shown_place, self.signed = None, self.presence.own_heard
-
-    def _compare_all(self) -> tuple[list[bytes], str]:
-        """Takes all of the stream that the note lacks; returns what the stream lacks, and what was left out."""
+    def _compare_all(self) -> tuple[list[bytes], str, News]:
+        """Takes all of the stream that the note lacks; returns what the stream lacks, what was left out, and what was read."""
         news = self.stream.news(FIRST)
         self.generation, self.count, self.last = news.generation, news.size, news.last
-        found = self.compare(b"".join(entry.lines for entry in news.entries), mends=True)
+        given, others = self.compare(news.log, mends=True)
         self.changed = time.monotonic()
-        return found.given, found.remark
-
-    # ---- turns
+        return given, others.remark, news
 
     def turn(self) -> float:
-        assert self.listener
-        if self.listener.has_ended or self.presence.own_heard < self.signed < time.monotonic() - ANSWER:
+        said = [self.sayings.popleft() for _ in range(len(self.sayings))]
+        for told in said:
+            self.presence.take(told)
+            if told.get("by") == self.stream.by:
+                self.heard = time.monotonic()
+        is_heard = self.heard >= self.presence.signed
+        if self.fault or not is_heard and time.monotonic() > self.presence.signed + ANSWER:
             raise Apart("the connection is gone")
-        if told := self.told():
-            self.stream.add(told)
-            self.passed(len(told))
+        if self.told:
+            count = len(self.told)
+            self.stream.add(self.told)
+            self.passed(count)
             self.changed = time.monotonic()
-        for saying in self.listener.take():
-            self.presence.take(saying)
-        if self.presence.has_news:
+        digests = {told.get("digest") for told in said if told.get("op") == "alive"}
+        if digests or any(told.get("op") == "entry" for told in said):
             self._look()
-        self._show()
-        if time.monotonic() >= self.signed + SIGN:
-            self._sign()
-        is_heard = self.presence.own_heard >= self.signed
-        ends = [self.signed + SIGN, *[self.signed + ANSWER] * (not is_heard)]
-        ends += [self.moved + PLACE] * (self.place != self.shown_place)
-        return max(0.0, min(ends) - time.monotonic())
+        # Where others have something else, all is compared, unless something is under way.
+        if time.monotonic() > self.changed + UNDER_WAY and digests - {digest(self.note.claims())}:
+            self.join_all()
+        return min(self.presence.turn(self.stream.say, self.note.claims), ANSWER)
 
     def _look(self) -> None:
         """Takes what is new. A stream that was emptied, trimmed or begun anew is read from its beginning."""
-        self.presence.has_news = False
         news = self.stream.news(self.last)
         if news.generation != self.generation or news.size != self.count + len(news.entries):
             self.join_all()
             return
         self.count, self.last = news.size, news.last
-        others = [entry.lines for entry in news.entries if entry.by != self.stream.by]
+        others = [lines for by, lines in news.entries if by != self.stream.by.encode()]
         self.take(operations(b"\n".join(others).splitlines()))
-        self.changed = time.monotonic()
-
-    # ---- who is there
-
-    def _show(self) -> None:
-        """Says where point is, and posts who is there, where that is news. Who is new is told, too."""
-        if self.presence.is_joined:
-            self.presence.is_joined, self.shown_place = False, None
-        if self.place != self.shown_place and time.monotonic() >= self.moved + PLACE:
-            self.moved, self.shown_place = time.monotonic(), self.place
-            self.stream.say(op="place", name=self.name, place=self.place)
-        who = self.presence.who()
-        if who != self.who:
-            self.who = who
-            self.post(Present(who))
-
-    def _sign(self) -> None:
-        """Says that it is there, and what the note has. Where others have something else, all is compared."""
-        self._look()
-        claims = self._digest()
-        self.signed = time.monotonic()
-        self.stream.say(op="sign", name=self.name, place=self.place, claims=claims)
-        if self.presence.differ(claims) and self.signed > self.changed + UNDER_WAY:
-            self.join_all()
-
-    def _digest(self) -> str:
-        """Returns a digest of the note's claims, which are the same while its log is."""
-        found = os.stat(self.note.log) if os.path.exists(self.note.log) else None
-        stamp = (found.st_size, found.st_ino, found.st_mtime_ns) if found else None
-        if self.digest[0] != stamp or not self.digest[1]:
-            self.digest = stamp, digest(self.note.claims())
-        return self.digest[1]
-
-    # ---- the end
-
-    def leave(self) -> None:
-        try:
-            if self.listener and not self.listener.has_ended:
-                self.stream.say(op="leave")
-        except Exception:
-            pass  # The connection is gone, and others find out that this writer is.
-        self.break_off()
-
-    def break_off(self) -> None:
-        if self.listener:
-            self.listener.has_ended = True
-        self.stream.close()
+        if news.entries:
+            self.changed = time.monotonic()

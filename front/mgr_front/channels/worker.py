@@ -1,17 +1,21 @@
-"""A channel whose work is done in a thread of its own."""
+"""A channel: its work is done in a thread of its own, and nothing here waits for it but `close`."""
 
+import contextlib
+import select
 import threading
 import time
 from abc import ABC, abstractmethod
-from collections.abc import Sequence
+from collections.abc import Iterable, Sequence
+from contextlib import AbstractContextManager
 
-from mgr_front.channels import Post, Shared, State, Took
-from mgr_front.channels.logs import REFUSED, Apart, Difference, Logs
+from mgr_front.channels import Apart, Place, Post, State, Took
+from mgr_front.channels.presence import Presence
+from mgr_front.mailbox import Mailbox
+from mgr_front.shared import Others, SharedNote
 
 # Seconds before it is tried again after a break: the first ones, and the most.
 FIRST_PAUSE, MOST_PAUSE = 1.0, 30.0
-# Seconds between two turns while what was told last is passed on.
-LAST_TURNS = 0.05
+FINAL = "refused", "conflict"
 
 
 class Worker(ABC):
@@ -20,16 +24,22 @@ class Worker(ABC):
     What was told and is not passed on at a break is found by the claims of the next joining.
     """
 
-    def __init__(self, note: Shared, post: Post, mgr: str) -> None:
-        self.note, self.post, self.logs = note, post, Logs(mgr)
+    def __init__(self, note: SharedNote, post: Post) -> None:
+        self.note, self.post = note, post
         self.is_leaving = False
         # Whether what others have was accepted. From then on it is the same note, also where two begin it at once.
         self.is_accepted = False
-        self._told: list[bytes] = []
-        self._is_woken = False
-        self._changed = threading.Condition()
+        # Who is where, if the channel carries that.
+        self.presence: Presence | None = None
+        # What was told and is not passed on.
+        self.told: list[bytes] = []
+        self._given: Mailbox[Sequence[bytes]] = Mailbox()
         self._state = State("")
         self._thread = threading.Thread(target=self._run, daemon=True)
+
+    def connected(self) -> AbstractContextManager[object]:
+        """Opens what the channel goes by, and ends it."""
+        return contextlib.nullcontext()
 
     @abstractmethod
     def join(self) -> str:
@@ -40,59 +50,68 @@ class Worker(ABC):
         """Passes on what was told and takes what came; returns how many seconds are to pass to the next turn."""
 
     def leave(self) -> None:
-        """Ends what the channel has open."""
+        """Waits until what was passed on last has been taken."""
 
-    def break_off(self) -> None:
-        """Ends what may be of no more use, where something failed."""
+    def descriptors(self) -> tuple[list[int], list[int]]:
+        """Returns what is to be read and written: its waits end once that can be."""
+        return [], []
 
     # ---- what the front calls
 
     def start(self) -> None:
+        """Begins to join. What comes is posted."""
         self._thread.start()
 
     def tell(self, lines: Sequence[bytes]) -> None:
-        with self._changed:
-            self._told += lines
-        self.wake()
+        """Passes on own operations, which are saved, in their order."""
+        self._given.post(lines)
 
-    def show_place(self, identifier: tuple[int, int]) -> None:
-        """Places are not carried."""
+    def show_place(self, place: Place) -> None:
+        """Says where point stands, if the channel carries that."""
+        if self.presence and place != self.presence.place:
+            self.presence.place = place
+            self.wake()
 
     def close(self, seconds: float) -> bool:
+        """Leaves, and answers whether all that was told had been passed on within that time."""
         self.is_leaving = True
         self.wake()
         if self._thread.ident is not None:
             self._thread.join(seconds)
-        return not (self._thread.is_alive() or self._told)
+        return not (self._thread.is_alive() or self.told or any(self._given.letters))
+
+    def wake(self) -> None:
+        """Has the next turn now; any thread may ask for that."""
+        self._given.post(())
 
     # ---- what the thread calls
 
-    def wake(self) -> None:
-        """Has the next turn now."""
-        with self._changed:
-            self._is_woken = True
-            self._changed.notify_all()
-
-    def told(self) -> list[bytes]:
-        """Returns what was told and is not passed on."""
-        with self._changed:
-            return self._told[:]
+    def wait(self, seconds: float) -> None:
+        """Waits until something is told, or can be read or written; takes note of what is told."""
+        reading, writing = self.descriptors()
+        select.select([self._given.woken, *reading], writing, [], max(0.0, seconds))
+        for lines in self._given.take():
+            self.told += lines
 
     def passed(self, count: int) -> None:
         """Takes note that so many lines of what was told are passed on."""
-        with self._changed:
-            del self._told[:count]
+        del self.told[:count]
 
-    def compare(self, log: bytes, mends: bool = False) -> Difference:
-        """Holds what others have against the note, and takes what it lacks."""
-        found = self.logs.difference(self.note, log, mends, not self.is_accepted)
+    def compare(self, log: bytes, mends: bool = False) -> tuple[list[bytes], Others]:
+        """Takes what the note lacks of a log of others; returns what that lacks, and what they have."""
+        others = self.note.others(log, mends)
+        return self.accept(others), others
+
+    def accept(self, others: Others) -> list[bytes]:
+        """Takes what others have, and returns what they lack; `Apart` if it belongs to another note."""
+        given = self.note.given(others, not self.is_accepted)
         self.is_accepted = True
-        self.take(found.lacked)
-        return found
+        self.take(others.lines)
+        return given
 
-    def take(self, lines: Sequence[bytes]) -> None:
-        if lines:
-            self.post(Took(tuple(lines)))
+    def take(self, lines: Iterable[bytes]) -> None:
+        if made := tuple(lines):
+            self.post(Took(made))
 
     def say(self, state: State) -> None:
         """Says how the channel stands, where that is news."""
@@ -102,7 +121,7 @@ class Worker(ABC):
 
     def join_all(self) -> None:
         """Joins, with which all that was told before is passed on too: the note's log has it."""
-        count = len(self.told())
+        count = len(self.told)
         remark = self.join()
         self.passed(count)
         self.say(State("live", remark))
@@ -111,47 +130,43 @@ class Worker(ABC):
         self.say(State("joining"))
         pause = FIRST_PAUSE
         while not self._work():
-            if self.is_leaving or self._state.word == REFUSED:
-                break
-            self._pause(pause)
+            if self.is_leaving or self._state.word in FINAL:
+                return
             # One that was live joins again soon.
-            pause = FIRST_PAUSE if self._was_live else min(2 * pause, MOST_PAUSE)
-        self.leave()
+            pause = FIRST_PAUSE if self._was_live else pause
+            until = time.monotonic() + pause
+            while not self.is_leaving and time.monotonic() < until:
+                self.wait(until - time.monotonic())
+            pause = min(2 * pause, MOST_PAUSE)
 
     def _work(self) -> bool:
         """Joins and has turns; answers whether that went well up to the end."""
         self._was_live = False
         try:
-            self.join_all()
-            self._was_live = True
-            self._stay()
+            with self.connected():
+                self.join_all()
+                self._was_live = True
+                self._stay()
             return True
         except Apart as apart:
             self.say(apart.state)
         except Exception as fault:  # Whatever it is, a thread that ended without a word would say nothing any more.
             self.say(State("alone", why(fault)))
-        self.break_off()
+        finally:
+            if self.presence:
+                self.presence.begin()
         return False
 
     def _stay(self) -> None:
         """Has turns to the end."""
+        seconds = 0.0
         while True:
             is_last = self.is_leaving
-            with self._changed:
-                self._is_woken = False
+            self.wait(0.0 if is_last else seconds)
             seconds = self.turn()
-            if not is_last:
-                with self._changed:
-                    self._changed.wait_for(lambda: self._is_woken, seconds)
-            elif not self.told():
+            if is_last and not self.told:
+                self.leave()
                 return
-            else:
-                time.sleep(min(seconds, LAST_TURNS))
-
-    def _pause(self, seconds: float) -> None:
-        """Waits to the end of the pause, or of the channel, whatever is told meanwhile."""
-        with self._changed:
-            self._changed.wait_for(lambda: self.is_leaving, seconds)
 
 
 def why(fault: Exception) -> str:
