@@ -42,7 +42,7 @@ SIZES = (1_000, 100_000, 900_000)
 WRITERS, KEYS, EACH, IDLE = 4, 300, 0.1, 60.0
 ROWS, COLUMNS = 30, 100
 FIRST_LINE = b"a line of the note"
-LINE_BEGIN, NEXT_LINE, LEAVE, UNDO = b"\x01", b"\x0e", b"\x18\x03", b"\x1f"
+LINE_BEGIN, NEXT_LINE, LEAVE, UNDO = b"\x01", b"\x0e", b"\x18\x03s", b"\x1f"
 PASTE, PASTED = b"\x1b[200~", b"\x1b[201~"
 CSI = re.compile(rb"\x1b\[[0-9;?]*[ -/]*[@-~]|\x1b[()][A-Z0-9]|\x1b[=>]")
 CRDT = "/usr/share/emacs/site-lisp/elpa"

@@ -8,7 +8,7 @@ _mgr_notes() {
     while IFS= read -r path; do
         if [[ -d $path ]]; then
             COMPREPLY+=("$path")
-        elif [[ $path != *@(~|.keys|.ops.new|.ops.refused|.ops.text) ]]; then
+        elif [[ $path != *@(~|.ops.new|.ops.refused|.ops.text) ]]; then
             COMPREPLY+=("${path%.ops}")
         fi
     done < <(compgen -f -- "$begin")
@@ -44,7 +44,7 @@ _mgr() {
     fi
     case ${1##*/} in
         mgr-live)
-            _mgr_word "$word" --replica --fill --port --with --as --no-colour --adopt --take-file --keep-file --trim --version --help
+            _mgr_word "$word" --replica --fill --with --as --no-colour --adopt --history --take-file --keep-file --trim --version --help
             ;;
         mgr-hub)
             _mgr_word "$word" --port --join --replica --version --help

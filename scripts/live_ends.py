@@ -1,13 +1,11 @@
-"""Ends of mgr-live, saves without a key for them, and exchanges with peers."""
+"""Ends of mgr-live, and saves without a key for them."""
 
 import os
 import random
 import signal
-import socket
 import subprocess
 import time
 
-from session import EXCHANGE, await_listener, free_port
 from terminal import BEHIND, is_gone, mode_line, state_of, text_of
 
 
@@ -56,9 +54,11 @@ def files_that_may_not_grow(terminal):
     terminal.press("C-x", "C-s")
     terminal.see("a save", {8: mode_line("**", "L1 C120"), 9: "File fault [Not saved: File fault]"})
     terminal.press("C-x", "C-c")
-    terminal.see("a question", {9: "Changed buffers; quit (y or n):  [Not saved: File fault]"})
-    terminal.press("y")
-    terminal.left("left", "mgr-live: Not saved: File fault", "status 0")
+    terminal.see("a question", {9: "Not saved: s tries again, d leaves and keeps it apart?"})
+    terminal.press("d")
+    terminal.expect("left", lambda: "status 0" in terminal.shown(), True)
+    found = [path.read_text() for path in terminal.folder.glob("state/mgr/guests/*/*/text")]
+    terminal.expect("the state folder", lambda: found, ["words " * 20])
 
 
 def mgr_is_killed(terminal):
@@ -120,57 +120,8 @@ def saved_by_itself(terminal):
     terminal.expect_file("other", "b")
     terminal.expect("the one without", (terminal.folder / "read.ops").exists, False)
     terminal.see("nothing is said", {0: "ac", 9: ""}, (0, 2))
-    terminal.press("C-x", "C-c", "y")
+    terminal.leave()
     terminal.left("left", "status 0")
-
-
-def waiting_for_a_peer(terminal):
-    """a wait for a peer that C-g ends, and TERM"""
-    port = free_port()
-    for end in ("C-g", "TERM"):
-        terminal.begin(f"notes --replica 1 --port {port}")
-        terminal.see("start", {8: mode_line("--", "L1 C0")})
-        terminal.write("hello ")
-        terminal.press("M-x")
-        terminal.write("replica-serve")
-        terminal.press("Enter")
-        await_listener(port)
-        terminal.write("typed ahead")
-        if end == "C-g":
-            terminal.press("C-g")
-            terminal.expect("C-g", lambda: terminal.shown()[0], "hello typed ahead")
-            terminal.quit("saved")
-        else:
-            os.kill(terminal.programs()[0], signal.SIGTERM)
-            terminal.left("TERM", "status 143")
-        terminal.expect_file("notes", "hello typed ahead")
-        for path in terminal.folder.glob("notes*"):
-            path.unlink()
-
-
-def a_silent_peer(terminal):
-    """a peer that says nothing, which mgr waits for, and TERM"""
-    with socket.create_server(("127.0.0.1", 0)) as peer:
-        port = peer.getsockname()[1]
-        terminal.begin(f"notes --replica 1 --port {port}")
-        terminal.see("start", {8: mode_line("--", "L1 C0")}, (0, 0))
-        terminal.write("saved before")
-        terminal.press("M-x")
-        terminal.write("replica-exchange")
-        terminal.press("Enter")
-        link, _ = peer.accept()
-        with link:
-            terminal.write(", typed")
-            terminal.press("Enter")
-            terminal.write("meanwhile")
-            time.sleep(0.5)
-            os.kill(terminal.programs()[0], signal.SIGTERM)
-            said = "mgr-live: mgr did not take the last keys: they are in notes."
-            terminal.expect("TERM", lambda: terminal.shown()[:2], [said, "keys"], seconds=30)
-            terminal.expect("its status", lambda: "status 143" in terminal.shown(), True)
-    terminal.expect_file("notes", "saved before")
-    edit(terminal, ["notes", "--replica", "1"], (terminal.folder / "notes.keys").read_bytes())
-    terminal.expect_file("notes", ", typed\nmeanwhilesaved before")
 
 
 # Keys that mgr-live hands on as they are, some of which open prompts, begin others or end them.
@@ -204,30 +155,6 @@ def seeded_keys(terminal):
         texts = [path.read_text() if path.exists() else "" for path in paths]
         terminal.expect(f"seed {seed}: {keys!r}", lambda: texts[0], texts[1])
         print(f"    {len(keys)} bytes of keys: {len(texts[0])} characters")
-
-
-def exchanging(terminal):
-    """an exchange, whose message stays for two seconds"""
-    port = free_port()
-    terminal.begin(f"notes --replica 1 --port {port}")
-    terminal.see("start", {8: mode_line("--", "L1 C0")}, (0, 0))
-    terminal.write("ours")
-    terminal.press("M-x")
-    terminal.write("replica-serve")
-    terminal.press("Enter")
-    await_listener(port)
-    terminal.write("!")
-    edit(terminal, ["peer", "--replica", "2", "--port", str(port)], EXCHANGE)
-    begun = time.monotonic()
-    terminal.see("a key was typed ahead", {0: "ours!", 9: "Sent 4, received 0"}, (0, 5))
-    terminal.press("C-x", "C-f")
-    terminal.see("a prompt", {9: "Find file:  [Sent 4, received 0]"}, (9, 11))
-    terminal.see("later", {9: "Find file:"}, (9, 11))
-    took = time.monotonic() - begun
-    terminal.expect(f"it stood for {took:.1f} seconds", lambda: took >= 1.8, True)
-    print(f"    it stood for {took:.1f} seconds")
-    terminal.press("C-g")
-    terminal.quit("saved")
 
 
 def hanging_up(terminal):
@@ -267,9 +194,6 @@ PARTS = (
     typed_ahead,
     a_fault_of_the_front,
     seeded_keys,
-    waiting_for_a_peer,
-    a_silent_peer,
-    exchanging,
     saved_by_itself,
     hanging_up,
 )

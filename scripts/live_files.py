@@ -37,7 +37,7 @@ def taking_the_file(terminal):
     put, deleted = (sum(f'"op":"{op}"' in line for line in added) for op in ("ins", "del"))
     print(f"    the log has {put} insertions and {deleted} deletions more")
     terminal.expect("as few as that", lambda: (put, deleted), (1 + len(" and a half\r\nfive"), 3))
-    terminal.press("C-x", "C-c")
+    terminal.leave()
     terminal.expect("left", lambda: any(row.endswith("status 0") for row in terminal.shown()), True)
     terminal.expect_file("notes", NEW)
     terminal.expect("the log", lambda: text_of(terminal.mgr, terminal.folder / "notes.ops"), NEW)
@@ -71,12 +71,12 @@ def by_the_command_line(terminal):
     terminal.expect_file("notes", NEW)
     terminal.begin("notes --replica 1 --take-file")
     terminal.see("--take-file", {1: "2", 8: mode_line("--", "L1 C0")}, (0, 0))
-    terminal.press("C-x", "C-c")
+    terminal.leave()
     terminal.left("left", "status 0")
     (terminal.folder / "notes").write_text(OLD)
     terminal.begin("notes --replica 1 --keep-file")
     terminal.see("--keep-file", {1: "2", 8: mode_line("--", "L1 C0")}, (0, 0))
-    terminal.press("C-x", "C-c")
+    terminal.leave()
     terminal.left("left", "status 0")
     terminal.expect_file("notes~", OLD)
     terminal.expect_file("notes", NEW)
@@ -92,7 +92,7 @@ def a_missing_part(terminal):
     terminal.begin("notes --replica 1 --keep-file")
     said = "A part of notes.ops is missing; notes~ has what stood there"
     terminal.see("the first frame", {0: "one", 8: mode_line("--", "L1 C0", waiting=10), 9: said})
-    terminal.press("C-x", "C-c")
+    terminal.leave()
     terminal.left("left", "status 0")
     terminal.expect_file("notes~", "one two three\n")
 
@@ -116,7 +116,7 @@ def numbers(terminal):
     (terminal.folder / "copy.ops").rename(log)
     terminal.begin("notes --keep-file")
     terminal.see("the old log, which is only read", {0: "ba"}, (0, 0))
-    terminal.press("C-x", "C-c")
+    terminal.leave()
     terminal.left("left", "status 0")
     terminal.expect("no number more", lambda: _kept_numbers(kept), first + second)
 
@@ -137,7 +137,7 @@ def _numbers_in(log):
 def _kept_numbers(kept):
     """Returns the numbers of the one copy that something is kept of."""
     (copy,) = kept.iterdir()
-    return [str(number) for number in json.loads(copy.read_text())["numbers"]]
+    return list(json.loads(copy.read_text())["counters"])
 
 
 def a_refused_log(terminal):
@@ -200,7 +200,7 @@ def open_twice(terminal):
     terminal.begin("notes --replica 1")
     said = "mgr-live: notes: another mgr has it open, or a file of it cannot be read"
     terminal.left("open once more", *terminal.wrapped(said), "status 3")
-    other.press("C-x", "C-c")
+    other.leave()
     other.left("left", "status 0")
 
 

@@ -91,7 +91,7 @@ def pasting(terminal):
     terminal.press("C-x", "C-s")
     note = terminal.folder / "notes"
     terminal.expect("the file", lambda: note.exists() and note.read_text(), long)
-    terminal.press("C-x", "C-c")
+    terminal.leave()
     terminal.left("saved", "status 0")
 
 
@@ -131,7 +131,8 @@ def completing(terminal):
     terminal.see("nothing to complete", {9: "Find file: z [No match]"}, (9, 12))
     terminal.press("C-g", "M-%", "x", "Tab", "y")
     terminal.see("TAB where no name is asked for", {9: "Query replace: x        y"})
-    terminal.press("C-g", "C-x", "C-c", "y")
+    terminal.press("C-g")
+    terminal.leave()
     terminal.left("left", "status 0")
 
 

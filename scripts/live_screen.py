@@ -34,7 +34,7 @@ def typing(terminal):
     terminal.see("F5 does nothing, and Shift-Right what Right does", {9: "End of buffer"}, (1, 11))
     terminal.press("C-x", "C-s")
     terminal.see("C-x C-s", {8: mode_line("--", "L2 C11"), 9: "Wrote notes"}, (1, 11))
-    terminal.press("C-x", "C-c")
+    terminal.leave()
     terminal.left("C-x C-c", "status 0")
     terminal.expect_file("notes", "hello 漢字\nsecond line")
 

@@ -151,6 +151,14 @@ class Terminal:
         """Returns the rows that a line takes on the shell's screen."""
         return [line[i : i + self.columns].rstrip() for i in range(0, len(line), self.columns)]
 
+    def leave(self):
+        """Leaves; where it is asked what becomes of the text, that is put."""
+        self.press("C-x", "C-c")
+        ends = ("Leave: ", "status ", "same terminal")
+        self.expect("left, or a question", lambda: any(row.startswith(ends) for row in self.shown()), True, 60)
+        if any(row.startswith("Leave: ") for row in self.shown()):
+            self.press("s")
+
     def quit(self, what):
         """Saves and leaves, which has to be well."""
         self.press("C-x", "C-s", "C-x", "C-c")

@@ -117,7 +117,7 @@ class Person:
 
     def leave(self):
         """leaves"""
-        self.terminal.press("C-x", "C-c")
+        self.terminal.leave()
         self.left()
         self.terminal.expect("the status", lambda: "status 0" in self.terminal.shown(), True)
 

@@ -110,7 +110,7 @@ def another_note(server, mgr):
         print("\n".join("    | " + row for row in bob.terminal.shown()[:8] if row))
         answer(bob, letter)
         if letter == "t":
-            bob.terminal.press("C-x", "C-c")
+            bob.terminal.leave()
         bob.left()
         seen = {name: (home / name).read_text() for name in texts}
         if seen != texts or "mine" in text_of(mgr, trial.engine.hub.folder / "note.ops"):

@@ -3,9 +3,9 @@
 import os
 from collections.abc import Iterable
 
-from mgr_front.bindings import CONTROL_SIGN
 from mgr_front.errands import Errand
 from mgr_front.keys import DELETE, RETURN
+from mgr_front.notes import LOG, why_not_written
 from mgr_front.statuses import COMMAND, FIND, KILL, SWITCH
 from mgr_front.who import WHO
 
@@ -21,9 +21,9 @@ COMMANDS = """
 """.split()
 
 HOME = "~/"
+FAULT, ELSEWHERE = "File fault", ": another mgr has it open, or a file of it cannot be read"
 # Files that stand beside a note and are none.
 BESIDE = ("~", ".ops.new", ".ops.refused", ".ops.text")
-LOG = ".ops"
 
 
 def expanded(name: str) -> str:
@@ -55,10 +55,7 @@ def _notes(answer: str) -> Iterable[str]:
 
 
 def _can_be_typed(name: str) -> bool:
-    try:
-        return not CONTROL_SIGN.search(name.encode())
-    except UnicodeEncodeError:
-        return False
+    return not any(sign < " " or sign == "\x7f" or "\ud800" <= sign <= "\udfff" for sign in name)
 
 
 def complete(label: str, answer: str, buffers: Iterable[str]) -> Errand:
@@ -76,20 +73,20 @@ def complete(label: str, answer: str, buffers: Iterable[str]) -> Errand:
     return "Sole completion" if len(found) == 1 else " ".join(os.path.basename(name) or name for name in found)
 
 
-def accept(answer: str) -> Errand:
-    """Accepts the answer of a prompt, with the home folder in place of a leading `~/`."""
-    yield _retyped(answer, expanded(answer)) + bytes([RETURN])
+def accept(label: str, answer: str) -> Errand:
+    """Accepts the answer of a prompt, with the home folder in place of a leading `~/`; says what ails a file."""
+    name = expanded(answer)
+    status = yield _retyped(answer, name) + bytes([RETURN])
+    if status.message == FAULT:
+        return FAULT + (why_not_written(name) or ELSEWHERE)
+    if label == FIND and not os.path.isdir(os.path.dirname(name) or "."):
+        return f"Nothing can be saved{why_not_written(name)}"
     return None
 
 
 def asks_for_name(label: str) -> bool:
     """Whether a prompt asks for a name, of a command, a file or a buffer."""
     return label in (COMMAND, FIND, SWITCH, KILL)
-
-
-def begins_at_home(label: str, answer: str) -> bool:
-    """Whether a prompt asks for the name of a file or a buffer, and it begins in the home folder."""
-    return label in (FIND, SWITCH, KILL) and answer.startswith(HOME)
 
 
 def _retyped(answer: str, new: str) -> bytes:

@@ -60,7 +60,7 @@ class Copy:
         """`path` is that of its text."""
         self.owner = [machine(), user(), os.path.realpath(path)]
         self.file = os.path.join(state_folder(), "copies", digest(json.dumps(self.owner).encode()))
-        self.kept: dict[str, Any] = {"copy": self.owner, "numbers": [], "written": 0, "operations": 0, "text": ""}
+        self.kept: dict[str, Any] = {"copy": self.owner, "counters": {}, "operations": 0, "text": "", "compacted": 0}
         try:
             with open(self.file, encoding="ascii") as file:
                 self.kept |= json.load(file)
@@ -78,30 +78,34 @@ class Copy:
             pass
 
     def number(self, log: Log | None) -> int:
-        """Returns the number for this copy: the last one, if all that it wrote is in the log, else a new one.
+        """Returns the number for this copy: its last one under which the log goes as far as was told, else a new one.
 
-        What is not in it was lost, or never saved, and others may have it: that number names nothing
-        again.
+        Another log was restored, cut or checked out, and others may have what it lacks: under that number it
+        would be given twice.
         """
-        numbers, written = self.kept["numbers"], log.written if log else {}
-        if numbers and written.get(numbers[-1], 0) >= max(1, self.kept["written"]):
-            return int(numbers[-1])
-        return self.new_number(log)
+        counters = log.counters if log else {}
+        told = {int(number): counter for number, counter in self.kept["counters"].items()}
+        numbers = [number for number in told if counters.get(number, 0) >= told[number]]
+        return numbers[-1] if numbers else self.new_number(log)
 
     def new_number(self, log: Log | None) -> int:
         """Returns a number that nobody has used here."""
-        return draw({*self.kept["numbers"], *(log.written if log else ())})
+        return draw({*map(int, self.kept["counters"]), *(log.counters if log else ())})
 
-    def keep_number(self, number: int) -> None:
-        """Keeps a number, as something is written under it: a note that is only read needs none."""
-        if number not in self.kept["numbers"]:
-            self.kept |= {"numbers": [*self.kept["numbers"], number], "written": 0}
+    def keep_number(self, number: int, counter: int = 0) -> None:
+        """Keeps a number and the greatest counter that was told of it: a note that is only read needs none."""
+        if counter > self.kept["counters"].get(str(number), -1):
+            self.kept["counters"][str(number)] = counter
             self._keep()
 
     def remember(self, text: bytes, log: Log) -> None:
         """Keeps how an edit left it, with this text, which is the one of its log."""
-        written = sum(log.written.get(number, 0) for number in self.kept["numbers"][-1:])
-        self.kept |= {"text": digest(text), "operations": log.operations, "written": written}
+        self.kept |= {"text": digest(text), "operations": log.operations}
+        self._keep()
+
+    def compacted(self, size: int) -> None:
+        """Keeps how many bytes the log has as it is compacted."""
+        self.kept["compacted"] = size
         self._keep()
 
     def is_merged(self, text: bytes, log: Log) -> bool:

@@ -3,58 +3,29 @@
 import re
 from collections import deque
 from collections.abc import Iterable
-from typing import Protocol
+from typing import TYPE_CHECKING
 
-from mgr_front.bindings import LINE_MODES, answer_keys, argument_keys, named_keys, plain_keys, text_keys
+from mgr_front.bindings import LINE_MODES, argument_keys, named_keys, plain_keys
 from mgr_front.editor import Editor
-from mgr_front.errands import Errand, kill_word_backward
+from mgr_front.errands import kill_word_backward
 from mgr_front.keys import CANCEL, CONTROL_X, DELETE, ESCAPE, NO_KEY, QUOTE, RETURN, TAB
 from mgr_front.keys import Meta, Named, Pasted, Stroke, Typed
-from mgr_front.minibuffer import Question, ask_for_line
+from mgr_front.minibuffer import Help, ask_for_line, ask_for_name
 from mgr_front.statuses import PLAIN, PROMPT, QUERY
 
-LEAVE, REPAINT, SUSPEND = 0x03, 0x0C, 0x1A
+if TYPE_CHECKING:
+    from mgr_front.session import Session
+
+LEAVE, HELP, REPAINT, SAVE, WRITE, SUSPEND = 0x03, 0x08, 0x0C, 0x13, 0x17, 0x1A
 # Keys that the front looks at, besides the one that erases.
-SPECIAL = bytes([SUSPEND, ESCAPE, CONTROL_X, TAB, RETURN])
-
-
-class Desk(Protocol):
-    """What the front does itself."""
-
-    errand: Errand | None
-    question: Question | None
-
-    def suspend(self) -> None:
-        """Stops the program until it is continued."""
-
-    def repaint(self) -> None:
-        """Has all of the screen be drawn anew."""
-
-    def start(self, errand: Errand) -> None:
-        """Begins an errand."""
-
-    def ask(self, question: Question) -> None:
-        """Asks something in the echo line."""
-
-    def answer(self, byte: int) -> None:
-        """Takes a key of the answer to what is asked."""
-
-    def leave(self) -> None:
-        """Has all be saved, and leaves."""
-
-    def complete(self) -> None:
-        """Completes the answer of the open prompt."""
-
-    def accept(self) -> None:
-        """Accepts the answer of the open prompt."""
+SPECIAL = bytes([SUSPEND, ESCAPE, CONTROL_X, TAB, RETURN, HELP])
 
 
 class Dispatcher:
     """The strokes that wait, in their order.
 
     What a stroke does can depend on what mgr asks for. Such a one waits until mgr has answered all
-    keys before it; a text goes on at once, but behind a command of M-x, whose message is to be seen.
-    ESC and C-x are kept until the key behind them is there.
+    keys before it; a text goes on at once. ESC and C-x are kept until the key behind them is there.
     """
 
     def __init__(self, editor: Editor, erase: int = DELETE) -> None:
@@ -74,7 +45,7 @@ class Dispatcher:
             else:
                 self.strokes.append(stroke)
 
-    def run(self, desk: Desk) -> None:
+    def run(self, desk: "Session") -> None:
         """Does all strokes of which it is known what they do."""
         while self.strokes and self._is_clear(self.strokes[0], desk):
             stroke = self.strokes.popleft()
@@ -89,39 +60,43 @@ class Dispatcher:
             else:
                 self._paste(stroke)
 
-    def give_up(self) -> bytes:
-        """Returns the keys of all strokes that wait, as where mgr asks for nothing."""
-        keys = self.prefix + b"".join(map(plain_keys, self.strokes))
-        self.strokes.clear()
+    def give_up(self) -> None:
+        """Does all strokes that wait, as where mgr asks for nothing."""
+        self.editor.hand_on(self.prefix)
         self.prefix = b""
-        return keys
+        while self.strokes:
+            stroke = self.strokes.popleft()
+            if isinstance(stroke, Pasted):
+                self.editor.paste(stroke.text, not stroke.is_last)
+            else:
+                self.editor.hand_on(plain_keys(stroke))
 
-    def _is_clear(self, stroke: Stroke, desk: Desk) -> bool:
+    def _is_clear(self, stroke: Stroke, desk: "Session") -> bool:
         """Whether it is known what a stroke does."""
         if desk.question:
             return True
         if desk.errand:
             return False
-        if not isinstance(stroke, Typed) or self.prefix or self.editor.is_settled:
-            return self.editor.is_settled
-        # C-z does not wait for a peer.
-        return stroke.data[0] == SUSPEND if self.editor.command else stroke.data[0] not in self.special
+        is_text = isinstance(stroke, Typed) and not self.prefix and stroke.data[0] not in self.special
+        return is_text or self.editor.is_settled
 
-    def _answer(self, stroke: Stroke, desk: Desk) -> None:
+    def _answer(self, stroke: Stroke, desk: "Session") -> None:
         """Gives the front's own question the first key of a stroke; the others wait, as it may end."""
-        keys = answer_keys(stroke) if isinstance(stroke, Pasted) else plain_keys(stroke)
-        if isinstance(stroke, Named | Meta) or not keys:
+        if isinstance(stroke, Named | Meta):
+            stroke = Typed(bytes([ESCAPE]))
+        keys = stroke.text.partition("\n")[0].encode() if isinstance(stroke, Pasted) else stroke.data
+        if not keys:
             return
         if keys[1:]:
             self.strokes.appendleft(Typed(keys[1:]))
         desk.answer(DELETE if keys[0] == self.erase else keys[0])
 
-    def _hand_on(self, keys: bytes, desk: Desk) -> None:
+    def _hand_on(self, keys: bytes, desk: "Session") -> None:
         self.editor.hand_on(keys)
         if REPAINT in keys:
             desk.repaint()
 
-    def _type(self, data: bytes, desk: Desk) -> None:
+    def _type(self, data: bytes, desk: "Session") -> None:
         if self.prefix:
             if data[1:]:
                 self.strokes.appendleft(Typed(data[1:]))
@@ -135,19 +110,21 @@ class Dispatcher:
         else:
             self._press(data, desk)
 
-    def _press(self, key: bytes, desk: Desk) -> None:
+    def _press(self, key: bytes, desk: "Session") -> None:
         """Does a key that means something else while a line is asked for."""
         mode = self.editor.status.mode
         if mode == PROMPT and key[0] == TAB:
             desk.complete()
         elif mode == PROMPT and key[0] == RETURN:
             desk.accept()
-        elif mode in LINE_MODES or key[0] in (TAB, RETURN):
+        elif mode == PLAIN and key[0] == HELP:
+            desk.ask(Help())
+        elif mode in LINE_MODES or key[0] in (TAB, RETURN, HELP):
             self._hand_on(key, desk)
         else:
             self.prefix = key
 
-    def _complete(self, byte: int, desk: Desk) -> None:
+    def _complete(self, byte: int, desk: "Session") -> None:
         """Does the key that a byte makes with the one before it."""
         prefix, self.prefix = self.prefix, b""
         is_meta = prefix == bytes([ESCAPE])
@@ -157,14 +134,16 @@ class Dispatcher:
             desk.start(kill_word_backward())
         elif not is_meta and byte == ord("g"):
             desk.ask(ask_for_line())
-        elif not is_meta and byte == LEAVE:
-            desk.leave()
+        elif not is_meta and byte == WRITE:
+            desk.ask(ask_for_name())
+        elif not is_meta and byte in (LEAVE, SAVE):
+            desk.start(desk.leave() if byte == LEAVE else desk.save())
         elif not is_meta and byte == SUSPEND:
             desk.suspend()
         else:
             self._hand_on(prefix + bytes([byte]), desk)
 
-    def _press_meta(self, byte: int, desk: Desk) -> None:
+    def _press_meta(self, byte: int, desk: "Session") -> None:
         if self.prefix or self._is_quoted():
             self._break_off()
         elif self.editor.status.mode in LINE_MODES:
@@ -174,7 +153,11 @@ class Dispatcher:
             self.prefix = bytes([ESCAPE])
             self._complete(byte, desk)
 
-    def _press_named(self, name: str, desk: Desk) -> None:
+    def _press_named(self, name: str, desk: "Session") -> None:
+        if name == "help":
+            self._break_off()
+            desk.ask(Help())
+            return
         keys = named_keys(name, self.editor.status.mode, bool(self.prefix) or self._is_quoted())
         self._hand_on(self.prefix + keys, desk)
         self.prefix = b""
@@ -188,10 +171,8 @@ class Dispatcher:
         elif status.mode == QUERY or status.is_quitting:
             self.editor.hand_on(bytes([CANCEL]))
             self.strokes.appendleft(pasted)
-        elif status.mode == PLAIN:
-            self.editor.hand_on(text_keys(pasted.data))
         else:
-            self.editor.hand_on(answer_keys(pasted))
+            self.editor.paste(pasted.text, not pasted.is_last)
 
     def _break_off(self) -> None:
         """Has what was begun of a key be none."""

@@ -1,8 +1,8 @@
 """A live `mgr edit` that runs: keys and reports go in, statuses come out, and nothing here waits for either."""
 
+import json
 import math
 import os
-import re
 import select
 import subprocess
 import time
@@ -11,7 +11,7 @@ from typing import IO
 
 from mgr_front.program import COLUMNS
 from mgr_front.signals import held_back
-from mgr_front.statuses import COMMAND, Status, Statuses
+from mgr_front.statuses import Status, Statuses
 
 BLOCK = 65536
 # Seconds for which it is waited at once: who waits may have something else to do.
@@ -21,8 +21,16 @@ LEAST_ROWS, MOST_ROWS = 3, 200
 
 # It begins a report, and is no key.
 REPORT = b"\xff"
-# The keys that give M-x a command.
-COMMAND_KEYS = re.compile(rb"\x1bx([^\r]*)\r")
+# So many characters of a text stand in a report: with the longest escapes it is not too long.
+PIECE = 8192
+
+
+def with_text(text: str, more: bool = False, **members: object) -> list[bytes]:
+    """Returns the reports of a text, however long: mgr takes all as one command, be it that more comes."""
+    told = [members | {"text": text[i : i + PIECE], "more": True} for i in range(0, len(text) or 1, PIECE)]
+    if not more:
+        del told[-1]["more"]
+    return [json.dumps(each, ensure_ascii=False, separators=(",", ":")).encode() for each in told]
 
 
 class Talk:
@@ -31,11 +39,13 @@ class Talk:
     def __init__(self, rows: int) -> None:
         """`rows` is how many its screen has."""
         self.rows = rows
-        # The newest status, how many keys it was the first to tell of, and the command that these gave
-        # M-x. One is to come at the start, as if it were the answer to a report.
-        self.status, self.taken, self.done = Status(reports=-1), 0, ""
+        # The newest status, and how many keys it was the first to tell of. One is to come at the start, as if
+        # it were the answer to a report.
+        self.status, self.taken = Status(reports=-1), 0
         # What is still to be given; the keys that no status told of, and how many reports there were.
         self.waiting, self.untold, self.reports = bytearray(), bytearray(), 0
+        # Which reports were texts of the person.
+        self.pasted: set[int] = set()
         # The last two bytes of all keys.
         self.last = b""
 
@@ -52,6 +62,10 @@ class Talk:
         self.reports += 1
         return self.reports
 
+    def paste(self, text: str, more: bool = False) -> None:
+        """Has a text be put in, as one command with what comes behind it if that is more of it."""
+        self.pasted.update([self.report(line) for line in with_text(text, more, op="paste")])
+
     def resize(self, rows: int) -> None:
         """Gives the screen so many rows."""
         if rows != self.rows:
@@ -60,17 +74,9 @@ class Talk:
 
     def note(self, status: Status) -> None:
         """Takes note of a status."""
-        command, self.taken = self.command, status.keys - self.status.keys
+        self.taken = status.keys - self.status.keys
         del self.untold[: self.taken]
         self.status = status
-        self.done = "" if self.command else command
-
-    @property
-    def command(self) -> str:
-        """The command that M-x is given by the first keys that no status told of, if they do that."""
-        answer = b"\x1bx" + self.status.answer.encode() if self.status.label == COMMAND else b""
-        given = COMMAND_KEYS.match(answer + self.untold)
-        return given[1].decode("utf-8", "replace") if given else ""
 
     @property
     def is_settled(self) -> bool:
@@ -147,17 +153,9 @@ class Editor(Talk):
             except BrokenPipeError:
                 self.waiting.clear()
             except EOFError:
-                self._close()
+                self.process.wait()
+                for pipe in (self.process.stdin, self.process.stdout):
+                    if pipe:
+                        pipe.close()
                 return True
         return False
-
-    def kill(self) -> None:
-        """Ends a mgr that does nothing any more."""
-        self.process.kill()
-        self._close()
-
-    def _close(self) -> None:
-        self.process.wait()
-        for pipe in (self.process.stdin, self.process.stdout):
-            if pipe:
-                pipe.close()

@@ -6,16 +6,32 @@ its end. What it returns stands in the echo line then; where that is None, mgr's
 
 from collections.abc import Generator
 
+from mgr_front.saving import SAVE
 from mgr_front.statuses import Status
 
 Errand = Generator[bytes, Status, str | None]
 
+COPY_ALL, YANK = b"\x18h\x1bw", b"\x19"
 SET_MARK, KILL_REGION, NEXT_LINE, ARGUMENT = b"\x00", b"\x17", b"\x0e", b"\x15"
 LEAVE = b"\x18\x03"
 BACKWARD_WORD, BUFFER_BEGIN, BUFFER_END = b"\x1bb", b"\x1b<", b"\x1b>"
 MOST_ARGUMENT = 9999
 
 END_OF_BUFFER = "End of buffer"
+
+
+def switch_to(buffer: str) -> bytes:
+    """Returns the keys that go to a buffer."""
+    return b"\x18b" + buffer.encode() + b"\r"
+
+
+def copy_to(name: str, is_taken: bool) -> Errand:
+    """Goes to a new buffer of that name with the text of this one, and saves it, unless the name is taken."""
+    if is_taken:
+        return f"{name} is there already"
+    yield COPY_ALL + b"\x18\x06" + name.encode() + b"\r"
+    yield YANK + SAVE
+    return None
 
 
 def kill_word_backward() -> Errand:
@@ -41,11 +57,4 @@ def go_to_line(line: int) -> Errand:
         rest -= count
     if status.message == END_OF_BUFFER:
         yield BUFFER_END
-    return None
-
-
-def leave() -> Errand:
-    """Leaves, once all that was asked for before is answered."""
-    yield b""
-    yield LEAVE
     return None

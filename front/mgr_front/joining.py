@@ -53,7 +53,7 @@ def meet(opening: Opening) -> Company | None:
     company.channel.start()
     _wait(company, SSH if options.address and options.address[0] == HOSTS else PATIENCE)
     if company.state.word != "refused":
-        if len(company.lines) > MANY and note.merge(tuple(company.lines)):
+        if len(company.lines) > MANY * (options.text is None) and note.merge(tuple(company.lines)):
             company.lines.clear()
         return company
     if note.refused:

@@ -43,6 +43,10 @@ class Pasted:
     data: bytes
     is_last: bool
 
+    @property
+    def text(self) -> str:
+        return re.sub("\r\n?", "\n", self.data.decode("utf-8", "replace"))
+
 
 Stroke = Typed | Meta | Named | Pasted
 
@@ -58,6 +62,7 @@ NUMBERED = {
     b"3": "delete",
     b"5": "page-up",
     b"6": "page-down",
+    b"11": "help",
 }
 # What a modifier adds to the number behind the semicolon, which is 1 without any.
 CONTROL = 4
@@ -65,7 +70,7 @@ CONTROL = 4
 PASTE_BEGIN, PASTE_END = b"\x1b[200~", b"\x1b[201~"
 # No key has a number of more digits. Without a bound each of many would be tried as the last one.
 STROKE = re.compile(
-    rb"\x1b(?:O(?P<plain>[ -~])|\[\[[ -~]"
+    rb"\x1b(?:O(?P<plain>[ -~])|\[\[(?P<console>[ -~])"
     rb"|\[(?P<number>\d{0,3})(?:;(?P<modifier>\d{1,3})(?!\d))?[0-?]*[ -/]*(?P<last>[@-~]))"
     rb"|\x1b(?P<meta>[^\x1b])|(?P<typed>[^\x1b]+|\x1b)"
 )
@@ -96,11 +101,10 @@ class Keys:
         return bool(self.begun) and not self.is_pasting
 
     def give_up(self) -> list[Stroke]:
-        """Returns what was begun, as it was sent."""
+        """Returns what was begun, as it was sent: nothing goes on of it, nor of a paste."""
         begun, self.begun = self.begun, b""
-        if not begun:
-            return []
-        return [Pasted(begun, False)] if self.is_pasting else [Typed(begun)]
+        is_pasting, self.is_pasting = self.is_pasting, False
+        return [Pasted(begun, True)] if is_pasting else [Typed(begun)] * bool(begun)
 
     def _take_keys(self, sent: bytes, strokes: list[Stroke]) -> bytes:
         """Adds the strokes up to a paste, and returns what stands behind its beginning."""
@@ -125,21 +129,15 @@ class Keys:
 
 
 def _stroke(sent: re.Match[bytes]) -> Stroke | None:
-    """Returns the stroke that was sent; there is none for keys without a name, as F1."""
+    """Returns the stroke that was sent; there is none for keys without a name, as F5."""
     if sent["typed"]:
         return Typed(sent["typed"])
     if sent["meta"]:
         return Meta(sent["meta"][0])
+    if sent["plain"] == b"P" or sent["console"] == b"A":
+        return Named("help")
     is_numbered = sent["last"] == b"~"
     name = NUMBERED.get(sent["number"]) if is_numbered else LETTERS.get(sent["plain"] or sent["last"])
     if name and int(sent["modifier"] or 1) - 1 & CONTROL:
         name = CONTROLLED.get(name, name)
     return Named(name) if name else None
-
-
-def without_first(byte: int, strokes: list[Stroke]) -> list[Stroke]:
-    """Returns strokes without the first that is typed of a byte."""
-    for i, stroke in enumerate(strokes):
-        if isinstance(stroke, Typed) and byte in stroke.data:
-            return [*strokes[:i], Typed(stroke.data.replace(bytes([byte]), b"", 1)), *strokes[i + 1 :]]
-    return strokes

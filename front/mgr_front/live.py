@@ -8,15 +8,17 @@ from collections.abc import Sequence
 from mgr_front.channels import Apart
 from mgr_front.channels.stream import trim
 from mgr_front.company import Company
+from mgr_front.difference import changes, splices
 from mgr_front.editor import LEAST_ROWS, MOST_ROWS, Editor
 from mgr_front.ending import finish
 from mgr_front.guests import guest_of, take_back
+from mgr_front.history import choose
 from mgr_front.joining import meet
 from mgr_front.meeting import is_served
 from mgr_front.notes import Note, Refused
 from mgr_front.opening import Opening
 from mgr_front.options import REDIS, SECURE_REDIS, Options, read as read_options
-from mgr_front.program import explained, find, shell_status
+from mgr_front.program import explained, find, shell_status, text_of
 from mgr_front.saying import stop, tell
 from mgr_front.screen import Screen
 from mgr_front.session import Session
@@ -39,7 +41,7 @@ def terminal_rows() -> int:
 
 
 def words_for_mgr(options: Options, note: Note, number: int) -> list[str]:
-    given = {"--replica": number, "--fill": options.fill, "--port": options.port}
+    given = {"--replica": number, "--fill": options.fill}
     words = [word for name, value in given.items() if value is not None for word in (name, str(value))]
     return [*words, "--", note.name]
 
@@ -57,13 +59,16 @@ def edit(opening: Opening, company: Company | None, signals: Signals) -> int:
     note, options = opening.note, opening.options
     rows = terminal_rows()
     screen = Screen()
+    put_back = [] if options.text is None else splices(changes(text_of(opening.mgr, note), options.text))
     with tempfile.TemporaryFile() as said:
         editor = Editor(opening.mgr, words_for_mgr(options, note, opening.number), rows, said)
-        session = Session(editor, screen, signals, options.port, company)
+        session = Session(editor, screen, signals, company)
         session.names = note.name, options.name
         session.has_colours = not (options.is_plain or os.environ.get("NO_COLOR"))
         session.greeting = "; ".join(opening.remarks)
-        session.changed.append(opening.keep_number)
+        session.keep = opening.keep
+        for report in put_back:
+            editor.report(report)
         try:
             with screen:
                 session.run()
@@ -74,7 +79,7 @@ def edit(opening: Opening, company: Company | None, signals: Signals) -> int:
             said.seek(0)
             tell(explained(status, said.read().decode(), note, bool(editor.status.frame)))
         else:
-            opening.remember()
+            opening.remember(session.discards)
     return status_of(status, signals)
 
 
@@ -114,7 +119,9 @@ def main(words: Sequence[str], folder: str) -> int:
         if options.trims:
             return trim_stream(mgr, options)
         terminal_rows()
-        if not (options.address or options.port) and is_served(note.name):
+        if options.history:
+            options.text = choose(mgr, note)
+        if not options.address and is_served(note.name):
             return edit_as_guest(mgr, options)
         if said := take_back(mgr, note):
             tell(said)

@@ -79,11 +79,3 @@ def is_served(path: str) -> bool:
         return True
     except OSError:
         return False
-
-
-def knock(port: int) -> None:
-    """Opens a connection to a port of this machine and closes it: who waits there waits no more."""
-    try:
-        socket.create_connection((HOST, port), 0.2).close()
-    except OSError:
-        pass  # Nobody waits there yet, or any more.

@@ -1,22 +1,48 @@
-"""A line that the front itself asks for, in the echo line."""
+"""What the front itself asks, in the echo line, and the help that it shows above that."""
 
+import os
 from collections.abc import Callable
 
-from mgr_front.errands import Errand, go_to_line
+from mgr_front.errands import Errand, copy_to, go_to_line
 from mgr_front.keys import CANCEL, DELETE, RETURN
+from mgr_front.notes import Note
 
-# No note has as many lines as a number with so many digits says.
-MOST_ANSWER = 9
+# No note has as many lines as a number with so many digits says; and no name has more bytes.
+MOST_DIGITS, MOST_NAME = 9, 1024
+
+HELP = """\
+C-f C-b C-n C-p   a character on, back; a line down, up
+C-a C-e M-f M-b   ends of the line; a word on, back
+C-v M-v M-< M->   a window down, up; ends of the text
+C-d DEL M-d C-k   delete on, back; kill a word, a line
+C-SPC C-w M-w     set the mark; kill, copy up to it
+C-y C-_ C-q       yank; undo; insert the next character
+C-s C-r M-%       search on, back; replace
+M-u M-l M-c M-q   a word's case; fill the paragraph
+C-x C-f b k       open a note; go to one; remove one
+C-x C-s C-w       save; write under another name
+C-x C-c C-z       leave; suspend
+C-x 2 o 0 1       split; next window; one less; one only
+C-x g C-l C-u 4   go to a line; draw anew; four times
+M-x C-g C-h       a command; leave what was begun; this
+""".splitlines()
 
 
 class Question:
     """A question, and its answer so far."""
 
-    def __init__(self, label: str, allowed: str, accept: Callable[[str], Errand | None]) -> None:
-        """Asks for characters that are allowed; `accept` makes an errand of the answer."""
-        self.label, self.allowed, self.accept = label, allowed, accept
-        self.answer = ""
+    def __init__(self, label: str, accept: Callable[[str], Errand | None], most: int = MOST_NAME, keys: str = "") -> None:
+        """Asks for at most so many characters, digits if they are few, or for one of these keys.
+
+        `accept` makes an errand of the answer.
+        """
+        self.label, self.accept, self.most, self.keys = label, accept, most, keys
+        self.typed = b""
         self.is_open = True
+
+    @property
+    def answer(self) -> str:
+        return self.typed.decode("utf-8", "replace")
 
     @property
     def text(self) -> str:
@@ -25,20 +51,48 @@ class Question:
 
     def press(self, byte: int) -> Errand | None:
         """Takes a key, and returns the errand that it leads to; RET and C-g end the question."""
+        if self.keys and chr(byte) in self.keys:
+            self.is_open = False
+            return self.accept(chr(byte))
         if byte == DELETE:
-            self.answer = self.answer[:-1]
-        elif byte in (RETURN, CANCEL):
+            self.typed = self.answer[:-1].encode()
+        elif byte == CANCEL or byte == RETURN and not self.keys:
             self.is_open = False
             return self.accept(self.answer) if byte == RETURN else None
-        elif chr(byte) in self.allowed and len(self.answer) < MOST_ANSWER:
-            self.answer += chr(byte)
+        elif len(self.typed) < self.most and (byte in b"0123456789" or self.most > MOST_DIGITS and byte >= ord(" ")):
+            self.typed += bytes([byte])
+        return None
+
+
+class Help(Question):
+    """The keys, page by page: SPC shows further ones, any other key goes back."""
+
+    def __init__(self) -> None:
+        super().__init__("SPC: more keys; another key: back", lambda _: None)
+        self.lines, self.shown = HELP, 0
+
+    def page(self, rows: int) -> tuple[str, ...]:
+        """Returns the rows of a screen with so many, of which the last one is the echo line."""
+        self.shown = rows - 1
+        return tuple(self.lines[: self.shown] + [""] * rows)[:rows]
+
+    def press(self, byte: int) -> Errand | None:
+        self.lines = self.lines[self.shown :] if byte == ord(" ") else []
+        self.is_open = bool(self.lines)
         return None
 
 
 def ask_for_line() -> Question:
     """Asks for the number of a line to go to; where none is given, nothing is done."""
+    return Question("Goto line: ", lambda answer: go_to_line(int(answer)) if answer else None, MOST_DIGITS)
+
+
+def ask_for_name() -> Question:
+    """Asks for another name for the current text; one that is taken is none."""
 
     def accept(answer: str) -> Errand | None:
-        return go_to_line(int(answer)) if answer else None
+        name = os.path.expanduser(answer)
+        is_taken = os.path.lexists(name) or os.path.lexists(Note(name).log)
+        return copy_to(name, is_taken) if name else None
 
-    return Question("Goto line: ", "0123456789", accept)
+    return Question("Write file: ", accept)

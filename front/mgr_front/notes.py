@@ -1,9 +1,12 @@
 """The files of a note: its text, its log, and what is kept beside them."""
 
 import glob
-import itertools
 import os
 from dataclasses import dataclass
+
+
+# How the names of logs end.
+LOG = ".ops"
 
 
 class Refused(Exception):
@@ -22,7 +25,7 @@ class Note:
 
     @property
     def log(self) -> str:
-        return self.name + ".ops"
+        return self.name + LOG
 
     @property
     def has_log(self) -> bool:
@@ -42,6 +45,36 @@ def read(path: str) -> bytes:
         return file.read()
 
 
+def found(path: str) -> bytes | None:
+    """Returns what stands in a file, if it can be read."""
+    try:
+        return read(path)
+    except OSError:
+        return None
+
+
+def why_not_written(name: str) -> str:
+    """Returns which file of a note cannot be written, and why, as far as that can be seen."""
+    folder = os.path.dirname(name) or "."
+    if not os.path.isdir(folder):
+        return f": {folder} is not there"
+    if not os.statvfs(folder).f_bavail:
+        return f": no room is left in {folder}"
+    for path in (Note(name).log, name):
+        if os.path.exists(path) and not (os.access(path, os.W_OK) and os.path.isfile(path)):
+            return f": {path} may not be written"
+    return "" if os.access(folder, os.W_OK) else f": {folder} takes no new file"
+
+
+def put_back(path: str, before: bytes | None) -> None:
+    """Has a file be as it was before, be it that there was none."""
+    if before is None:
+        os.unlink(path)
+    else:
+        with open(path, "wb") as file:
+            file.write(before)
+
+
 class KeptFiles:
     """What mgr keeps beside notes, as something else had written it."""
 
@@ -55,19 +88,3 @@ class KeptFiles:
         known = self.known.get(name, found)
         self.known[name] = found
         return [f"{kept} has what stood there" for kept in sorted(found - known)]
-
-
-def keep_keys(note: Note, keys: bytes) -> str:
-    """Keeps keys that mgr did not take in a file beside the note, for its owner alone, and returns its path."""
-    for number in itertools.count():
-        path = f"{note.name}.keys" + (f".~{number}~" if number else "")
-        try:
-            file = open(path, "xb", opener=lambda name, flags: os.open(name, flags, 0o600))
-        except FileExistsError:
-            continue
-        with file:
-            file.write(keys)
-            file.flush()
-            os.fsync(file.fileno())
-        return path
-    raise AssertionError("numbers have no end")

@@ -9,16 +9,21 @@ import os
 import shutil
 import tempfile
 import time
+from collections.abc import Sequence
 
 from mgr_front.asking import choice
-from mgr_front.compaction import offer
 from mgr_front.copies import Copy
-from mgr_front.difference import changes, keys_of
-from mgr_front.notes import KeptFiles, Note, Refused, read
+from mgr_front.difference import changes, splices
+from mgr_front.editor import REPORT
+from mgr_front.notes import KeptFiles, Note, Refused, found, read, why_not_written
 from mgr_front.options import Options
 from mgr_front.program import Log, ask, edit, log_of, text_of
-from mgr_front.saving import SAVE
-from mgr_front.saying import REFUSED, say
+from mgr_front.saying import REFUSED, say, tell
+from mgr_front.shared import counters
+
+# A log is large that has more bytes than this, and than so many times its text.
+LARGE, TIMES = 1_000_000, 20
+NEW = "New: C-x C-s saves, C-x C-c leaves, C-_ undoes, C-h helps"
 
 
 class Opening:
@@ -36,8 +41,17 @@ class Opening:
         except Refused as refused:
             log = self._mended(refused)
         if log:
+            self._keep_written(log)
             self._settle(log)
-            offer(mgr, note, log)
+        if not os.path.isdir(os.path.dirname(note.name) or "."):
+            self.remarks.append(f"Nothing can be saved{why_not_written(note.name)}")
+        elif not (log or os.path.exists(note.name)):
+            self.remarks.append(NEW)
+
+    def _keep_written(self, log: Log | None) -> None:
+        """Keeps how far this copy wrote in the log, if it did: others are told that when they are joined."""
+        if log and self.number in log.counters and self.options.replica is None:
+            self.copy.keep_number(self.number, log.counters[self.number])
 
     def _mended(self, refused: Refused) -> Log | None:
         """Has the log mended that was refused so, if the person wants that, and says what was left out of it."""
@@ -68,8 +82,9 @@ class Opening:
         keeps = self.options.keeps_file or self.copy.is_merged(read(self.note.name), log)
         found = None if keeps and not self.options.takes_file else Difference(self.mgr, self.note, log)
         if found and (self.options.takes_file or choice(found.question(), "f", "l") == "f"):
-            self.keep_number()
+            self.keep(())
             found.take_file(self.number)
+            self._keep_written(log_of(self.mgr, self.note))
         else:
             self.remarks += mend(self.mgr, self.note)[0]
 
@@ -88,19 +103,29 @@ class Opening:
                 os.rename(old, new)
         return kept.name
 
-    def keep_number(self) -> None:
-        """Keeps the number of this copy, if none is given, as something is written under it."""
+    def keep(self, lines: Sequence[bytes]) -> None:
+        """Keeps how far this copy wrote, before others are told these lines."""
         if self.options.replica is None:
-            self.copy.keep_number(self.number)
+            self.copy.keep_number(self.number, max(counters(lines, self.number), default=0))
 
-    def remember(self) -> None:
-        """Keeps how the edit left the note, if its text is the one of its log."""
+    def remember(self, is_older: bool = False) -> None:
+        """Keeps how the edit left the note, if its text is the one of its log, or is to be older."""
         try:
             text, log = read(self.note.name), log_of(self.mgr, self.note)
         except (OSError, Refused):
             return  # One of them is not there, or this person may not read it.
-        if log and log.text == "same":
+        if log and (log.text == "same" or is_older):
             self.copy.remember(text, log)
+        if log and log.bytes > max(LARGE, TIMES * len(text), 2 * self.copy.kept["compacted"]):
+            self._compact()
+
+    def _compact(self) -> None:
+        """Has the log be compacted; it is again once it has grown to twice of what it is then."""
+        try:
+            ask(self.mgr, self.note, "compact")
+            self.copy.compacted(os.path.getsize(self.note.log))
+        except Refused as refused:
+            tell(f"{self.note.log} was not compacted: {refused}")
 
 
 def differ(mgr: str, note: Note, log: Log, replica: int) -> bool:
@@ -136,23 +161,21 @@ class Difference:
         )
 
     def take_file(self, replica: int) -> None:
-        """Brings the changes of the file into the log, as edits of this replica.
-
-        They are tried on a copy first: where the log has no room for all, it has to stay as it is.
-        """
-        name, log = self.note.name, self.note.log
+        """Brings the changes of the file into the log, as edits of this replica: all, or none."""
         with tempfile.TemporaryDirectory() as folder:
             copy = Note(os.path.join(folder, "copy"))
-            shutil.copyfile(log, copy.log)
-            if not self._is_taken_by(copy, replica):
-                raise Refused(f"{log}: has no room for the changes of {name}: see --keep-file")
-        if not self._is_taken_by(self.note, replica):
-            raise Refused(f"{log}: did not take the changes of {name}")
+            shutil.copyfile(self.note.log, copy.log)
+            if not put_text(self.mgr, copy, replica, self.new):
+                raise Refused(f"{self.note.log}: has no room for the changes of {self.note.name}: see --keep-file")
+            ask(self.mgr, self.note, "merge", "--adopt", logs=[copy.log])
 
-    def _is_taken_by(self, note: Note, replica: int) -> bool:
-        """Makes the changes in a note, and answers whether its log makes the text then."""
-        keys = keys_of(self.changes) + SAVE
-        return edit(self.mgr, note, replica, keys) == 0 and text_of(self.mgr, note) == self.new
+
+def put_text(mgr: str, note: Note, replica: int, text: str) -> bool:
+    """Changes a note into this text, as edits of this replica, and answers whether its log makes that then."""
+    old = text_of(mgr, note) if note.has_log else (found(note.name) or b"").decode()
+    reports = splices(changes(old, text))
+    given = b"".join(REPORT + report + b"\n" for report in reports)
+    return edit(mgr, note, replica, given) == 0 and text_of(mgr, note) == text
 
 
 def mend(mgr: str, note: Note) -> tuple[list[str], bytes]:

@@ -1,9 +1,11 @@
 """The command lines of mgr-live and mgr-hub."""
 
 import argparse
+import os
 from collections.abc import Callable, Sequence
 
 from mgr_front import VERSION
+from mgr_front.notes import LOG
 
 DESCRIPTION = "Edits a note on a terminal, by `mgr edit`, with the keys of mg(1)."
 EPILOG = (
@@ -29,7 +31,6 @@ class Options(argparse.Namespace):
     name: str
     replica: int | None
     fill: int | None
-    port: int | None
     # The way to others, by its kind and what follows, if there is one.
     address: tuple[str, str] | None
     person: str
@@ -38,12 +39,17 @@ class Options(argparse.Namespace):
     adopts: bool
     takes_file: bool
     keeps_file: bool
+    history: bool
+    # The text that is put back, if one was chosen.
+    text: str | None = None
 
 
 def note_name(word: str) -> str:
-    if not word:
+    """Reads the name of a note; that of its log stands for it."""
+    name = word.removesuffix(LOG)
+    if not os.path.basename(name):
         raise argparse.ArgumentTypeError("it is empty")
-    return word
+    return name
 
 
 def whole_number(least: int, most: int) -> Callable[[str], int]:
@@ -93,9 +99,7 @@ def _parser(program: str, description: str, epilog: str = "") -> argparse.Argume
 def parser() -> argparse.ArgumentParser:
     made = _parser("mgr-live", DESCRIPTION, EPILOG)
     made.add_argument("--fill", metavar="F", type=whole_number(1, 9999), help="the fill column of M-q")
-    peers = made.add_mutually_exclusive_group()
-    peers.add_argument("--port", metavar="P", type=PORT, help="the port at which peers are met")
-    peers.add_argument(
+    made.add_argument(
         "--with",
         dest="address",
         metavar="HOST:NOTE",
@@ -107,6 +111,7 @@ def parser() -> argparse.ArgumentParser:
     made.add_argument("--no-colour", dest="is_plain", action="store_true", help="show others without colours")
     made.add_argument("--trim", dest="trims", action="store_true", help="only have the stream of Redis hold few lines")
     made.add_argument("--adopt", dest="adopts", action="store_true", help="join with another note: both become one")
+    made.add_argument("--history", action="store_true", help="show the texts that the note had; one may be put back")
     choice = made.add_mutually_exclusive_group()
     choice.add_argument(
         "--take-file",

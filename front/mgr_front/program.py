@@ -4,13 +4,14 @@ import json
 import os
 import shutil
 import subprocess
+from collections.abc import Sequence
 from dataclasses import dataclass
 
 from mgr_front.notes import Note, Refused
 from mgr_front.saying import REFUSED
 
 # What mgr is asked to fill: a terminal has fewer columns, and the rows are cut for it.
-ROWS, COLUMNS = 3, 500
+COLUMNS = 500
 # What mgr says where it opens nothing since a file is locked or cannot be read.
 DEVICE = "device fault"
 
@@ -24,8 +25,8 @@ class Log:
     waiting: int
     # Whether the text that stands beside it is that of the log: "same", "other" or "unread".
     text: str
-    # How many characters each replica wrote.
-    written: dict[int, int]
+    # The greatest counter of each replica.
+    counters: dict[int, int]
 
 
 def find(folder: str) -> str | None:
@@ -35,9 +36,9 @@ def find(folder: str) -> str | None:
     return shutil.which(named)
 
 
-def ask(mgr: str, note: Note, *words: str, given: bytes = b"") -> bytes:
-    """Returns what a command of mgr writes of a note; `Refused` says why it does not do it."""
-    done = subprocess.run([mgr, *words, "--", note.name], input=given, capture_output=True)
+def ask(mgr: str, note: Note, *words: str, given: bytes = b"", logs: Sequence[str] = ()) -> bytes:
+    """Returns what a command of mgr writes of a note, and of logs; `Refused` says why it does not do it."""
+    done = subprocess.run([mgr, *words, "--", note.name, *logs], input=given, capture_output=True)
     if done.returncode:
         said = done.stderr.decode("utf-8", "replace")
         raise Refused(explained(done.returncode, said, note, False), shell_status(done.returncode))
@@ -49,8 +50,8 @@ def log_of(mgr: str, note: Note) -> Log | None:
     if not note.has_log:
         return None
     told = json.loads(ask(mgr, note, "log", "--json"))
-    written = {each["replica"]: each["characters"] for each in told["replicas"]}
-    return Log(told["bytes"], told["operations"], told["waiting"], told["text"], written)
+    counters = {each["replica"]: each["counter"] for each in told["replicas"]}
+    return Log(told["bytes"], told["operations"], told["waiting"], told["text"], counters)
 
 
 def text_of(mgr: str, note: Note) -> str:
@@ -59,9 +60,8 @@ def text_of(mgr: str, note: Note) -> str:
 
 
 def edit(mgr: str, note: Note, replica: int, keys: bytes = b"") -> int:
-    """Presses keys in a note, by `mgr edit`, and returns its status."""
-    size = ["--rows", str(ROWS), "--cols", str(COLUMNS)]
-    command = [mgr, "edit", "--strict", "--replica", str(replica), *size, "--", note.name]
+    """Gives keys and reports to a live session in a note, and returns its status."""
+    command = [mgr, "edit", "--live", "--strict", "--replica", str(replica), "--", note.name]
     return subprocess.run(command, input=keys, capture_output=True).returncode
 
 

@@ -1,8 +1,6 @@
 """What the front says in the echo line for a while, beside what mgr shows there."""
 
 import math
-from collections.abc import Iterable
-
 
 class Remarks:
     """Remarks, each with the moment until which it stands."""
@@ -17,10 +15,9 @@ class Remarks:
         """Forgets those that stand until somebody has taken note of them."""
         self.held = {text: until for text, until in self.held.items() if until < math.inf}
 
-    def drop(self, texts: Iterable[str]) -> None:
-        """Forgets these."""
-        for text in texts:
-            self.held.pop(text, None)
+    def drop(self, text: str) -> None:
+        """Forgets one."""
+        self.held.pop(text, None)
 
     def at(self, now: float) -> list[str]:
         """Returns those that stand at a moment; the others are forgotten."""

@@ -5,47 +5,46 @@ import os
 import select
 import signal
 import time
-from collections.abc import Callable, Sequence
+from collections.abc import Callable, Generator, Sequence
 from dataclasses import replace
 
 from mgr_front import who
 from mgr_front.cells import row_width
 from mgr_front.company import Company
-from mgr_front.completion import accept, asks_for_name, begins_at_home, complete
+from mgr_front.completion import accept, asks_for_name, complete
 from mgr_front.dispatch import Dispatcher
 from mgr_front.echo import Echo, echo_line
 from mgr_front.editor import BLOCK, LEAST_ROWS, MOST_ROWS, Editor
-from mgr_front.errands import Errand, leave
-from mgr_front.keys import CANCEL, RETURN, TAB, Keys, Typed, without_first
-from mgr_front.meeting import knock
-from mgr_front.minibuffer import Question
-from mgr_front.notes import KeptFiles
+from mgr_front.errands import COPY_ALL, LEAVE, YANK, Errand, switch_to
+from mgr_front.keys import CANCEL, NO_KEY, RETURN, TAB, Keys, Typed
+from mgr_front.minibuffer import Help, Question
+from mgr_front.apart import place_apart
+from mgr_front.notes import KeptFiles, found, why_not_written
 from mgr_front.remarks import Remarks
-from mgr_front.saving import EXCHANGE, REST, SERVE, Buffers
+from mgr_front.saving import REST, SAVE
 from mgr_front.screen import Screen
 from mgr_front.signals import Signals
-from mgr_front.statuses import COMMAND, Status
+from mgr_front.statuses import COMMAND, FIND, KILL, SWITCH, Status
 from mgr_front.view import Mark, picture
 from mgr_front.who import WHO
 
 # Seconds until what may be the beginning of a longer key counts as keys of its own, as ESC does.
 PATIENCE = 0.05
-# Seconds for which it is said what is wrong with a note that was opened, and what an exchange said.
-OPENED, SAID = 10.0, 2.0
+# Seconds for which it is said what is wrong with a note that was opened.
+OPENED = 10.0
 # Seconds between two pictures while further ones are to come.
 PICTURE = 0.05
-# Seconds between two tries to end a wait for a peer.
-KNOCK = 0.1
 # Seconds without a key before all is saved, and between two savings of what others did.
 IDLE = 1.0
-# Seconds that mgr has at the end for an exchange with a peer that says nothing.
-LAST = 10.0
 
 # For what the bell rings.
 RINGING = "Undefined key", "Search failed"
 # What is said where a buffer was saved, and where one could not be.
-SAVED = "Wrote ", "Sent "
+SAVED = "Wrote "
+PUT = SAVED, "No changes"
 UNSAVED = {"file": "Not saved: File fault", "memory": "Not saved: Out of memory"}
+LEAVING = "Leave: s puts the text, d leaves its file as it was? "
+APART = "Not saved: s tries again, d leaves and keeps it apart? "
 # How much may wait for mgr before no more keys are read.
 MOST_WAITING = 65536
 
@@ -53,30 +52,30 @@ MOST_WAITING = 65536
 class Session:
     """An edit by a mgr that runs."""
 
-    def __init__(
-        self,
-        editor: Editor,
-        screen: Screen,
-        signals: Signals,
-        port: int | None = None,
-        company: Company | None = None,
-    ) -> None:
-        """`port` is where mgr meets peers, and `company` are those who write in the note too."""
-        self.editor, self.screen, self.signals = editor, screen, signals
-        self.port, self.company = port, company
+    def __init__(self, editor: Editor, screen: Screen, signals: Signals, company: Company | None = None) -> None:
+        """`company` are those who write in the note too."""
+        self.editor, self.screen, self.signals, self.company = editor, screen, signals, company
         screen.is_over = lambda: signals.first is not None
         self.keys = Keys()
         self.dispatcher = Dispatcher(editor, screen.erase)
-        self.buffers = Buffers()
+        # The buffers that were seen, each with its text as it was at the start, or at the last C-x C-s; those in
+        # which something was made since; and whether their texts are to be so again.
+        self.buffers: dict[str, bytes | None] = {}
+        self.made: set[str] = set()
+        self.opened: dict[str, tuple[bool, int]] = {}
+        self.discards = False
+        # What is said of a save that failed, and where texts of buffers stand that could not be saved.
+        self.fault = ""
+        self.apart: dict[str, str] = {}
         # What mgr put aside in a save, and what was said of that.
         self.kept = KeptFiles()
         self.put_aside: list[str] = []
         self.remarks = Remarks()
         # The note's path, and the name that is shown for it.
         self.names = "", ""
-        # What is said at the start, and what takes note of the first change.
+        # What is said at the start, and what takes note of own operations before others are told.
         self.greeting = ""
-        self.changed: list[Callable[[], None]] = []
+        self.keep: Callable[[Sequence[bytes]], None] = lambda _: None
         self.errand: Errand | None = None
         self.question: Question | None = None
         # What the front says in place of mgr's message; the remarks and the status that were drawn last,
@@ -86,10 +85,8 @@ class Session:
         self.painted = -math.inf
         self.is_stale = self.rings = self.is_ending = False
         self.has_colours = True
-        # Whether a wait for a peer is to be ended.
-        self.breaks_off = False
-        # When a key was typed, when mgr was given or told something, when all was saved, and by which report.
-        self.typed = self.heard = self.rested = time.monotonic()
+        # When a key was typed, when all was saved, and by which report.
+        self.typed = self.rested = time.monotonic()
         self.rest_number = 0
 
     def run(self) -> None:
@@ -132,7 +129,6 @@ class Session:
         ready, free, _ = select.select([self.editor.written, *others, *reading], writing, [], seconds)
         if free:
             self.editor.write()
-            self.heard = time.monotonic()
         return ready
 
     def _patience(self) -> float | None:
@@ -140,7 +136,7 @@ class Session:
         now = time.monotonic()
         dues = [self._rest_due(), self.remarks.patience(now), self.company.patience(now) if self.company else None]
         seconds = [max(0.0, due) for due in dues if due is not None]
-        seconds += [PATIENCE] * self.keys.is_in_doubt + [KNOCK] * self.breaks_off + [PICTURE] * self.is_stale
+        seconds += [PATIENCE] * self.keys.is_in_doubt + [PICTURE] * self.is_stale
         return min(seconds, default=None)
 
     def _rest_due(self) -> float | None:
@@ -152,8 +148,6 @@ class Session:
 
     def work(self) -> None:
         """Does what strokes and watches ask for."""
-        if self.breaks_off and self.port:
-            knock(self.port)
         self.dispatcher.run(self)
         if self.company and not (self.errand or self.is_ending):
             self.company.feed(self.editor)
@@ -176,25 +170,17 @@ class Session:
         if self.company:
             self.company.press()
         try:
-            strokes = self.keys.take(sent)
             if CANCEL in sent:
                 self.remarks.acknowledge()
-                strokes = without_first(CANCEL, strokes) if self._leave_peer() else strokes
+            self.dispatcher.take(self.keys.take(sent))
         except BaseException:
             # Whatever it was, these are keys.
             self.dispatcher.take([Typed(sent)])
             raise
-        self.dispatcher.take(strokes)
         return bool(sent)
-
-    def _leave_peer(self) -> bool:
-        """Ends a wait for a peer, where mgr takes no key before, and answers whether it does."""
-        self.breaks_off = self.editor.command == SERVE and self.port is not None
-        return self.breaks_off
 
     def _take_statuses(self) -> bool:
         """Takes what mgr told, and answers whether it has not ended."""
-        self.heard = time.monotonic()
         try:
             for status in self.editor.read():
                 self._take(status)
@@ -208,30 +194,41 @@ class Session:
         if self.editor.taken:
             self.said = None
         self.note(status)
-        is_saved = status.message.startswith(SAVED) and self.editor.taken or self._has_rested(status)
-        if is_saved or len(self.kept.known) < len(self.buffers.changed):
+        is_saved = self._has_rested(status) or self.editor.taken and status.message.startswith(SAVED)
+        if is_saved or len(self.kept.known) < len(self.buffers):
             self.note_kept()
-        while self.changed and status.is_changed:
-            self.changed.pop()()
         if self.errand:
-            if self.editor.is_answered:
+            if self.editor.is_answered and not status.more:
                 self._go_on(self.errand, status)
             return
         self.is_stale = True
-        if self.editor.done in (SERVE, EXCHANGE):
-            self._end_exchange(status.message)
         is_key = self.editor.taken > 0 and not status.begun
         self.rings = self.rings or is_key and status.message in RINGING
 
     def note(self, status: Status) -> None:
         """Takes note of what a status tells of buffers, and tells others what was made."""
-        self.buffers.note(status)
-        if status.saved in UNSAVED:
-            self.remarks.hold(UNSAVED[status.saved], math.inf)
-        elif status.saved == "ok":
-            self.remarks.drop(UNSAVED.values())
+        name = status.buffer
+        self.buffers.setdefault(name, found(name))
+        # A plain text counts as changed from the start.
+        was = self.opened.setdefault(name, (status.is_changed, status.unsaved))
+        if status.operations:
+            self.made.add(self.names[0])
+            self.keep(status.operations)
+        if status.saved in UNSAVED or status.saved == "ok":
+            self.remarks.drop(self.fault)
+            self.fault = UNSAVED.get(status.saved, "")
+        if self.fault and status.saved == "file":
+            self.fault += next(filter(None, map(why_not_written, self.buffers)), "")
+        if self.fault and status.saved in UNSAVED:
+            self.remarks.hold(self.fault, math.inf)
+        if status.is_changed and (status.is_changed, status.unsaved) != was and (self.fault or name != self.names[0]):
+            self.made.add(name)
+        own = self.editor.pasted & status.refused.keys()
+        for number in own:
+            self.remark(f"Not put in: {status.refused[number]}")
         if self.company:
-            self.company.note_status(status)
+            others = {number: fault for number, fault in status.refused.items() if number not in own}
+            self.company.note_status(replace(status, refused=others))
 
     def _has_rested(self, status: Status) -> bool:
         """Whether a status is the first one after all was saved, as it was asked for."""
@@ -242,17 +239,9 @@ class Session:
 
     def note_kept(self) -> None:
         """Says what mgr put aside: other programs have written it, and nobody may know."""
-        for said in sum(map(self.kept.since, self.buffers.changed), []):
+        for said in sum(map(self.kept.since, self.buffers), []):
             self.put_aside.append(said)
             self.remark(said)
-
-    def _end_exchange(self, said: str) -> None:
-        """What an exchange said stays, whatever was typed meanwhile; one that was left says nothing."""
-        if self.breaks_off and said == "Cut":
-            self.said = "Quit"
-        else:
-            self.remarks.hold(said, time.monotonic() + SAID)
-        self.breaks_off = False
 
     def _draw(self) -> None:
         """Draws the newest status, where it was not drawn yet."""
@@ -271,7 +260,8 @@ class Session:
         if isinstance(self.question, who.Page):
             self.screen.draw(self.question.picture(rows, columns))
         else:
-            self.screen.draw(picture(self._shown(), self._echo(remarks), rows, columns, status, marks), self.rings)
+            shown = Status(self.question.page(rows)) if isinstance(self.question, Help) else self._shown()
+            self.screen.draw(picture(shown, self._echo(remarks), rows, columns, status, marks), self.rings)
         self.is_stale = self.rings = False
         self.drawn = remarks, status, marks
         self.painted = now
@@ -331,16 +321,66 @@ class Session:
             self.start(errand)
         self.is_stale = True
 
-    def leave(self) -> None:
-        """Has all be saved, and then leaves: mgr asks only where something could not be saved."""
+    def save(self) -> Errand:
+        """Saves the current buffer: its text is to be as it is now."""
+        status = yield SAVE
+        if status.message.startswith(PUT):
+            self.made.discard(status.buffer)
+            self.buffers[status.buffer] = found(status.buffer)
+        return None
+
+    def leave(self, answer: str = "") -> Errand:
+        """Leaves; where something was made it asks first what becomes of the texts."""
         self.rest()
-        self.start(leave())
+        unsaved = yield from self._unsaved((yield b""))
+        if unsaved and answer == "d":
+            unsaved = yield from self._put_apart(unsaved)
+        if not unsaved and (answer or not self.made):
+            self.discards = answer == "d" and not self.apart
+            yield LEAVE
+            # mgr asks: a text that was only opened counts as changed.
+            yield b"y"
+        self.ask(Question(APART if unsaved else LEAVING, self.leave, keys="sd"))
+        return None
+
+    def _unsaved(self, status: Status) -> Generator[bytes, Status, list[str]]:
+        """Returns the buffers in which something was made that is not saved; `status` is the newest."""
+        shown, found = status.buffer, []
+        for name in sorted(self.made):
+            if name != status.buffer:
+                status = yield switch_to(name)
+            found += [name] * status.is_changed
+        if status.buffer != shown:
+            yield switch_to(shown)
+        return found
+
+    def _put_apart(self, names: list[str]) -> Generator[bytes, Status, list[str]]:
+        """Puts the texts of buffers into the state folder, and returns the buffers where that fails."""
+        failed = []
+        for name in names:
+            place = place_apart(name)
+            if not place:
+                failed.append(name)
+                continue
+            yield switch_to(name) + COPY_ALL + b"\x18\x06" + place.encode() + b"\r"
+            status = yield YANK + SAVE
+            if status.message == SAVED + place:
+                self.apart[name] = place
+            else:
+                failed.append(name)
+        return failed
+
+    def rescue(self) -> Errand:
+        """Puts apart what could not be saved, where nobody is asked any more."""
+        status = yield bytes([NO_KEY, CANCEL])
+        yield from self._put_apart((yield from self._unsaved(status)))
+        return None
 
     def complete(self) -> None:
         """Completes the answer of the open prompt; where it asks for no name, TAB is a part of it."""
         status = self.editor.status
         if asks_for_name(status.label):
-            self.start(complete(status.label, status.answer, self.buffers.changed))
+            self.start(complete(status.label, status.answer, self.buffers))
         else:
             self.editor.hand_on(bytes([TAB]))
 
@@ -351,29 +391,30 @@ class Session:
             self.rest()
             names = self.company.names if self.company else {}
             self.start(who.show(self.editor.program, status.buffer, names, self.has_colours, self.ask))
-        elif begins_at_home(status.label, status.answer):
-            self.start(accept(status.answer))
+        elif status.label in (FIND, SWITCH, KILL):
+            self.start(accept(status.label, status.answer))
         else:
             self.editor.hand_on(bytes([RETURN]))
 
-    def conclude(self) -> bool:
-        """Does all strokes that wait, without the terminal, and answers whether mgr took them, or has ended.
-
-        It does as long as it takes; only one that hears nothing of a peer is given up.
-        """
+    def conclude(self) -> None:
+        """Does all strokes that wait, without the terminal, for as long as that takes."""
         self.is_ending, self.question = True, None
         self.dispatcher.take(self.keys.give_up())
-        self.heard = time.monotonic()
         try:
-            while self.errand or self.dispatcher.strokes or not self.editor.is_answered:
-                self.breaks_off = self.port is not None and self.editor.command == SERVE
-                self.work()
-                if self.editor.written in self._await([], KNOCK) and not self._take_statuses():
-                    return True
-                if self.editor.command and time.monotonic() > self.heard + LAST:
-                    return False
+            if self._settle():
+                self.rest()
+                self.start(self.rescue())
+                self._settle()
         except BrokenPipeError:
             pass  # mgr has ended.
+
+    def _settle(self) -> bool:
+        """Does all that waits, and answers whether mgr has not ended."""
+        self.work()
+        while self.errand or self.dispatcher.strokes or not self.editor.is_answered:
+            if self.editor.written in self._await([], None) and not self._take_statuses():
+                return False
+            self.work()
         return True
 
     def _heed(self) -> None:

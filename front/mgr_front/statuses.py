@@ -35,6 +35,7 @@ class Status:
     # The current buffer.
     buffer: str = ""
     is_changed: bool = False
+    unsaved: int = 0
     # Whether a second status of this block follows, and how the last writing ended that its end did.
     more: bool = False
     saved: str = "none"
@@ -105,6 +106,7 @@ def _status(frame: tuple[str, ...], operations: tuple[bytes, ...], told: dict[st
         answer=prompt.get("answer", ""),
         buffer=buffer["name"],
         is_changed=buffer["changed"],
+        unsaved=buffer["unsaved"],
         operations=operations,
         refused=dict(told["refused"]),
         is_live=buffer["name"] == (told["live"] or {}).get("name"),

@@ -50,7 +50,7 @@ class Page(Question):
     """Lines that stand over the screen. A key shows further ones, and after the last ones nothing; `q` ends it."""
 
     def __init__(self, lines: list[Line]) -> None:
-        super().__init__("", "", lambda _: None)
+        super().__init__("", lambda _: None)
         self.lines, self.rows = lines, 1
 
     def picture(self, rows: int, columns: int) -> Picture:

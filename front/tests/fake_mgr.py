@@ -1,9 +1,9 @@
-"""A program that takes the place of mgr: it knows text, saving, one buffer, and a command that serves.
+"""A program that takes the place of mgr: it knows text, saving and one buffer.
 
 It answers each block of keys by a status, and by a second one with an operation where a text was typed
-in it. With `silent` for a name it serves for ever; with `faulty` it serves nobody. A save keeps what another program has written. Of reports it knows sizes, rests, places, whose columns
-are their counters, and operations, which it adds to a log at once; those of replica 13 are conflicts. The end of the keys is a save, which takes
-long with `slow` for a name.
+in it. A save keeps what another program has written. Of reports it knows sizes, rests, places, whose columns
+are their counters, and operations, which it adds to a log at once; those of replica 13 are conflicts. The end of
+the keys is a save, which takes long with `slow` for a name.
 
 `claims`, `missing` and `merge` look at the lines of a log alone. One with replica 99 is another note's.
 
@@ -16,12 +16,13 @@ import json
 import os
 import pathlib
 import re
-import socket
 import sys
 import time
 from typing import Any
 
 from context import BUFFER, written
+
+LABELS = {"\x1bx": "M-x ", "\x18b": "Switch to buffer: ", "\x18\x06": "Find file: "}
 
 
 class Live:
@@ -29,9 +30,10 @@ class Live:
 
     def __init__(self, name: str) -> None:
         self.name, self.text, self.saved, self.is_changed = name, "", "", False
-        self.rows, self.keys, self.reports = int(sys.argv[sys.argv.index("--rows") + 1]), 0, 0
-        self.begun = self.answer = self.message = ""
-        self.asks = self.is_typed = False
+        rows = sys.argv.index("--rows") if "--rows" in sys.argv else 0
+        self.rows, self.keys, self.reports = int(sys.argv[rows + 1]) if rows else 3, 0, 0
+        self.begun = self.answer = self.message = self.label = self.copied = ""
+        self.asks = self.is_typed = self.is_quitting = False
         self.refused: list[list[object]] = []
         self.end = "none"
         self.places: list[list[int]] = []
@@ -42,7 +44,7 @@ class Live:
         """Writes a status, and the frame, or so many operations in place of it."""
         counts = {"keys": self.keys, "reports": self.reports, "more": more, "windows": [[self.rows - 2, self.name]]}
         buffer = BUFFER | {"changed": self.is_changed, "name": self.name}
-        prompt = {"mode": "prompt", "prompt": {"answer": self.answer, "label": "M-x "}} if self.asks else {}
+        prompt = {"mode": "prompt", "prompt": {"answer": self.answer, "label": self.label}} if self.asks else {}
         said = {"begun": bool(self.begun), "message": self.message, "cursor": [0, len(self.text)]}
         said |= {"refused": self.refused, "saved": self.end, "places": self.places}
         frame = [self.text, *[""] * (self.rows - 3), f"----Mg: {self.name} (fundamental)", self.message] if not operations else []
@@ -67,7 +69,8 @@ class Live:
         if told["op"] == "size":
             self.rows = told["rows"]
         elif told["op"] == "rest":
-            self.save()
+            if self.is_changed:
+                self.save()
             self.message = ""
         elif told["op"] == "places":
             self.places = [[*place, 0, place[0]] for place in told["places"]]
@@ -85,14 +88,24 @@ class Live:
             self.begun = key
             return
         self.message = ""
-        if key in ("\x1bx", "\x07"):
-            self.asks, self.answer = key == "\x1bx", ""
+        if key in LABELS or key == "\x07":
+            self.asks, self.answer, self.label = key in LABELS, "", LABELS.get(key, "")
+        elif key == "\x19":
+            self.text, self.is_changed = self.copied, True
+        elif key == "y" and self.is_quitting:
+            sys.exit()
         elif self.asks and key == "\r":
-            self.asks, self.message = False, serve(self.name)
+            self.asks = False
+            if self.label == "Find file: ":
+                self.copied, self.name, self.text, self.saved = self.text, self.answer, "", ""
         elif self.asks:
             self.answer += key
         elif key == "\x18\x13":
             self.save()
+        elif key == "\x18\x03" and not self.is_changed:
+            sys.exit()
+        elif key == "\x18\x03":
+            self.is_quitting = True
         elif key.isascii() and key.isprintable():
             self.text, self.is_changed, self.is_typed = self.text + key, True, True
 
@@ -123,20 +136,6 @@ class Live:
         self.tell()
 
 
-def serve(name: str) -> str:
-    """Takes all that one peer says, answers by a line, and returns what the echo line says then."""
-    while name.endswith("silent"):
-        time.sleep(1)
-    if name.endswith("faulty"):
-        return "File fault"
-    port = int(sys.argv[sys.argv.index("--port") + 1])
-    with socket.create_server(("127.0.0.1", port)) as listener, listener.accept()[0] as peer:
-        while peer.recv(4096):
-            pass
-        peer.sendall(b"served\n")
-    return "Sent 0, received 0"
-
-
 def numbers(log: str, text: pathlib.Path) -> str:
     """Returns what `mgr log` says of this log, and of a text."""
     is_text = "unread" if not text.exists() else "same" if text.read_text() == log else "other"
@@ -162,7 +161,8 @@ def command(word: str, name: str) -> None:
     elif log[0] == "?":
         sys.exit(f"{path}: line 1: Json")
     elif word == "show":
-        sys.stdout.write(log)
+        count = int(sys.argv[sys.argv.index("--lines") + 1]) if "--lines" in sys.argv else None
+        sys.stdout.write("".join(log.splitlines(keepends=True)[:count]))
     elif word == "compact":
         path.rename(f"{path}~")
     else:

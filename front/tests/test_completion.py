@@ -8,19 +8,19 @@ from unittest import mock
 
 import context
 
-from mgr_front.completion import COMMANDS, accept, asks_for_name, begins_at_home, candidates, complete
+from mgr_front.completion import COMMANDS, accept, asks_for_name, candidates, complete
 from mgr_front.errands import Errand
 from mgr_front.statuses import Status
 
 SOURCE = pathlib.Path(context.__file__).resolve().parents[2] / "crates" / "mg_keys" / "src" / "names.rt"
 
 
-def play(errand: Errand) -> tuple[bytes, str | None]:
+def play(errand: Errand, message: str = "") -> tuple[bytes, str | None]:
     """Returns the keys that an errand presses, and what it says."""
     keys = b""
     try:
         keys = next(errand)
-        errand.send(Status())
+        errand.send(Status(message=message))
     except StopIteration as end:
         return keys, end.value
     raise AssertionError("the errand goes on")
@@ -70,17 +70,23 @@ class TestCompletion(unittest.TestCase):
         with mock.patch.dict(os.environ, HOME=os.getcwd()):
             home = os.getcwd().encode()
             self.assertEqual(play(complete("Find file: ", "~/not", [])), (b"\x7f" * 5 + home + b"/notes", None))
-            self.assertEqual(play(accept("~/notes")), (b"\x7f" * 7 + home + b"/notes\r", None))
+            self.assertEqual(play(accept("Find file: ", "~/notes")), (b"\x7f" * 7 + home + b"/notes\r", None))
 
     def test_what_asks_for_a_name(self) -> None:
         for label, wanted in [("Find file: ", True), ("M-x ", True), ("Query replace: ", False), ("", False)]:
             with self.subTest(label=label):
                 self.assertEqual(asks_for_name(label), wanted)
 
-    def test_what_begins_at_home(self) -> None:
-        for label, answer, wanted in [("Find file: ", "~/a", True), ("Find file: ", "a~/", False), ("M-x ", "~/", False)]:
-            with self.subTest(label=label, answer=answer):
-                self.assertEqual(begins_at_home(label, answer), wanted)
+    def test_a_fault_of_a_file_says_which_and_why(self) -> None:
+        for name, message, wanted in [
+            ("nowhere/n", "File fault", "File fault: nowhere is not there"),
+            ("nowhere/n", "", "Nothing can be saved: nowhere is not there"),
+            ("drafts", "File fault", "File fault: drafts may not be written"),
+            ("notes", "File fault", "File fault: another mgr has it open, or a file of it cannot be read"),
+            ("notes", "", None),
+        ]:
+            with self.subTest(name):
+                self.assertEqual(play(accept("Find file: ", name), message)[1], wanted)
 
     @unittest.skipUnless(SOURCE.exists(), "the sources of mgr are not there")
     def test_the_commands_are_those_of_mgr(self) -> None:

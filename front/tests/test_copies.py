@@ -12,8 +12,8 @@ from mgr_front.program import Log
 
 
 def log_of(operations: int = 10, **written: int) -> Log:
-    """Returns what mgr tells of a log in which these have written so many characters, as `r1=2`."""
-    return Log(500, operations, 0, "same", {int(name[1:]): count for name, count in written.items()})
+    """Returns what mgr tells of a log in which these have written up to a counter, as `r1=2`."""
+    return Log(500, operations, 0, "same", {int(name[1:]): counter for name, counter in written.items()})
 
 
 class Copies(InFolder):
@@ -47,19 +47,26 @@ class TestNumbers(Copies):
             self.assertEqual(Copy(self.path + "2").number(log_of(r1001=1)), 1004)
             self.assertEqual(Copy(self.path).number(log_of(r1001=1)), 1001)
 
-    def test_no_number_is_had_twice(self) -> None:
-        for number in (1001, 1002):
-            Copy(self.path).keep_number(number)
-        Copy(self.path).remember(b"", log_of(r1002=5))
+    def test_a_log_that_goes_less_far_than_was_told_is_a_copy(self) -> None:
+        Copy(self.path).keep_number(1001, 9)
+        Copy(self.path).keep_number(1002)
+        Copy(self.path).keep_number(1002, 5)
+        Copy(self.path).keep_number(1002, 3)
         for what, log, used in [
             ("the log is lost", None, {1001, 1002}),
-            ("it has nothing of the last number", log_of(r1001=9, r7=9), {1001, 1002, 7}),
-            ("it has less of it than at the last edit", log_of(r1002=4), {1001, 1002}),
+            ("it has nothing of either number", log_of(r7=9), {1001, 1002, 7}),
+            ("it was restored from a backup", log_of(r1001=8, r1002=4), {1001, 1002}),
         ]:
             with self.subTest(what), mock.patch.object(copies, "draw") as draw:
                 Copy(self.path).number(log)
                 draw.assert_called_once_with(used)
-        self.assertEqual(Copy(self.path).number(log_of(r1002=5)), 1002)
+        for what, log, wanted in [
+            ("nothing is lost", log_of(r1001=9, r1002=5), 1002),
+            ("another branch, of before the second number", log_of(r1001=9), 1001),
+            ("an edit that was killed before it told anything", log_of(r1001=9, r1002=6), 1002),
+        ]:
+            with self.subTest(what):
+                self.assertEqual(Copy(self.path).number(log), wanted)
 
     def test_what_is_kept_cannot_be_read_or_written(self) -> None:
         copy = Copy(self.path)

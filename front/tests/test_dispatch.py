@@ -1,5 +1,7 @@
 """Strokes beside a mgr that answers by and by, and the keys that it is given."""
 
+import pathlib
+import tempfile
 import unittest
 from typing import Any
 
@@ -9,7 +11,7 @@ from mgr_front.dispatch import Dispatcher
 from mgr_front.editor import Talk
 from mgr_front.errands import Errand
 from mgr_front.keys import Keys
-from mgr_front.minibuffer import Question
+from mgr_front.minibuffer import HELP, Help, Question
 from mgr_front.statuses import Status
 
 
@@ -34,11 +36,20 @@ class FakeDesk:
         self.done.append("repaint")
 
     def start(self, errand: Errand) -> None:
-        self.errand = errand
-        self.editor.hand_on(next(errand))
+        try:
+            self.editor.hand_on(next(errand))
+            self.errand = errand
+        except StopIteration as end:
+            self.done.append(end.value)
 
-    def leave(self) -> None:
+    def save(self) -> Errand:
+        yield b"\x18\x13"
+        return None
+
+    def leave(self) -> Errand:
         self.done.append("leave")
+        yield b""
+        return None
 
     def complete(self) -> None:
         self.done.append("complete")
@@ -99,7 +110,9 @@ class TestDispatch(unittest.TestCase):
         self.assertEqual(self.press(b"\x18"), b"")
         self.assertEqual(self.press(b"\x13"), b"\x18\x13")
         self.assertEqual(self.answer(), b"")
-        self.assertEqual(self.press(b"\x18") + self.dispatcher.give_up(), b"\x18")
+        self.assertEqual(self.press(b"\x18"), b"")
+        self.dispatcher.give_up()
+        self.assertEqual(self.editor.waiting, b"\x18")
 
     def test_leaving_is_the_desks(self) -> None:
         self.assertEqual(self.press(b"\x18\x03"), b"")
@@ -126,14 +139,6 @@ class TestDispatch(unittest.TestCase):
         self.assertEqual(self.press(b"\x11\x1a") + self.answer(begun=True), b"\x11\x1a")
         self.assertEqual(self.desk.done, ["suspend", "suspend"])
 
-    def test_suspending_while_a_peer_is_waited_for(self) -> None:
-        self.press(b"\x1bxreplica-serve")
-        self.answer(**asking("M-x ", "replica-serve"))
-        self.editor.hand_on(b"\r")
-        self.assertEqual(self.press(b"\x1atyped ahead"), b"")
-        self.assertEqual(self.desk.done, ["suspend"])
-        self.assertEqual(self.answer(), b"typed ahead")
-
     def test_keys_of_an_answer(self) -> None:
         self.assertEqual(self.press(b"\t"), b"\t")
         self.assertEqual(self.answer() + self.press(b"\r"), b"\r")
@@ -158,6 +163,34 @@ class TestDispatch(unittest.TestCase):
         self.assertEqual(self.desk.question.answer, "9" * 9)
         self.assertEqual(self.press(b"\r"), b"\x1b<")
 
+    def test_help(self) -> None:
+        for keys in (b"\x1bOP", b"\x08"):
+            self.dispatcher = Dispatcher(self.editor)  # type: ignore[arg-type]
+            self.press(keys)
+            self.answer()
+            help = self.desk.question
+            assert isinstance(help, Help)
+            self.assertEqual(help.page(5), (*HELP[:4], ""))
+            self.press(b" ")
+            self.assertEqual(help.page(40), (*HELP[4:], *[""] * (44 - len(HELP))))
+            self.assertEqual(self.press(b"\x1b[A") + self.press(b"a"), b"a")
+            self.assertIsNone(self.desk.question)
+            self.answer()
+
+    def test_another_name(self) -> None:
+        with tempfile.TemporaryDirectory() as folder:
+            name = f"{folder}/é"
+            for taken in (False, True):
+                self.press(b"\x18\x17" + name.encode() + b"x\x08\r")
+                self.assertEqual(self.editor.waiting, b"" if taken else f"\x18h\x1bw\x18\x06{name}\r".encode())
+                pathlib.Path(name + ".ops").touch()
+                self.editor.waiting.clear()
+                if not taken:
+                    assert self.desk.errand
+                    self.assertEqual(self.desk.errand.send(Status()), b"\x19\x18\x13")
+                    self.desk.errand = None
+                    self.answer()
+
     def test_a_line_that_is_pasted(self) -> None:
         self.press(b"\x18g\x1b[200~12\r\x1b[201~\x1b[D\x1bf")
         assert self.desk.question
@@ -170,19 +203,21 @@ class TestDispatch(unittest.TestCase):
     def test_a_paste_leaves_what_was_begun_and_no_question_is_answered_by_it(self) -> None:
         self.assertEqual(self.press(b"\x154\x1b[200~y\r\x1b[201~"), b"\x154")
         self.assertEqual(self.answer(begun=True), b"\xfe")
-        self.assertEqual(self.answer(), b"y\r")
+        self.assertEqual(self.answer(), b'\xff{"op":"paste","text":"y\\n"}\n')
         self.answer()
         for asked in (asking("Changed buffers; quit (y or n): "), asking("Query replacing (y n ! q): ", mode="query")):
             self.press(b"a")
             self.answer(**asked)
             self.assertEqual(self.press(b"\x1b[200~y\x1b[201~"), b"\x07")
-            self.assertEqual(self.answer(), b"y")
+            self.assertEqual(self.answer(), b'\xff{"op":"paste","text":"y"}\n')
             self.answer()
 
-    def test_a_paste_into_an_answer(self) -> None:
-        self.press(b"\x18\x06")
-        self.answer(**asking("Find file: "))
-        self.assertEqual(self.press(b"\x1b[200~notes\r\x1b[201~"), b"notes")
+    def test_a_paste_that_comes_in_pieces_is_one_command(self) -> None:
+        self.assertEqual(self.press(b"\x1b[200~one"), b'\xff{"op":"paste","text":"one","more":true}\n')
+        self.assertEqual(self.press(b" two\x1b[201~"), b'\xff{"op":"paste","text":" two"}\n')
+        self.press(b"\x1b[200~cut")
+        self.dispatcher.take(self.terminal.give_up())
+        self.assertEqual(self.given(), b'\xff{"op":"paste","text":""}\n')
 
 
 if __name__ == "__main__":

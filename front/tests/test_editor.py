@@ -19,10 +19,9 @@ class TestTalk(unittest.TestCase):
         self.talk = Talk(3)
         self.tell()
 
-    def tell(self, keys: int = 0, **members: Any) -> str:
-        """Has mgr tell a status, and returns the command that it answers."""
+    def tell(self, keys: int = 0, **members: Any) -> None:
+        """Has mgr tell a status."""
         self.talk.note(Status(keys=keys, **members))
-        return self.talk.done
 
     def test_keys_go_on_but_for_one_that_would_begin_a_report(self) -> None:
         for keys in (b"ab\x1bf\xff", b"\xff", b"\x18\x13"):
@@ -55,28 +54,6 @@ class TestTalk(unittest.TestCase):
         self.tell(2)
         self.assertEqual((self.talk.taken, self.talk.untold), (0, b"c"))
 
-    def test_a_command_that_is_typed(self) -> None:
-        self.talk.hand_on(b"\x1bxundo")
-        self.assertEqual(self.tell(6, mode="prompt", label="M-x ", answer="undo"), "")
-        self.assertEqual(self.talk.command, "")
-        self.talk.hand_on(b"\r")
-        self.assertEqual(self.talk.command, "undo")
-        self.assertEqual((self.tell(7), self.talk.command), ("undo", ""))
-        self.assertEqual(self.tell(7), "")
-
-    def test_one_that_is_given_at_once_and_answered_in_parts(self) -> None:
-        self.talk.hand_on(b"\x1bxundo\r")
-        self.assertEqual(self.talk.command, "undo")
-        for keys, answer in [(2, ""), (4, "un")]:
-            self.assertEqual(self.tell(keys, mode="prompt", label="M-x ", answer=answer), "")
-            self.assertEqual(self.talk.command, "undo")
-        self.assertEqual(self.tell(7), "undo")
-
-    def test_other_answers_are_no_commands(self) -> None:
-        self.tell(mode="prompt", label="Find file: ", answer="undo")
-        self.talk.hand_on(b"\r")
-        self.assertEqual(self.talk.command, "")
-
 
 class TestSignals(unittest.TestCase):
     def test_what_comes_for_the_front_meanwhile_is_not_lost(self) -> None:
@@ -107,7 +84,8 @@ class TestSignals(unittest.TestCase):
             program.chmod(stat.S_IRWXU)
             editor = Editor(str(program), ["note"], 3, said)
             self.assertFalse(editor.end(0.1))
-            editor.kill()
+            editor.process.kill()
+            self.assertTrue(editor.end(5))
         self.assertEqual(editor.process.returncode, -signal.SIGKILL)
 
 

@@ -5,8 +5,8 @@ import unittest
 
 import context  # noqa: F401
 
-from mgr_front.bindings import LINE_MODES, NAMED, answer_keys, argument_keys, named_keys, plain_keys
-from mgr_front.keys import Keys, Meta, Named, Pasted, Stroke, Typed, without_first
+from mgr_front.bindings import LINE_MODES, NAMED, argument_keys, named_keys, plain_keys
+from mgr_front.keys import Keys, Meta, Named, Pasted, Stroke, Typed
 from mgr_front.statuses import PLAIN
 
 SENT: list[tuple[str, bytes, bytes]] = [
@@ -20,10 +20,10 @@ SENT: list[tuple[str, bytes, bytes]] = [
     ("Page Up, Page Down, Delete", b"\x1b[5~\x1b[6~\x1b[3~", b"\x1bv\x16\x04"),
     ("Control with arrows, Home and End", b"\x1b[1;5C\x1b[1;5D\x1b[1;5H\x1b[1;6F", b"\x1bf\x1bb\x1b<\x1b>"),
     ("Control with arrows, in letters", b"\x1bOc\x1bOd", b"\x1bf\x1bb"),
-    ("a paste", b"a\x1b[200~b\rc\td\x01\x1b[A\x1b[201~e", b"ab\rc\td\x11\x01\x11\x1b[Ae"),
-    ("ends of lines in a paste", b"\x1b[200~1\r\n2\n3\r\x1b[201~", b"1\r2\r3\r"),
+    ("a paste", b"a\x1b[200~b\rc\td\x01\x1b[A\x1b[201~e", b"ab\nc\td\x01\x1b[Ae"),
+    ("ends of lines in a paste", b"\x1b[200~1\r\n2\n3\r\x1b[201~", b"1\n2\n3\n"),
     ("wide characters in a paste", "\x1b[200~漢字😀\x1b[201~".encode(), "漢字😀".encode()),
-    ("F5, F1 of the console", b"\x1b[15~\x1b[[A", b""),
+    ("F5, F2 of the console", b"\x1b[15~\x1b[[B", b""),
     ("a meta key", b"\x1bf", b"\x1bf"),
     ("ESC and an arrow", b"\x1b\x1b[A", b"\x1b\x10"),
     ("text round an arrow", b"a\x1b[Cb", b"a\x06b"),
@@ -33,7 +33,7 @@ SENT: list[tuple[str, bytes, bytes]] = [
 
 
 def keys_of(strokes: list[Stroke]) -> bytes:
-    return b"".join(map(plain_keys, strokes))
+    return b"".join(stroke.text.encode() if isinstance(stroke, Pasted) else plain_keys(stroke) for stroke in strokes)
 
 
 class TestKeys(unittest.TestCase):
@@ -73,12 +73,10 @@ class TestKeys(unittest.TestCase):
     def test_a_paste_that_breaks_off_is_given_up(self) -> None:
         keys = Keys()
         self.assertEqual(keys.take(b"\x1b[200~ab\x1b[2"), [Pasted(b"ab", False)])
-        self.assertEqual(keys.give_up(), [Pasted(b"\x1b[2", False)])
+        self.assertEqual(keys.give_up(), [Pasted(b"\x1b[2", True)])
 
-    def test_without_the_first(self) -> None:
-        strokes: list[Stroke] = [Named("up"), Typed(b"a\x07b\x07")]
-        self.assertEqual(without_first(7, strokes), [Named("up"), Typed(b"ab\x07")])
-        self.assertEqual(without_first(7, [Pasted(b"\x07", True)]), [Pasted(b"\x07", True)])
+    def test_help(self) -> None:
+        self.assertEqual(Keys().take(b"\x1bOP\x1b[11~\x1b[[A"), [Named("help")] * 3)
 
     def test_meta_is_told_from_escape(self) -> None:
         self.assertEqual(Keys().take(b"\x1bfg\x1b[A"), [Meta(ord("f")), Typed(b"g"), Named("up")])
@@ -90,10 +88,6 @@ class TestBindings(unittest.TestCase):
             for mode in LINE_MODES:
                 with self.subTest(name=name, mode=mode):
                     self.assertEqual(len(named_keys(name, mode, False)), 1)
-
-    def test_a_paste_into_an_answer_is_one_line(self) -> None:
-        self.assertEqual(answer_keys(Pasted(b"a\r\nb\x01\tc", False)), b"a b\tc")
-        self.assertEqual(answer_keys(Pasted(b"a\rb\r\n", True)), b"a b")
 
     def test_digits_with_meta_go_on_with_an_argument(self) -> None:
         self.assertEqual(argument_keys(ord("1"), False), b"\x151")

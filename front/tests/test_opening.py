@@ -1,6 +1,7 @@
 """What is done before an edit, by the answers to what is asked, beside a program in the place of mgr."""
 
 import contextlib
+import io
 import os
 import unittest
 from collections.abc import Iterator
@@ -9,7 +10,6 @@ from unittest import mock
 from context import InFolder
 
 from mgr_front import opening
-from mgr_front.compaction import is_large
 from mgr_front.copies import Copy
 from mgr_front.notes import Note, Refused
 from mgr_front.opening import Difference, Opening
@@ -117,22 +117,32 @@ class TestDifferences(Openings):
 
 
 class TestLargeLogs(Openings):
-    def test_what_is_large(self) -> None:
-        for size, operations, wanted in [
-            (1_000_001, 33_333, True),
-            (1_000_001, 33_334, False),
-            (1_000_000, 20_000, False),
-        ]:
-            with self.subTest(size=size, operations=operations):
-                self.assertEqual(is_large(log(size, operations)), wanted)
+    def test_it_is_compacted_when_the_note_is_left(self) -> None:
+        self.put(note="text", note_ops="text")
+        for large, times, before, wanted in [(5, 0, 0, False), (3, 1, 0, False), (3, 0, 3, False), (3, 0, 1, True)]:
+            opened = self.open()
+            opened.copy.kept["compacted"] = before
+            with mock.patch.multiple(opening, LARGE=large, TIMES=times):
+                with mock.patch.object(opened.copy, "compacted") as kept, mock.patch("os.path.getsize", return_value=7):
+                    opened.remember()
+            self.assertEqual("note.ops~" in self.names(), wanted)
+            self.assertEqual(kept.call_args, mock.call(7) if wanted else None)
 
-    def test_it_is_compacted_where_that_is_wanted(self) -> None:
-        self.put(note_ops="text", note="text")
-        with mock.patch("mgr_front.compaction.is_large", lambda _: True):
-            self.open("n")
-            self.assertNotIn("note.ops~", self.names())
-            self.open("maybe", "Y")
-        self.assertIn("note.ops~", self.names())
+
+class TestBeginnings(Openings):
+    def test_a_new_note_says_its_keys_once(self) -> None:
+        self.assertEqual(self.open().remarks, [opening.NEW])
+        self.put(note="text")
+        self.assertEqual(self.open().remarks, [])
+
+    def test_an_absent_folder_is_said(self) -> None:
+        self.note = Note(str(self.folder / "absent" / "note"))
+        self.assertEqual(self.remarks(self.open()), ["Nothing can be saved: absent is not there"])
+
+    def test_the_name_of_a_log_is_that_of_its_note(self) -> None:
+        self.assertEqual((read(["a/note.ops"]).name, read(["note"]).name), ("a/note", "note"))
+        with self.assertRaises(SystemExit), contextlib.redirect_stderr(io.StringIO()):
+            read(["a/.ops"])
 
 
 class TestLogs(Openings):

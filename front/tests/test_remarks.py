@@ -21,7 +21,8 @@ class TestRemarks(unittest.TestCase):
         remarks.acknowledge()
         self.assertEqual(remarks.at(3), [])
         remarks.hold("d", 9)
-        remarks.drop(["d", "e"])
+        remarks.drop("d")
+        remarks.drop("e")
         self.assertEqual(remarks.at(3), [])
 
 

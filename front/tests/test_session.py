@@ -2,6 +2,7 @@
 
 import os
 import pathlib
+import shutil
 import tempfile
 import time
 import unittest
@@ -11,7 +12,7 @@ from unittest import mock
 
 from context import OPERATION, InFolder
 
-from mgr_front import ending, session
+from mgr_front import ending, guests, session
 from mgr_front.channels import Took
 from mgr_front.company import Company
 from mgr_front.editor import Editor
@@ -23,6 +24,12 @@ from mgr_front.statuses import Status
 
 
 class Sessions(InFolder):
+    def setUp(self) -> None:
+        super().setUp()
+        state = mock.patch.dict(os.environ, XDG_STATE_HOME=str(self.folder / "state"))
+        state.start()
+        self.addCleanup(state.stop)
+
     def begin(self, name: str) -> Session:
         self.note = Note(str(self.folder / name))
         said = tempfile.TemporaryFile()
@@ -130,13 +137,12 @@ class TestSharing(Sessions):
         edit = self.begin("note")
         self.assertIsNone(edit._rest_due())
 
-    def test_leaving_saves_first(self) -> None:
+    def test_what_is_told_is_kept_first(self) -> None:
         edit = self.begin("note")
-        self.type(edit, b"ab\x18\x03")
-        size = mock.patch("os.get_terminal_size", return_value=os.terminal_size((80, 9)))
-        with size, mock.patch.object(edit.editor, "hand_on", wraps=edit.editor.hand_on) as given:
-            self.go_on(edit, lambda: given.call_args and given.call_args[0][0], b"\x18\x03")
-        self.assertEqual(self.text("note"), "ab")
+        edit.keep = mock.Mock(side_effect=lambda lines: self.channel.tell.assert_not_called())
+        self.type(edit, b"typed")
+        self.go_on(edit, lambda: self.channel.tell.call_count, 1)
+        edit.keep.assert_called_once_with((OPERATION.encode(),))
 
     def test_the_names_of_copies_are_not_shown(self) -> None:
         edit = self.begin("note")
@@ -163,14 +169,70 @@ class TestEnds(Sessions):
                 self.assertEqual(self.text(f"note-{number}"), "typed")
                 self.assertEqual(edit.editor.process.returncode, 0)
 
-    def test_the_first_change_is_told_once(self) -> None:
-        for keys, wanted in ((b"\x01", 0), (b"typed\x18\x13typed", 1)):
-            with self.subTest(keys=keys):
-                edit, told = self.begin("note"), mock.Mock()
-                edit.changed.append(told)
-                self.type(edit, keys)
+    def leave(self, edit: Session, keys: bytes) -> None:
+        """Types, and goes on until mgr is left or something is asked."""
+        self.type(edit, keys)
+        with mock.patch("os.get_terminal_size", return_value=os.terminal_size((80, 9))):
+            edit.work()
+            while edit.errand or edit.dispatcher.strokes or not edit.editor.is_answered:
+                if edit.editor.written in edit._await([], None) and not edit._take_statuses():
+                    return
+                edit.work()
+
+    def test_leaving(self) -> None:
+        for keys, answer, asks, text in [
+            (b"", b"", False, "before"),
+            (b"ab", b"s", True, "ab"),
+            (b"ab", b"d", True, "before"),
+            (b"ab\x18\x13", b"", False, "ab"),
+            (b"ab\x18\x13c", b"d", True, "ab"),
+        ]:
+            with self.subTest(keys=keys, answer=answer), mock.patch.object(ending, "tell") as tell:
+                self.put(note="before")
+                edit = self.begin("note")
+                edit.names = self.note.name, "note"
+                self.settle(edit)
+                edit._draw = mock.Mock()  # type: ignore[method-assign]
+                self.leave(edit, keys)
+                self.leave(edit, b"\x18\x03")
+                self.assertEqual(edit.question is not None, asks)
+                self.leave(edit, answer)
+                self.assertIsNone(edit.question)
                 ending.finish(edit, self.note)
-                self.assertEqual(told.call_count, wanted)
+                self.assertEqual((self.text("note"), edit.discards), (text, answer == b"d"))
+                said = f"{self.note.name} is as it was; {self.note.log} has what was written, and so have others"
+                self.assertEqual(mock.call(said) in tell.call_args_list, answer == b"d")
+
+    def test_what_cannot_be_saved_is_put_apart(self) -> None:
+        for end in (b"sd", b""):
+            with self.subTest(end=end), mock.patch.object(ending, "tell") as tell:
+                shutil.rmtree(self.folder / "note", ignore_errors=True)
+                edit = self.begin("note")
+                edit.names = self.note.name, "note"
+                self.settle(edit)
+                edit._draw = mock.Mock()  # type: ignore[method-assign]
+                (self.folder / "note").mkdir()
+                self.leave(edit, b"ab\x18\x03" * bool(end) + b"ab" * (not end))
+                for key in end:
+                    assert edit.question
+                    self.assertIn("Not saved", edit.question.text)
+                    self.leave(edit, bytes([key]))
+                with mock.patch.object(ending, "keep_apart", return_value="apart") as keep:
+                    ending.finish(edit, self.note)
+                place = keep.call_args[0][2]
+                self.assertTrue(place.startswith(guests.copies_of(self.note.name)))
+                self.assertEqual((pathlib.Path(place).read_text(), edit.discards), ("ab", False))
+                tell.assert_called_once_with("apart")
+
+    def test_who_stays(self) -> None:
+        edit = self.begin("note")
+        edit.names = self.note.name, "note"
+        self.settle(edit)
+        self.leave(edit, b"ab\x18\x03")
+        self.leave(edit, b"\x07c")
+        self.assertEqual((edit.question, edit.discards, edit.editor.status.frame[0]), (None, False, "abc"))
+        ending.finish(edit, self.note)
+        self.assertEqual(self.text("note"), "abc")
 
     def test_what_a_save_puts_aside_is_told(self) -> None:
         edit = self.begin("note")
@@ -189,15 +251,6 @@ class TestEnds(Sessions):
             ending.finish(edit, self.note)
         self.assertEqual(self.text("note"), "typed")
 
-    def test_keys_that_are_not_taken_are_kept(self) -> None:
-        edit = self.begin("silent")
-        self.settle(edit)
-        self.type(edit, b"\x1bxab\rthe rest\r!")
-        with mock.patch.object(ending, "tell") as tell, mock.patch.object(session, "LAST", 0.5):
-            ending.finish(edit, self.note)
-        self.assertIn("silent.keys", tell.call_args[0][0])
-        self.assertEqual(pathlib.Path(self.note.name + ".keys").read_bytes(), b"the rest\r!\xfe\x07\x18\x13")
-
     def test_a_slow_save_is_waited_for(self) -> None:
         edit = self.begin("slow")
         self.type(edit, b"typed")
@@ -206,14 +259,16 @@ class TestEnds(Sessions):
         self.assertEqual((self.text("slow"), edit.editor.process.returncode), ("typed", 0))
         tell.assert_called_once_with(f"mgr saves {self.note.name}: this waits for it")
 
-    def test_what_could_not_be_saved_is_told(self) -> None:
+    def test_what_nothing_takes_is_told(self) -> None:
         edit = self.begin("note")
+        edit.names = self.note.name, "note"
         self.settle(edit)
+        self.put(state="no folder")
         (self.folder / "note").mkdir()
         with mock.patch.object(ending, "tell") as tell:
             self.type(edit, b"typed")
             ending.finish(edit, self.note)
-        tell.assert_called_once_with("Not saved: File fault")
+        tell.assert_called_once_with(f"Not saved: File fault: {self.note.name} may not be written")
 
     def test_a_question_of_the_front_is_left(self) -> None:
         edit = self.begin("note")
