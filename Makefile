@@ -19,7 +19,7 @@ NEED_RT = command -v rt >/dev/null || { \
 
 NEED_PYTHON = command -v python3 >/dev/null || { echo "python3 is not installed" >&2; exit 1; }
 
-.PHONY: build try scenes test-front try-live try-hub try-exchange try-sharing try-engines crash hostile files test gate wrong-bodies other-store contracts bench bench-growth install clean help
+.PHONY: build try scenes test-front try-live try-hub try-exchange try-sharing try-engines crash hostile files test gate wrong-bodies other-store contracts bench bench-growth bench-live install clean help
 
 build: build/mgr
 	@echo "build/mgr is up to date"
@@ -44,7 +44,7 @@ test-front:
 try-live: build/mgr
 	@scripts/try_live.py build/mgr
 
-# Three that write in one note at one hub. It takes some three minutes.
+# A hub, and those who are alone at first, have another note or write under one number. It takes a minute.
 try-hub: build/mgr
 	@scripts/try_hub.py build/mgr
 
@@ -56,7 +56,8 @@ try-exchange: build/mgr
 try-sharing: build/mgr
 	@scripts/try_sharing.py build/mgr
 
-# Four who write in one note by a folder, a branch of git, a stream of Redis, each disturbed. It takes some three minutes.
+# Four who write in one note in terminals of tmux, by a hub, a folder, a branch of git, a stream of Redis, each disturbed.
+# It takes some twelve minutes.
 try-engines: build/mgr
 	@scripts/try_engines.py build/mgr
 
@@ -116,6 +117,11 @@ bench-growth: build/mgr build/generate
 	@$(NEED_PYTHON)
 	@bench/growth.py
 
+# Writing together, beside other programs, with the mgr that make built. It takes some twenty minutes.
+bench-live: build/mgr
+	@$(NEED_PYTHON)
+	@bench/live.py
+
 build/generate build/native: build/%: bench/%.rs
 	@command -v rustc >/dev/null || { echo "rustc is not installed" >&2; exit 1; }
 	@mkdir -p build
@@ -149,15 +155,17 @@ help:
 	@echo "make test-front"
 	@echo "               tests the parts of the front, each by itself (needs python3)"
 	@echo "make try-live  runs mgr-live in a terminal of tmux, and looks at what it shows (needs python3 and tmux)"
-	@echo "make try-hub   runs three mgr-live at one mgr-hub, and looks at what each sees of the others (needs python3 and tmux)"
+	@echo "make try-hub   looks at who joins a mgr-hub late, with another note or under a number that is taken (needs python3 and"
+	@echo "               tmux)"
 	@echo "make try-exchange"
 	@echo "               exchanges a note between two mgr on this machine (needs python3)"
 	@echo "make try-sharing"
 	@echo "               shares a note by git, by a sync tool and from one plain text, and shows what two edits of one"
 	@echo "               word become (needs python3 and git); examples/git/README says how to share by git"
 	@echo "make try-engines"
-	@echo "               has four write in one note by a folder, a branch of git and a stream of Redis, which are away, emptied"
-	@echo "               or put back meanwhile (needs python3; git; redis-server and python3-redis)"
+	@echo "               has four write in one note, in terminals of tmux, by a hub, a folder, a branch of git and a stream of"
+	@echo "               Redis, which are away, emptied, put back, cut off or slow meanwhile, while writers are killed or leave"
+	@echo "               (needs python3 and tmux; sshd; git; redis-server and python3-redis; faketime: what is not there is said)"
 	@echo "make test      looks up each name in the documents, proves all that the kit does not have as proved, runs every"
 	@echo "               test and plays every scene; the last line counts all (needs python3)"
 	@echo "make gate      the same, and tries the wrong bodies of the gate: each must be refused (needs python3)"
@@ -183,6 +191,9 @@ help:
 	@echo "make bench-growth"
 	@echo "               runs mgr on 22 works, each at three sizes, and says which grow faster than they should (needs"
 	@echo "               python3 and rustc)"
+	@echo "make bench-live"
+	@echo "               measures writing together by mgr-hub, Redis and git, beside mg, Emacs, crdt.el and tmux where they are"
+	@echo "               installed (needs python3)"
 	@echo "make install   copies mgr, mgr-live and mgr-hub to BINDIR, their parts to DATADIR, their manuals to MANDIR/man1,"
 	@echo "               the guide and the list of commands to DOCDIR, and completions for bash to COMPDIR"
 	@echo "               (BINDIR=$(BINDIR), DATADIR=$(DATADIR), MANDIR=$(MANDIR),"

@@ -109,7 +109,7 @@ class Terminal:
     def programs(self):
         """Returns the process numbers of mgr-live and of its mgr."""
         live = children(int(self.ask("#{pane_pid}")))[0]
-        return live, children(live)[0]
+        return live, [child for child in children(live) if " --live " in command_of(child)][0]
 
     def picture(self):
         print("\n".join("    | " + row for row in self.shown()))
@@ -183,6 +183,10 @@ def mode_line(mark, place, name="notes", columns=COLUMNS, waiting=0):
 def children(pid):
     said = subprocess.run(["ps", "-o", "pid=", "--ppid", str(pid)], capture_output=True, text=True).stdout
     return [int(word) for word in said.split()]
+
+
+def command_of(pid):
+    return subprocess.run(["ps", "-o", "args=", "-p", str(pid)], capture_output=True, text=True).stdout
 
 
 def state_of(pid):

@@ -12,7 +12,7 @@ from unittest import mock
 
 from writers import WithWriters, Writer
 
-from mgr_front.channels import Apart, presence, redis
+from mgr_front.channels import Apart, presence, redis, stream
 from mgr_front.channels.redis import RedisStream
 from mgr_front.channels.stream import library, trim
 from mgr_front.notes import Refused
@@ -134,6 +134,20 @@ class TestStream(TestRedis):
         self.assertLess(self.client().xlen("a/note"), 4)
         third = self.begin(3, self.make)
         self.wait("abcdef", third.signs)
+
+    def test_somebody_writes_while_it_is_trimmed(self) -> None:
+        self.pair()
+        joined = stream.joined
+
+        def slowly(*given: Any) -> bytes:
+            self.client().xadd("a/note", {"lines": LINE})
+            return joined(*given)
+
+        with mock.patch.object(stream, "joined", slowly):
+            trim(self.url, self.program)
+        self.assertEqual(self.client().xlen("a/note"), 2)
+        third = self.begin(3, self.make)
+        self.wait("abz", third.signs)
 
     def test_what_another_client_adds(self) -> None:
         one, other = self.pair()

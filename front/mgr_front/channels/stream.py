@@ -89,22 +89,21 @@ class Stream:
 
 
 def trim(url: str, mgr: str) -> tuple[int, int]:
-    """Has a stream begin with one entry of its whole content; returns how many bytes it had, and has."""
+    """Has one entry of the content take the place of all; returns how many bytes these had, and it has.
+
+    What is written meanwhile stays beside it: a stream's order tells nothing.
+    """
     stream = Stream(url)
-    while True:
-        try:
-            with stream.link.pipeline() as pipeline:
-                pipeline.watch(stream.key)
-                log = stream.news(FIRST).log
-                made = joined(mgr, log)
-                pipeline.multi()
-                pipeline.xadd(stream.key, {"by": stream.by, "lines": made})
-                pipeline.xtrim(stream.key, maxlen=1, approximate=False)
-                pipeline.set(stream.generation_key, stream.new_generation())
-                stream.say("entry", link=pipeline)
-                pipeline.execute()
-                return len(log), len(made)
-        except stream.redis.WatchError:
-            continue  # Somebody wrote meanwhile.
-        except stream.redis.RedisError as fault:
-            raise Apart(shown(str(fault))) from None
+    try:
+        news = stream.news(FIRST)
+        made = joined(mgr, news.log)
+        moment, _, number = news.last.decode().partition("-")
+        pipeline = stream.link.pipeline()
+        pipeline.xadd(stream.key, {"by": stream.by, "lines": made})
+        pipeline.xtrim(stream.key, minid=f"{moment}-{int(number) + 1}", approximate=False)
+        pipeline.set(stream.generation_key, stream.new_generation())
+        stream.say("entry", link=pipeline)
+        pipeline.execute()
+    except stream.redis.RedisError as fault:
+        raise Apart(shown(str(fault))) from None
+    return len(news.log), len(made)
