@@ -47,6 +47,7 @@ def channel(options: Options, note: SharedNote, post: Post) -> Worker:
 def meet(opening: Opening) -> Company | None:
     """Joins others, and returns them, be it that they are away; None if the opening is to be done again."""
     options = opening.options
+    opening.begin_log()
     note = SharedNote(opening.mgr, opening.note, opening.number, options.adopts)
     note.adopts = options.adopts or note.is_empty
     company = Company(note, lambda post: channel(options, note, post))
@@ -89,7 +90,7 @@ def _settle(opening: Opening, note: SharedNote) -> None:
     )
     answer = choice(asked, "t", "f", "q", default="t")
     if answer == "q":
-        stop("nothing was done", REFUSED)
+        stop("nothing was joined", REFUSED)
     if answer == "t":
         tell(f"{name} is now {opening.put_aside()}")
     opening.options.adopts = answer == "f"

@@ -18,6 +18,7 @@ from mgr_front.editor import REPORT
 from mgr_front.notes import KeptFiles, Note, Refused, found, read, why_not_written
 from mgr_front.options import Options
 from mgr_front.program import Log, ask, edit, log_of, text_of
+from mgr_front.saving import SAVE
 from mgr_front.saying import REFUSED, say, tell
 from mgr_front.shared import counters
 
@@ -87,6 +88,12 @@ class Opening:
             self._keep_written(log_of(self.mgr, self.note))
         else:
             self.remarks += mend(self.mgr, self.note)[0]
+
+    def begin_log(self) -> None:
+        """Makes the log of a plain text: else others have nothing of it before its first key, nor know it as another."""
+        if not self.note.has_log and found(self.note.name):
+            self.keep(())  # The text is written under this number.
+            edit(self.mgr, self.note, self.number, SAVE)
 
     def renumber(self) -> None:
         """Has this copy have another number: somebody writes under the one that it had."""

@@ -16,10 +16,12 @@ from mgr_front.channels.git import GitBranch
 from mgr_front.channels.hub import Hub
 from mgr_front.channels.redis import RedisStream
 from mgr_front.company import Company
+from mgr_front.copies import Copy
 from mgr_front.joining import meet
 from mgr_front.notes import Note, Refused
 from mgr_front.opening import Opening
 from mgr_front.options import read
+from mgr_front.saving import SAVE
 from mgr_front.shared import Others, SharedNote
 
 HEAD = b'{"op":"claims","version":1}\n'
@@ -83,6 +85,20 @@ class TestMeeting(InFolder):
         with mock.patch.object(joining, "channel", channel), mock.patch("builtins.print"):
             with mock.patch("builtins.input", lambda _: next(given)), mock.patch.object(joining, "tell"):
                 return opening, meet(opening)
+
+    def test_a_plain_text_has_a_log_before_others_are_met(self) -> None:
+        def made(mgr: str, note: Note, number: int, keys: bytes) -> int:
+            return pathlib.Path(note.log).write_text(f"{number} {keys!r}")
+
+        for text, wanted in (("mine", True), ("", False)):
+            (self.folder / "note.ops").unlink()
+            self.put(note=text)
+            with mock.patch("mgr_front.opening.edit", made):
+                opened, company = self.meet(State("live"))
+            self.assertEqual((opened.note.has_log, bool(company and company.note.adopts)), (wanted, not wanted))
+            if wanted:
+                self.assertEqual(self.text("note.ops"), f"{opened.number} {SAVE!r}")
+                self.assertIn(str(opened.number), Copy(opened.note.name).kept["counters"])
 
     def test_others_that_are_away(self) -> None:
         for word in ("live", "alone", "conflict"):
