@@ -60,7 +60,7 @@ class Copy:
         """`path` is that of its text."""
         self.owner = [machine(), user(), os.path.realpath(path)]
         self.file = os.path.join(state_folder(), "copies", digest(json.dumps(self.owner).encode()))
-        self.kept: dict[str, Any] = {"copy": self.owner, "counters": {}, "operations": 0, "text": "", "compacted": 0}
+        self.kept: dict[str, Any] = {"copy": self.owner, "counters": {}, "operations": 0, "text": "", "put": 0, "compacted": 0}
         try:
             with open(self.file, encoding="ascii") as file:
                 self.kept |= json.load(file)
@@ -102,6 +102,12 @@ class Copy:
         """Keeps how an edit left it, with this text, which is the one of its log."""
         self.kept |= {"text": digest(text), "operations": log.operations}
         self._keep()
+
+    def put(self, size: int) -> None:
+        """Keeps how many bytes the log had when its text was put."""
+        if size != self.kept["put"]:
+            self.kept["put"] = size
+            self._keep()
 
     def compacted(self, size: int) -> None:
         """Keeps how many bytes the log has as it is compacted."""

@@ -66,7 +66,7 @@ def edit(opening: Opening, company: Company | None, signals: Signals) -> int:
         session.names = note.name, options.name
         session.has_colours = not (options.is_plain or os.environ.get("NO_COLOR"))
         session.greeting = "; ".join(opening.remarks)
-        session.keep = opening.keep
+        session.keep, session.put = opening.keep, opening.put
         for report in put_back:
             editor.report(report)
         try:

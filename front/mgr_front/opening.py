@@ -10,6 +10,7 @@ import shutil
 import tempfile
 import time
 from collections.abc import Sequence
+from contextlib import suppress
 
 from mgr_front.asking import choice
 from mgr_front.copies import Copy
@@ -73,14 +74,17 @@ class Opening:
     def _settle(self, log: Log) -> None:
         """Where the note's text and its log differ: goes on with the one that the person chooses.
 
-        It is the log, without a question, where that was merged with another and the text is as it was.
+        It is the log, without a question, where that was merged with another and the text is as it was, and where
+        a kill came after it and before its text was put.
         """
         if log.waiting:
             # mgr does not show what waits.
             self.remarks.append(f"A part of {self.note.log} is missing")
+        if log.text == "same":
+            self.copy.kept["put"] = log.bytes  # This is kept with the first own operations.
         if not differ(self.mgr, self.note, log, self.number):
             return
-        keeps = self.options.keeps_file or self.copy.is_merged(read(self.note.name), log)
+        keeps = self.options.keeps_file or self.copy.is_merged(read(self.note.name), log) or self._is_behind()
         found = None if keeps and not self.options.takes_file else Difference(self.mgr, self.note, log)
         if found and (self.options.takes_file or choice(found.question(), "f", "l") == "f"):
             self.keep(())
@@ -88,12 +92,24 @@ class Opening:
             self._keep_written(log_of(self.mgr, self.note))
         else:
             self.remarks += mend(self.mgr, self.note)[0]
+        self.put()
+
+    def _is_behind(self) -> bool:
+        """Whether the text is what the log made as its text was put last: then no other program wrote in it."""
+        lines = read(self.note.log)[: self.copy.kept["put"]].count(b"\n")
+        return lines > 0 and ask(self.mgr, self.note, "show", "--lines", str(lines)) == read(self.note.name)
+
+    def put(self) -> None:
+        """Takes note that mgr put the text of the log."""
+        with suppress(OSError):
+            self.copy.put(os.path.getsize(self.note.log))
 
     def begin_log(self) -> None:
         """Makes the log of a plain text: else others have nothing of it before its first key, nor know it as another."""
         if not self.note.has_log and found(self.note.name):
             self.keep(())  # The text is written under this number.
             edit(self.mgr, self.note, self.number, SAVE)
+            self.put()
 
     def renumber(self) -> None:
         """Has this copy have another number: somebody writes under the one that it had."""

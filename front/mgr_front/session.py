@@ -76,6 +76,8 @@ class Session:
         # What is said at the start, and what takes note of own operations before others are told.
         self.greeting = ""
         self.keep: Callable[[Sequence[bytes]], None] = lambda _: None
+        # What takes note that the note's text was put.
+        self.put: Callable[[], None] = lambda: None
         self.errand: Errand | None = None
         self.question: Question | None = None
         # What the front says in place of mgr's message; the remarks and the status that were drawn last,
@@ -194,9 +196,12 @@ class Session:
         if self.editor.taken:
             self.said = None
         self.note(status)
-        is_saved = self._has_rested(status) or self.editor.taken and status.message.startswith(SAVED)
+        has_rested = self._has_rested(status)
+        is_saved = has_rested or self.editor.taken and status.message.startswith(SAVED)
         if is_saved or len(self.kept.known) < len(self.buffers):
             self.note_kept()
+        if status.saved == "ok" and (has_rested or is_saved and status.buffer == self.names[0]):
+            self.put()
         if self.errand:
             if self.editor.is_answered and not status.more:
                 self._go_on(self.errand, status)

@@ -116,6 +116,30 @@ class TestDifferences(Openings):
         self.assertEqual((self.text("note"), self.text("note~")), ("text and more", "text"))
 
 
+    def test_it_is_without_a_question_after_a_kill(self) -> None:
+        for log, text, answers, kept in (
+            ("one\ntwo\nthree\n", "one\ntwo\n", "", "note~"),
+            ("one\ntwo\nthree\n", "one\ntwo\nwords of another\n", "l", "note.~1~"),
+            ("one\n2\nthree\n", "one\ntwo\n", "l", "note.~1~"),
+        ):
+            with self.subTest(log=log, text=text):
+                self.put(note_ops="one\n", note="one\n")
+                opened = self.open()
+                self.put(note_ops="one\ntwo\n", note="one\ntwo\n")
+                opened.put()
+                self.put(note_ops=log, note=text)
+                self.open(*answers)
+                self.assertEqual((self.text("note"), self.text(kept)), (log, text))
+                (self.folder / "note.~1~").unlink(missing_ok=True)
+
+    def test_what_was_put_before_the_first_key_is_kept_with_it(self) -> None:
+        self.put(note_ops="one\n", note="one\n")
+        opened = self.open()
+        self.assertEqual(Copy(self.note.name).kept["put"], 0)
+        opened.keep(())
+        self.assertEqual(Copy(self.note.name).kept["put"], 4)
+
+
 class TestLargeLogs(Openings):
     def test_it_is_compacted_when_the_note_is_left(self) -> None:
         self.put(note="text", note_ops="text")

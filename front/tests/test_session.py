@@ -122,6 +122,7 @@ class TestSharing(Sessions):
     def test_all_is_saved_once_nothing_is_typed_or_taken(self) -> None:
         edit = self.begin("note")
         assert edit.company
+        edit.put = put = mock.Mock()
         with mock.patch.object(session, "IDLE", 0.1):
             # A rest; then an operation, its places and a rest.
             for reports in (1, 4):
@@ -131,6 +132,7 @@ class TestSharing(Sessions):
                     edit.company.mailbox.post(Took((OPERATION.encode(),)))
                 self.go_on(edit, lambda: edit.editor.status.reports >= reports, True)
             self.go_on(edit, lambda: self.rested(edit), ["note"])
+            self.go_on(edit, lambda: put.called, True)
             self.assertIsNone(edit._rest_due())
 
     def test_nothing_is_saved_before_anything_is_typed(self) -> None:
