@@ -73,6 +73,8 @@ class Company:
             state = State("conflict", FAULTS[CONFLICT])
         if state.word == "alone" != self.state.word:
             self.since = time.time()
+        if state.word == "alone" and state != self.state:
+            self.said = f"Alone: {state.why}"
         self.state = state
         if not self.is_shared:
             self.lines.clear()

@@ -44,7 +44,10 @@ def finish(session: Session, note: Note) -> None:
 def _leave(session: Session) -> None:
     """Leaves the others, once they took what was told last, and says what is not well."""
     company = session.company
-    if company and not company.channel.close(LAST) and company.state.word == "live":
-        tell("others get the last changes at the next start")
+    if company and not company.channel.close(LAST):
+        company.hear()
+        why = f": {company.state.why}" * (company.state.word == "alone")
+        if company.is_shared:
+            tell(f"what others lack they get at the next start{why}")
     if session.fault and not session.apart:
         tell(session.fault)

@@ -254,7 +254,9 @@ class Session:
             return
         now = time.monotonic()
         if self.company and self.company.said:
-            self.remarks.hold(self.company.said, math.inf)
+            # The mode line goes on to say that one is alone.
+            is_alone = self.company.state.word == "alone"
+            self.remarks.hold(self.company.said, now + OPENED if is_alone else math.inf)
             self.company.said = ""
         remarks, status = self.remarks.at(now), self.company.shown() if self.company else ""
         marks = self.company.marks(self.editor.status, self.has_colours) if self.company else []

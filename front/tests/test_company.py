@@ -74,19 +74,21 @@ class TestCompany(unittest.TestCase):
         self.assertEqual(self.company.shown(), "live")
 
     def test_how_it_stands(self) -> None:
-        for event, wanted in [
+        for event, wanted, *said in [
             (State("joining"), "joining"),
             (State("live"), "live"),
-            (State("alone", "gone"), "alone since 12:03"),
+            (State("alone", "gone"), "alone since 12:03", "Alone: gone"),
             (State("joining"), "alone since 12:03"),
             (State("alone", "gone"), "alone since 12:03"),
+            (State("alone", "full"), "alone since 12:03", "Alone: full"),
             (State("live"), "live"),
-            (State("refused", "another note"), "refused"),
+            (State("refused", "another note"), "refused", "Refused: another note"),
             (State("live"), "refused"),
         ]:
             with self.subTest(event=event), mock.patch("time.strftime", return_value="alone since 12:03"):
                 self.come(event)
-                self.assertEqual(self.company.shown(), wanted)
+                self.assertEqual((self.company.shown(), self.company.said), (wanted, "".join(said)))
+                self.company.said = ""
 
     def test_who_is_where(self) -> None:
         self.come(State("live"), Present({9: ("Bob", (4, 9, 12)), 8: ("\u6f22", (0, 0, 1))}))

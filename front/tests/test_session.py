@@ -13,7 +13,7 @@ from unittest import mock
 from context import OPERATION, InFolder
 
 from mgr_front import ending, guests, session
-from mgr_front.channels import Took
+from mgr_front.channels import State, Took
 from mgr_front.company import Company
 from mgr_front.editor import Editor
 from mgr_front.keys import Keys
@@ -21,6 +21,9 @@ from mgr_front.notes import Note
 from mgr_front.session import Session
 from mgr_front.signals import ENDING
 from mgr_front.statuses import Status
+
+
+LACK = "what others lack they get at the next start"
 
 
 class Sessions(InFolder):
@@ -245,6 +248,21 @@ class TestEnds(Sessions):
             ending.finish(edit, self.note)
         self.assertEqual((self.text("note"), self.text("note~")), ("typed", "another program's"))
         tell.assert_called_once_with(f"{self.note.name}~ has what stood there")
+
+    def test_it_is_told_what_others_lack_and_why(self) -> None:
+        for state, is_passed, told in (
+            (State("live"), True, []),
+            (State("live"), False, [LACK]),
+            (State("alone", "gone"), False, [f"{LACK}: gone"]),
+            (State("refused", "another note"), False, []),
+        ):
+            edit = self.begin("note")
+            edit.company = Company(mock.Mock(refusal=""), lambda post: mock.Mock())
+            edit.company.mailbox.post(state)
+            edit.company.channel.close.return_value = is_passed  # type: ignore[attr-defined]
+            with self.subTest(state=state), mock.patch.object(ending, "tell") as tell:
+                ending.finish(edit, self.note)
+                self.assertEqual([call[0][0] for call in tell.call_args_list], told)
 
     def test_it_is_too_where_the_front_has_a_fault(self) -> None:
         edit = self.begin("note")
