@@ -31,8 +31,8 @@ FOLDER = ROOT / "build" / "try-engines"
 NAME = "note"
 WRITERS, SECONDS, AWAY, TOGETHER = 4, 60.0, 3.0, 240.0
 ROWS, COLUMNS = 24, 140
-# Seconds between two words, between two disturbances, and in which mgr has what was typed in its log.
-WORDS, DISTURBANCES, LOGGED = (0.1, 0.6), (1.0, 3.0), 0.5
+# Seconds between two words, and between two disturbances.
+WORDS, DISTURBANCES = (0.1, 0.6), (1.0, 3.0)
 # Seconds that a program has for what it does.
 PATIENCE = 180
 HOME, DOWN, LINE_END, ENTER = b"\x1b<", b"\x0e", b"\x05", b"\r"
@@ -128,9 +128,10 @@ class Person:
         self.left()
 
     def await_logged(self):
-        """Waits until the last word is shown, and then in the log."""
-        self.terminal.expect("its word", lambda: self.words[-1] in " ".join(self.terminal.shown()), True, seconds=PATIENCE)
-        time.sleep(LOGGED)
+        """Waits until the last word is shown, and then until it is in the log, which comes after that."""
+        word = self.words[-1]
+        self.terminal.expect("its word", lambda: word in " ".join(self.terminal.shown()), True, seconds=PATIENCE)
+        await_that(f"{word} is in the log", lambda: word in words_in(typed(operations_in(self.engine.log(self.number)))), PATIENCE)
 
     def kill(self):
         """is killed, as for want of memory"""
@@ -179,6 +180,23 @@ class Person:
 def ask(mgr, log, command, *words):
     """Returns what a command of mgr says of the note that has this log."""
     return subprocess.run([mgr, command, NAME, *words], cwd=log.parent, capture_output=True).stdout
+
+
+def operations_in(log):
+    """Returns the operations of a log; one that is not there has none."""
+    return operations_of(log.read_bytes().splitlines()) if log.exists() else {}
+
+
+def typed(made):
+    """Returns what each wrote in these operations: another one may write in the middle of a word of which a half has come."""
+    texts = collections.defaultdict(str)
+    for (kind, _, replica), value in sorted(made.items()):
+        texts[replica] += value[0] if kind == INSERTED else ""
+    return texts.values()
+
+
+def words_in(texts):
+    return {word for text in texts for word in text.split()}
 
 
 class Trial:
@@ -286,14 +304,9 @@ class Trial:
     def compare(self):
         """All have one text, which has all words; returns it."""
         text = ask(self.mgr, self.logs()[0], "show").decode()
-        made = operations_of(self.logs()[0].read_bytes().splitlines())
-        # Another one may write in the middle of a word of which a half has come.
-        typed = collections.defaultdict(str)
-        for (kind, _, replica), value in sorted(made.items()):
-            typed[replica] += value[0] if kind == INSERTED else ""
-        there = {word for each in typed.values() for word in each.split()}
-        expect("how many characters there are", sum(map(len, typed.values())), len(text))
-        expect("the words that are lost", [], sorted({word for person in self.people for word in person.words} - there))
+        texts = typed(operations_in(self.logs()[0]))
+        expect("how many characters there are", sum(map(len, texts)), len(text))
+        expect("the words that are lost", [], sorted({word for person in self.people for word in person.words} - words_in(texts)))
         for log in self.logs():
             expect(f"the text of {log}", text, ask(self.mgr, log, "show").decode())
             expect(f"what waits in {log}", 0, json.loads(ask(self.mgr, log, "log", "--json"))["waiting"])
