@@ -15,6 +15,7 @@ import concurrent.futures
 import glob
 import json
 import os
+import pathlib
 import random
 import shutil
 import signal
@@ -39,6 +40,8 @@ HOME, DOWN, LINE_END, ENTER = b"\x1b<", b"\x0e", b"\x05", b"\r"
 # By the number of a writer, what is wrong with the clock; a day has passed for one who comes back.
 CLOCKS, DAY = {3: 3600, 4: -7200}, 86400
 CLOCK = "".join(glob.glob("/usr/lib/*/faketime/libfaketime.so.1")[:1])
+# libfaketime refuses the call by which Python sleeps, also where it waits for a program: there it sleeps by another one.
+SLEEP = "import select, time\ntime.sleep = lambda seconds: select.select([], [], [], seconds)\n"
 
 
 def state_of(terminal):
@@ -75,7 +78,9 @@ class Person:
         words = self.engine.address(self.number) if words is None else words
         before = f"PATH={self.engine.tools}$PATH"
         if CLOCK and self.clock:
-            before += f" LD_PRELOAD={CLOCK} FAKETIME={self.clock:+} FAKETIME_DONT_FAKE_MONOTONIC=1"
+            home = self.variables["HOME"]
+            pathlib.Path(home, "sitecustomize.py").write_text(SLEEP)
+            before += f" PYTHONPATH={home} LD_PRELOAD={CLOCK} FAKETIME={self.clock:+} FAKETIME_DONT_FAKE_MONOTONIC=1"
         self.terminal.begin(f"{NAME} --as writer{self.number} {words}", before=before)
 
     def _is_begun(self):
@@ -273,7 +278,9 @@ class Trial:
         with person.lock:
             person.type()
             disturbance(person)
+            self.note("    it ended")
             person.begin()
+            self.note("    it began again")
 
     def note(self, what):
         """Takes note of what is done, and when."""
