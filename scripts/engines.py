@@ -24,7 +24,7 @@ SSHD = "/usr/sbin/sshd"
 # The delay of a line that is slow.
 SLOW = 0.3
 # So many MB a program of a hub may have at most.
-MOST_MEMORY = 1000
+MOST_MEMORY = 300
 SECONDS = 120
 
 

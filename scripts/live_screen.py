@@ -4,7 +4,7 @@ import os
 import signal
 import time
 
-from terminal import COLUMNS, mode_line, sent_to
+from terminal import COLUMNS, NEW, mode_line, sent_to
 
 # For a key: a line of 9600 baud bears 24 times that in a second.
 MOST_BYTES = 40
@@ -13,7 +13,7 @@ MOST_BYTES = 40
 def typing(terminal):
     """text and the keys that move in it"""
     terminal.begin("notes --replica 1")
-    terminal.see("start", {0: "", 8: mode_line("--", "L1 C0"), 9: ""}, (0, 0))
+    terminal.see("start", {0: "", 8: mode_line("--", "L1 C0"), 9: NEW}, (0, 0))
     terminal.write("hello 漢字")
     terminal.press("Enter")
     terminal.write("second line")

@@ -15,7 +15,8 @@ ROOT = pathlib.Path(__file__).resolve().parent.parent
 LIVE = ROOT / "front" / "mgr-live"
 BEHIND = 'echo "status $?"; stty -g | cmp - terminal && echo same terminal'
 ROWS, COLUMNS = 10, 60
-SECONDS = 10
+# What is said of a new note stands in the echo line, and for ten seconds.
+NEW, SECONDS = "New: C-x C-s saves, C-x C-c leaves, C-_ undoes, C-h helps", 20
 
 
 class Server:

@@ -15,6 +15,7 @@ import concurrent.futures
 import glob
 import json
 import os
+import pathlib
 import random
 import shutil
 import signal
@@ -31,14 +32,16 @@ FOLDER = ROOT / "build" / "try-engines"
 NAME = "note"
 WRITERS, SECONDS, AWAY, TOGETHER = 4, 60.0, 3.0, 240.0
 ROWS, COLUMNS = 24, 140
-# Seconds between two words, between two disturbances, and in which mgr has what was typed in its log.
-WORDS, DISTURBANCES, LOGGED = (0.1, 0.6), (1.0, 3.0), 0.5
+# Seconds between two words, and between two disturbances.
+WORDS, DISTURBANCES = (0.1, 0.6), (1.0, 3.0)
 # Seconds that a program has for what it does.
 PATIENCE = 180
 HOME, DOWN, LINE_END, ENTER = b"\x1b<", b"\x0e", b"\x05", b"\r"
 # By the number of a writer, what is wrong with the clock; a day has passed for one who comes back.
 CLOCKS, DAY = {3: 3600, 4: -7200}, 86400
 CLOCK = "".join(glob.glob("/usr/lib/*/faketime/libfaketime.so.1")[:1])
+# libfaketime refuses the call by which Python sleeps, also where it waits for a program: there it sleeps by another one.
+SLEEP = "import select, time\ntime.sleep = lambda seconds: select.select([], [], [], seconds)\n"
 
 
 def state_of(terminal):
@@ -75,7 +78,9 @@ class Person:
         words = self.engine.address(self.number) if words is None else words
         before = f"PATH={self.engine.tools}$PATH"
         if CLOCK and self.clock:
-            before += f" LD_PRELOAD={CLOCK} FAKETIME={self.clock:+} FAKETIME_DONT_FAKE_MONOTONIC=1"
+            home = self.variables["HOME"]
+            pathlib.Path(home, "sitecustomize.py").write_text(SLEEP)
+            before += f" PYTHONPATH={home} LD_PRELOAD={CLOCK} FAKETIME={self.clock:+} FAKETIME_DONT_FAKE_MONOTONIC=1"
         self.terminal.begin(f"{NAME} --as writer{self.number} {words}", before=before)
 
     def _is_begun(self):
@@ -128,9 +133,10 @@ class Person:
         self.left()
 
     def await_logged(self):
-        """Waits until the last word is shown, and then in the log."""
-        self.terminal.expect("its word", lambda: self.words[-1] in " ".join(self.terminal.shown()), True, seconds=PATIENCE)
-        time.sleep(LOGGED)
+        """Waits until the last word is shown, and then until it is in the log, which comes after that."""
+        word = self.words[-1]
+        self.terminal.expect("its word", lambda: word in " ".join(self.terminal.shown()), True, seconds=PATIENCE)
+        await_that(f"{word} is in the log", lambda: word in words_in(typed(operations_in(self.engine.log(self.number)))), PATIENCE)
 
     def kill(self):
         """is killed, as for want of memory"""
@@ -179,6 +185,23 @@ class Person:
 def ask(mgr, log, command, *words):
     """Returns what a command of mgr says of the note that has this log."""
     return subprocess.run([mgr, command, NAME, *words], cwd=log.parent, capture_output=True).stdout
+
+
+def operations_in(log):
+    """Returns the operations of a log; one that is not there has none."""
+    return operations_of(log.read_bytes().splitlines()) if log.exists() else {}
+
+
+def typed(made):
+    """Returns what each wrote in these operations: another one may write in the middle of a word of which a half has come."""
+    texts = collections.defaultdict(str)
+    for (kind, _, replica), value in sorted(made.items()):
+        texts[replica] += value[0] if kind == INSERTED else ""
+    return texts.values()
+
+
+def words_in(texts):
+    return {word for text in texts for word in text.split()}
 
 
 class Trial:
@@ -255,7 +278,9 @@ class Trial:
         with person.lock:
             person.type()
             disturbance(person)
+            self.note("    it ended")
             person.begin()
+            self.note("    it began again")
 
     def note(self, what):
         """Takes note of what is done, and when."""
@@ -286,14 +311,9 @@ class Trial:
     def compare(self):
         """All have one text, which has all words; returns it."""
         text = ask(self.mgr, self.logs()[0], "show").decode()
-        made = operations_of(self.logs()[0].read_bytes().splitlines())
-        # Another one may write in the middle of a word of which a half has come.
-        typed = collections.defaultdict(str)
-        for (kind, _, replica), value in sorted(made.items()):
-            typed[replica] += value[0] if kind == INSERTED else ""
-        there = {word for each in typed.values() for word in each.split()}
-        expect("how many characters there are", sum(map(len, typed.values())), len(text))
-        expect("the words that are lost", [], sorted({word for person in self.people for word in person.words} - there))
+        texts = typed(operations_in(self.logs()[0]))
+        expect("how many characters there are", sum(map(len, texts)), len(text))
+        expect("the words that are lost", [], sorted({word for person in self.people for word in person.words} - words_in(texts)))
         for log in self.logs():
             expect(f"the text of {log}", text, ask(self.mgr, log, "show").decode())
             expect(f"what waits in {log}", 0, json.loads(ask(self.mgr, log, "log", "--json"))["waiting"])

@@ -125,9 +125,12 @@ class Session:
         return True
 
     def _await(self, reading: list[int], seconds: float | None) -> list[int]:
-        """Waits until mgr or one of these has something to read; gives mgr what it takes meanwhile."""
+        """Waits until mgr, others or one of these have something to read; gives mgr what it takes meanwhile.
+
+        At the end nothing is taken of others any more.
+        """
         writing = [self.editor.keys] * bool(self.editor.waiting)
-        others = [self.company.mailbox.woken] if self.company else []
+        others = [self.company.mailbox.woken] if self.company and not self.is_ending else []
         ready, free, _ = select.select([self.editor.written, *others, *reading], writing, [], seconds)
         if free:
             self.editor.write()

@@ -138,6 +138,13 @@ class TestSharing(Sessions):
             self.go_on(edit, lambda: put.called, True)
             self.assertIsNone(edit._rest_due())
 
+    def test_at_the_end_others_wake_nobody(self) -> None:
+        edit = self.begin("note")
+        assert edit.company
+        edit.company.mailbox.post(Took((OPERATION.encode(),)))
+        for edit.is_ending, wanted in ((False, [edit.company.mailbox.woken]), (True, [])):
+            self.assertEqual(edit._await([], 0), wanted)
+
     def test_nothing_is_saved_before_anything_is_typed(self) -> None:
         edit = self.begin("note")
         self.assertIsNone(edit._rest_due())
