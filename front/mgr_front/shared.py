@@ -91,7 +91,9 @@ class SharedNote:
             self.refused = tuple(others.lines)
             raise Apart("another note", "refused")
         given = self.missing(others.claims)
-        if asks and counters(others.lines, self.replica) - counters(given, self.replica):
+        lacked = counters(others.lines, self.replica) - counters(given, self.replica) if asks else set()
+        # A hub may have saved what it had sent before it told its claims: the log has that, and it is not given.
+        if lacked and lacked - counters(self.missing(self.claims_of(b"")), self.replica):
             raise Apart(f"others have words of the number {self.replica} that this log lacks", "refused")
         return given
 

@@ -46,6 +46,14 @@ class TestShared(InFolder):
         self.assertEqual(note.missing(note.claims()), [])
         self.assertEqual(note.missing(HEAD + note.claims().splitlines(keepends=True)[1]), [(LINE % 2).encode()])
 
+    def test_own_words_that_a_hub_sent_and_then_saved(self) -> None:
+        self.put(note_ops=f"{LINE % 7}\n")
+        note = self.shared()
+        self.assertEqual(note.given(self.others(7, note.claims()), True), [])
+        with self.assertRaises(Apart) as caught:
+            note.given(Others([(LINE % 7).replace("[1", "[2").encode()], note.claims()), True)
+        self.assertIn("words of the number 7", caught.exception.state.why)
+
     def test_another_note_is_not_accepted(self) -> None:
         self.put(note_ops=f"{LINE % 1}\n", text="a text without a log")
         for note, others in (
