@@ -40,7 +40,7 @@ try:
 test-front:
 	@python3 -m unittest discover -s front/tests
 
-# The front, in a terminal of tmux. It takes some two minutes.
+# The front, in a terminal of tmux. It takes some five minutes.
 try-live: build/mgr
 	@scripts/try_live.py build/mgr
 
