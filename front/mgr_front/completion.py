@@ -9,6 +9,7 @@ from mgr_front.notes import LOG, why_not_written
 from mgr_front.statuses import COMMAND, FIND, KILL, SWITCH
 from mgr_front.who import WHO
 
+KILL_EMACS = "save-buffers-kill-emacs"
 # The commands that M-x takes.
 COMMANDS = """
     backward-char backward-word beginning-of-buffer beginning-of-line capitalize-word copy-region-as-kill
@@ -20,6 +21,9 @@ COMMANDS = """
     transpose-chars undo upcase-word yank
 """.split()
 
+# The prompts for names, of which M-x takes those of commands.
+ANSWERED = FIND, SWITCH, KILL
+NAMED = COMMAND, *ANSWERED
 HOME = "~/"
 FAULT, ELSEWHERE = "File fault", ": another mgr has it open, or a file of it cannot be read"
 # Files that stand beside a note and are none.
@@ -33,16 +37,11 @@ def expanded(name: str) -> str:
 
 def candidates(label: str, answer: str, buffers: Iterable[str]) -> list[str]:
     """Returns what an answer to this prompt may become, in order."""
-    if label == COMMAND:
-        names: Iterable[str] = [*COMMANDS, WHO]
-    elif label == FIND:
-        names = _notes(answer)
-    else:
-        names = buffers if label in (SWITCH, KILL) else ()
+    names = {COMMAND: [*COMMANDS, WHO], FIND: _notes(answer)}.get(label, buffers if label in NAMED else ())
     return sorted({name for name in names if name.startswith(answer) and _can_be_typed(name)})
 
 
-def _notes(answer: str) -> Iterable[str]:
+def _notes(answer: str) -> list[str]:
     """Returns the notes and folders of the folder that an answer names."""
     folder, begin = os.path.split(answer)
     try:
@@ -82,11 +81,6 @@ def accept(label: str, answer: str) -> Errand:
     if label == FIND and not os.path.isdir(os.path.dirname(name) or "."):
         return f"Nothing can be saved{why_not_written(name)}"
     return None
-
-
-def asks_for_name(label: str) -> bool:
-    """Whether a prompt asks for a name, of a command, a file or a buffer."""
-    return label in (COMMAND, FIND, SWITCH, KILL)
 
 
 def _retyped(answer: str, new: str) -> bytes:

@@ -5,27 +5,30 @@ from collections import deque
 from collections.abc import Iterable
 from typing import TYPE_CHECKING
 
-from mgr_front.bindings import LINE_MODES, argument_keys, named_keys, plain_keys
 from mgr_front.editor import Editor
 from mgr_front.errands import kill_word_backward
-from mgr_front.keys import CANCEL, CONTROL_X, DELETE, ESCAPE, NO_KEY, QUOTE, RETURN, TAB
-from mgr_front.keys import Meta, Named, Pasted, Stroke, Typed
-from mgr_front.minibuffer import Help, ask_for_line, ask_for_name
-from mgr_front.statuses import PLAIN, PROMPT, QUERY
+from mgr_front.keys import ARGUMENT, CANCEL, CONTROL_X, DELETE, ESCAPE, HELP, NO_KEY, QUOTE, RETURN, TAB
+from mgr_front.keys import Key, Pasted, Stroke, Typed
+from mgr_front.minibuffer import ask_for_line, ask_for_name, show_help
+from mgr_front.statuses import PLAIN, PROMPT, QUERY, SEARCH
 
 if TYPE_CHECKING:
     from mgr_front.session import Session
 
-LEAVE, HELP, REPAINT, SAVE, WRITE, SUSPEND = 0x03, 0x08, 0x0C, 0x13, 0x17, 0x1A
+REPAINT, SUSPEND, FORWARD, BACKWARD = 0x0C, 0x1A, 0x13, 0x12
 # Keys that the front looks at, besides the one that erases.
-SPECIAL = bytes([SUSPEND, ESCAPE, CONTROL_X, TAB, RETURN, HELP])
+SPECIAL = bytes([SUSPEND, ESCAPE, CONTROL_X, TAB, RETURN, FORWARD, BACKWARD, *HELP])
+LINE_MODES = (PROMPT, QUERY)
+SEARCHING = re.compile(b"[%c%c]" % (FORWARD, BACKWARD))
+CHARACTER = re.compile(b"[\xc0-\xf7][\x80-\xbf]*|.", re.DOTALL)
+NOT_FOUND = "Search failed"
 
 
 class Dispatcher:
     """The strokes that wait, in their order.
 
     What a stroke does can depend on what mgr asks for. Such a one waits until mgr has answered all
-    keys before it; a text goes on at once. ESC and C-x are kept until the key behind them is there.
+    keys before it; a text goes on at once. ESC and C-x are kept until the key after them is there.
     """
 
     def __init__(self, editor: Editor, erase: int = DELETE) -> None:
@@ -36,6 +39,8 @@ class Dispatcher:
         self.piece = re.compile(b"[^%b]+|." % re.escape(self.special), re.DOTALL)
         self.strokes: deque[Stroke] = deque()
         self.prefix = b""
+        # Of a search: the character that mgr looks for, and what was typed and is not found, nor given to mgr.
+        self.tried, self.failing = b"", b""
 
     def take(self, strokes: Iterable[Stroke]) -> None:
         """Has further strokes wait."""
@@ -47,18 +52,17 @@ class Dispatcher:
 
     def run(self, desk: "Session") -> None:
         """Does all strokes of which it is known what they do."""
+        self._note_search(desk)
         while self.strokes and self._is_clear(self.strokes[0], desk):
             stroke = self.strokes.popleft()
             if desk.question:
                 self._answer(stroke, desk)
-            elif isinstance(stroke, Typed):
-                self._type(stroke.data, desk)
-            elif isinstance(stroke, Meta):
-                self._press_meta(stroke.byte, desk)
-            elif isinstance(stroke, Named):
-                self._press_named(stroke.name, desk)
-            else:
+            elif isinstance(stroke, Pasted):
                 self._paste(stroke)
+            elif isinstance(stroke, Key):
+                self._press_key(stroke.data, desk)
+            else:
+                self._type(stroke.data, desk)
 
     def give_up(self) -> None:
         """Does all strokes that wait, as where mgr asks for nothing."""
@@ -69,27 +73,30 @@ class Dispatcher:
             if isinstance(stroke, Pasted):
                 self.editor.paste(stroke.text, not stroke.is_last)
             else:
-                self.editor.hand_on(plain_keys(stroke))
+                self.editor.hand_on(stroke.data)
 
     def _is_clear(self, stroke: Stroke, desk: "Session") -> bool:
         """Whether it is known what a stroke does."""
-        if desk.question:
+        if desk.question or desk.errand:
+            return desk.question is not None
+        if self.editor.is_settled:
             return True
-        if desk.errand:
-            return False
-        is_text = isinstance(stroke, Typed) and not self.prefix and stroke.data[0] not in self.special
-        return is_text or self.editor.is_settled
+        is_plain = self.editor.status.mode == PLAIN and not SEARCHING.search(self.editor.untold)
+        return is_plain and isinstance(stroke, Typed) and not self.prefix and stroke.data[0] not in self.special
 
     def _answer(self, stroke: Stroke, desk: "Session") -> None:
         """Gives the front's own question the first key of a stroke; the others wait, as it may end."""
-        if isinstance(stroke, Named | Meta):
-            stroke = Typed(bytes([ESCAPE]))
-        keys = stroke.text.partition("\n")[0].encode() if isinstance(stroke, Pasted) else stroke.data
-        if not keys:
-            return
-        if keys[1:]:
-            self.strokes.appendleft(Typed(keys[1:]))
-        desk.answer(DELETE if keys[0] == self.erase else keys[0])
+        if isinstance(stroke, Key):
+            keys = bytes([ESCAPE])
+        else:
+            keys = stroke.text.partition("\n")[0].encode() if isinstance(stroke, Pasted) else stroke.data
+        if keys:
+            self._put_back(keys[1:])
+            desk.answer(DELETE if keys[0] == self.erase else keys[0])
+
+    def _put_back(self, keys: bytes) -> None:
+        """Has keys wait before all others."""
+        self.strokes.extendleft(map(Typed, reversed(self.piece.findall(keys))))
 
     def _hand_on(self, keys: bytes, desk: "Session") -> None:
         self.editor.hand_on(keys)
@@ -98,69 +105,107 @@ class Dispatcher:
 
     def _type(self, data: bytes, desk: "Session") -> None:
         if self.prefix:
-            if data[1:]:
-                self.strokes.appendleft(Typed(data[1:]))
+            self._put_back(data[1:])
             self._complete(data[0], desk)
-        elif data[0] not in self.special or self._is_quoted():
+        elif self._is_quoted():
             self._hand_on(data, desk)
-        elif data[0] == self.erase:
-            self.editor.hand_on(bytes([DELETE]))
-        elif data[0] == SUSPEND:
-            desk.suspend()
+        elif self.editor.status.mode == SEARCH:
+            found = CHARACTER.match(data)
+            assert found
+            self._put_back(data[found.end() :])
+            if not self._search(found[0]):
+                self._press(found[0], desk)
         else:
             self._press(data, desk)
 
-    def _press(self, key: bytes, desk: "Session") -> None:
-        """Does a key that means something else while a line is asked for."""
-        mode = self.editor.status.mode
-        if mode == PROMPT and key[0] == TAB:
+    def _press(self, data: bytes, desk: "Session") -> None:
+        """Does a text, or a key that means something else while a line is asked for."""
+        key, mode = data[0], self.editor.status.mode
+        if key not in self.special:
+            self._hand_on(data, desk)
+        elif key == self.erase:
+            self.editor.hand_on(bytes([DELETE]))
+        elif key == SUSPEND:
+            desk.suspend()
+        elif mode == PROMPT and key == TAB:
             desk.complete()
-        elif mode == PROMPT and key[0] == RETURN:
+        elif mode == PROMPT and key == RETURN:
             desk.accept()
-        elif mode == PLAIN and key[0] == HELP:
-            desk.ask(Help())
-        elif mode in LINE_MODES or key[0] in (TAB, RETURN, HELP):
-            self._hand_on(key, desk)
+        elif mode == PLAIN and key == HELP[0]:
+            desk.ask(show_help())
+        elif mode not in LINE_MODES and key in (ESCAPE, CONTROL_X):
+            self.prefix = data
         else:
-            self.prefix = key
+            self._hand_on(data, desk)
+
+    def _search(self, key: bytes) -> bool:
+        """Does a key of a search that fails, and answers whether it is done; any other one is mgr's."""
+        erases = key[0] in (DELETE, self.erase)
+        is_character = key[0] >= ord(" ") and not erases
+        if not self.failing:
+            # Of a character that came in parts mgr has begun the first.
+            self.tried = self.tried * self.editor.status.begun + key if is_character else b""
+            return False
+        if is_character:
+            self.failing += key
+        elif erases:
+            self.failing = self.failing.decode("utf-8", "replace")[:-1].encode()
+        elif key[0] not in (FORWARD, BACKWARD):
+            self.failing = b""
+        # C-s and C-r fail again.
+        return is_character or erases or key[0] in (CANCEL, FORWARD, BACKWARD)
+
+    def _note_search(self, desk: "Session") -> None:
+        """Keeps a character that mgr did not find; what is kept ends with the search."""
+        status = self.editor.status
+        if not self.editor.is_settled or status.begun:
+            return
+        if self.tried and status.message == NOT_FOUND:
+            self.failing, desk.said = self.tried, ""
+        elif status.mode != SEARCH:
+            self.failing = b""
+        self.tried = b""
 
     def _complete(self, byte: int, desk: "Session") -> None:
         """Does the key that a byte makes with the one before it."""
-        prefix, self.prefix = self.prefix, b""
-        is_meta = prefix == bytes([ESCAPE])
-        if is_meta and chr(byte) in "0123456789":
-            self.editor.hand_on(argument_keys(byte, self.editor.status.begun))
-        elif is_meta and byte in (DELETE, self.erase):
+        keys, self.prefix = self.prefix + bytes([byte]), b""
+        if keys[0] == ESCAPE and byte in b"0123456789":
+            # With the meta key a digit begins an argument, or goes on with one.
+            self.editor.hand_on(keys[1:] if self.editor.status.begun else bytes([ARGUMENT, byte]))
+        elif keys[0] == ESCAPE and byte in (DELETE, self.erase):
             desk.start(kill_word_backward())
-        elif not is_meta and byte == ord("g"):
+        elif keys == b"\x18g":
             desk.ask(ask_for_line())
-        elif not is_meta and byte == WRITE:
+        elif keys == b"\x18\x17":
             desk.ask(ask_for_name())
-        elif not is_meta and byte in (LEAVE, SAVE):
-            desk.start(desk.leave() if byte == LEAVE else desk.save())
-        elif not is_meta and byte == SUSPEND:
+        elif keys == b"\x18\x03":
+            desk.start(desk.leave())
+        elif keys == b"\x18\x13":
+            desk.start(desk.save())
+        elif keys == b"\x18\x1a":
             desk.suspend()
         else:
-            self._hand_on(prefix + bytes([byte]), desk)
+            self._hand_on(keys, desk)
 
-    def _press_meta(self, byte: int, desk: "Session") -> None:
-        if self.prefix or self._is_quoted():
+    def _press_key(self, keys: bytes, desk: "Session") -> None:
+        """Does a key that came as a whole.
+
+        While a line is asked for the second of two would be taken for a part of it, and where a key was begun, as
+        by C-q, for one more: so there nothing is done.
+        """
+        self.failing = b""
+        is_begun = bool(self.prefix) or self._is_quoted()
+        if keys == HELP:
             self._break_off()
-        elif self.editor.status.mode in LINE_MODES:
-            # The byte would be taken for a part of the answer.
-            self.editor.hand_on(bytes([NO_KEY]))
+            desk.ask(show_help())
+        elif len(keys) == 1:
+            self._hand_on(self.prefix + keys, desk)
+            self.prefix = b""
+        elif is_begun or self.editor.status.mode in LINE_MODES:
+            self._break_off()
         else:
-            self.prefix = bytes([ESCAPE])
-            self._complete(byte, desk)
-
-    def _press_named(self, name: str, desk: "Session") -> None:
-        if name == "help":
-            self._break_off()
-            desk.ask(Help())
-            return
-        keys = named_keys(name, self.editor.status.mode, bool(self.prefix) or self._is_quoted())
-        self._hand_on(self.prefix + keys, desk)
-        self.prefix = b""
+            self.prefix = keys[:1]
+            self._complete(keys[1], desk)
 
     def _paste(self, pasted: Pasted) -> None:
         """Puts a text in, or adds it to an answer. What was begun, and a question, are left first."""
@@ -171,6 +216,8 @@ class Dispatcher:
         elif status.mode == QUERY or status.is_quitting:
             self.editor.hand_on(bytes([CANCEL]))
             self.strokes.appendleft(pasted)
+        elif self.failing:
+            self.failing += pasted.text.partition("\n")[0].encode()
         else:
             self.editor.paste(pasted.text, not pasted.is_last)
 

@@ -1,5 +1,7 @@
-"""What a terminal sends, as strokes: keys by their names, pasted text, and what stands for itself."""
+"""What a terminal sends, as strokes: bytes that stand for themselves, keys of several bytes, and pasted text."""
 
+import codecs
+import io
 import re
 from dataclasses import dataclass
 
@@ -23,48 +25,30 @@ class Typed:
 
 
 @dataclass(frozen=True)
-class Meta:
-    """ESC and a byte that came together, as where the meta key is held down."""
+class Key:
+    """What a terminal sends for one key, as the keys of mgr that do the same; ESC and a byte are the meta key."""
 
-    byte: int
-
-
-@dataclass(frozen=True)
-class Named:
-    """A key of which a terminal sends more than one byte."""
-
-    name: str
+    data: bytes
 
 
 @dataclass(frozen=True)
 class Pasted:
     """A piece of a text that is pasted, and whether it is the last."""
 
-    data: bytes
+    text: str
     is_last: bool
 
-    @property
-    def text(self) -> str:
-        return re.sub("\r\n?", "\n", self.data.decode("utf-8", "replace"))
 
+Stroke = Typed | Key | Pasted
 
-Stroke = Typed | Meta | Named | Pasted
-
-ARROWS = {b"A": "up", b"B": "down", b"C": "right", b"D": "left", b"H": "home", b"F": "end"}
-# With the control key held down; some terminals have letters of their own for that.
-CONTROLLED = {"right": "word-right", "left": "word-left", "home": "buffer-begin", "end": "buffer-end"}
-LETTERS = ARROWS | {b"c": "word-right", b"d": "word-left"}
-NUMBERED = {
-    b"1": "home",
-    b"7": "home",
-    b"4": "end",
-    b"8": "end",
-    b"3": "delete",
-    b"5": "page-up",
-    b"6": "page-down",
-    b"11": "help",
-}
-# What a modifier adds to the number behind the semicolon, which is 1 without any.
+HELP = b"\x08"
+RIGHT, LEFT, HOME, END, WORD_RIGHT, WORD_LEFT = b"\x06", b"\x02", b"\x01", b"\x05", b"\x1bf", b"\x1bb"
+# Some terminals have small letters where the control key is held down.
+LETTERS = {b"A": b"\x10", b"B": b"\x0e", b"C": RIGHT, b"D": LEFT, b"H": HOME, b"F": END}
+LETTERS |= {b"P": HELP, b"c": WORD_RIGHT, b"d": WORD_LEFT}
+NUMBERED = {b"1": HOME, b"7": HOME, b"4": END, b"8": END, b"3": b"\x04", b"5": b"\x1bv", b"6": b"\x16", b"11": HELP}
+CONTROLLED = {RIGHT: WORD_RIGHT, LEFT: WORD_LEFT, HOME: b"\x1b<", END: b"\x1b>"}
+# What a modifier adds to the number after the semicolon, which is 1 without any.
 CONTROL = 4
 
 PASTE_BEGIN, PASTE_END = b"\x1b[200~", b"\x1b[201~"
@@ -75,8 +59,7 @@ STROKE = re.compile(
     rb"|\x1b(?P<meta>[^\x1b])|(?P<typed>[^\x1b]+|\x1b)"
 )
 BEGUN = re.compile(rb"\x1b(?:O|\[\[|\[[0-?]*[ -/]*)?\Z")
-# What may go on of a paste: a character, an end of a line, the end of the paste.
-PASTE_BEGUN = re.compile(rb"(?:[\xc2-\xf4][\x80-\xbf]{0,2}|\r?(?:\x1b(?:\[(?:2(?:01?)?)?)?)?)\Z")
+PASTE_END_BEGUN = re.compile(rb"\x1b(?:\[(?:2(?:01?)?)?)?\Z")
 
 
 class Keys:
@@ -84,60 +67,68 @@ class Keys:
 
     def __init__(self) -> None:
         self.begun = b""
-        self.is_pasting = False
+        # What makes text of a paste that goes on, of which a character or the end of a line may be cut.
+        self.paste: io.IncrementalNewlineDecoder | None = None
 
     def take(self, sent: bytes) -> list[Stroke]:
         """Returns the strokes of these bytes, and keeps a beginning of a longer one."""
-        rest = self.begun + sent
-        self.begun = b""
+        rest, self.begun = self.begun + sent, b""
         strokes: list[Stroke] = []
         while rest:
-            rest = self._take_paste(rest, strokes) if self.is_pasting else self._take_keys(rest, strokes)
+            rest = self._take_paste(rest, strokes) if self.paste else self._take_keys(rest, strokes)
         return strokes
 
     @property
     def is_in_doubt(self) -> bool:
         """Whether what was begun may be whole already: there is no end of a paste but its own."""
-        return bool(self.begun) and not self.is_pasting
+        return bool(self.begun) and not self.paste
 
     def give_up(self) -> list[Stroke]:
         """Returns what was begun, as it was sent: nothing goes on of it, nor of a paste."""
         begun, self.begun = self.begun, b""
-        is_pasting, self.is_pasting = self.is_pasting, False
-        return [Pasted(begun, True)] if is_pasting else [Typed(begun)] * bool(begun)
+        paste, self.paste = self.paste, None
+        return [Pasted(paste.decode(begun, True), True)] if paste else [Typed(begun)] * bool(begun)
 
     def _take_keys(self, sent: bytes, strokes: list[Stroke]) -> bytes:
-        """Adds the strokes up to a paste, and returns what stands behind its beginning."""
+        """Adds the strokes up to a paste, and returns what stands after its beginning."""
         keys, begin, rest = sent.partition(PASTE_BEGIN)
-        self.is_pasting = bool(begin)
-        found = None if begin else BEGUN.search(keys)
-        self.begun = found[0] if found else b""
-        whole = keys[: len(keys) - len(self.begun)]
-        strokes += [stroke for match in STROKE.finditer(whole) if (stroke := _stroke(match))]
+        if begin:
+            self.paste = io.IncrementalNewlineDecoder(codecs.getincrementaldecoder("utf-8")("replace"), True)
+        else:
+            keys = self._cut(BEGUN, keys)
+        strokes += filter(None, map(_stroke, STROKE.finditer(keys)))
         return rest
 
     def _take_paste(self, sent: bytes, strokes: list[Stroke]) -> bytes:
-        """Adds what is pasted up to its end, and returns what stands behind that."""
+        """Adds what is pasted up to its end, and returns what stands after that."""
         text, end, rest = sent.partition(PASTE_END)
-        self.is_pasting = not end
-        found = None if end else PASTE_BEGUN.search(text)
-        self.begun = found[0] if found else b""
-        piece = Pasted(text[: len(text) - len(self.begun)], bool(end))
-        if piece.data or piece.is_last:
-            strokes.append(piece)
+        if not end:
+            text = self._cut(PASTE_END_BEGUN, text)
+        assert self.paste
+        piece = self.paste.decode(text, bool(end))
+        if piece or end:
+            strokes.append(Pasted(piece, bool(end)))
+        if end:
+            self.paste = None
         return rest
+
+    def _cut(self, begun: re.Pattern[bytes], sent: bytes) -> bytes:
+        """Keeps what may have begun at the end, and returns what stands before that."""
+        found = begun.search(sent)
+        self.begun = found[0] if found else b""
+        return sent[: len(sent) - len(self.begun)]
 
 
 def _stroke(sent: re.Match[bytes]) -> Stroke | None:
-    """Returns the stroke that was sent; there is none for keys without a name, as F5."""
+    """Returns the stroke that was sent; there is none for keys that do nothing, as F5."""
     if sent["typed"]:
         return Typed(sent["typed"])
     if sent["meta"]:
-        return Meta(sent["meta"][0])
-    if sent["plain"] == b"P" or sent["console"] == b"A":
-        return Named("help")
+        return Key(sent[0])
+    if sent["console"]:
+        return Key(HELP) if sent["console"] == b"A" else None
     is_numbered = sent["last"] == b"~"
-    name = NUMBERED.get(sent["number"]) if is_numbered else LETTERS.get(sent["plain"] or sent["last"])
-    if name and int(sent["modifier"] or 1) - 1 & CONTROL:
-        name = CONTROLLED.get(name, name)
-    return Named(name) if name else None
+    keys = NUMBERED.get(sent["number"]) if is_numbered else LETTERS.get(sent["plain"] or sent["last"])
+    if keys and int(sent["modifier"] or 1) - 1 & CONTROL:
+        keys = CONTROLLED.get(keys, keys)
+    return Key(keys) if keys else None

@@ -12,9 +12,7 @@ class Mailbox(Generic[Letter]):
 
     def __init__(self) -> None:
         self.letters: deque[Letter] = deque()
-        self.woken, self.waker = os.pipe()
-        os.set_blocking(self.woken, False)
-        os.set_blocking(self.waker, False)
+        self.woken, self.waker = os.pipe2(os.O_NONBLOCK | os.O_CLOEXEC)
 
     def post(self, letter: Letter) -> None:
         """Adds a letter; any thread may do so."""

@@ -1,11 +1,13 @@
-"""What the front itself asks, in the echo line, and the help that it shows above that."""
+"""What the front itself asks, in the echo line, and what it shows above that until a key."""
 
 import os
-from collections.abc import Callable
+from collections.abc import Callable, Sequence
 
+from mgr_front.cells import beginning, cells
 from mgr_front.errands import Errand, copy_to, go_to_line
 from mgr_front.keys import CANCEL, DELETE, RETURN
 from mgr_front.notes import Note
+from mgr_front.view import CLEAR, RESET, REVERSE, Picture, sent
 
 # No note has as many lines as a number with so many digits says; and no name has more bytes.
 MOST_DIGITS, MOST_NAME = 9, 1024
@@ -51,35 +53,39 @@ class Question:
 
     def press(self, byte: int) -> Errand | None:
         """Takes a key, and returns the errand that it leads to; RET and C-g end the question."""
-        if self.keys and chr(byte) in self.keys:
-            self.is_open = False
-            return self.accept(chr(byte))
+        ends = chr(byte) in self.keys if self.keys else byte == RETURN
+        self.is_open = not ends and byte != CANCEL
+        if ends:
+            return self.accept(chr(byte) if self.keys else self.answer)
         if byte == DELETE:
             self.typed = self.answer[:-1].encode()
-        elif byte == CANCEL or byte == RETURN and not self.keys:
-            self.is_open = False
-            return self.accept(self.answer) if byte == RETURN else None
         elif len(self.typed) < self.most and (byte in b"0123456789" or self.most > MOST_DIGITS and byte >= ord(" ")):
             self.typed += bytes([byte])
         return None
 
 
-class Help(Question):
-    """The keys, page by page: SPC shows further ones, any other key goes back."""
+class Page(Question):
+    """Rows that stand over the screen. A key shows further ones, and after the last ones nothing; `q` ends it."""
 
-    def __init__(self) -> None:
-        super().__init__("SPC: more keys; another key: back", lambda _: None)
-        self.lines, self.shown = HELP, 0
+    def __init__(self, lines: Sequence[list[str]]) -> None:
+        super().__init__("", lambda _: None)
+        self.lines, self.shown = lines, 1
 
-    def page(self, rows: int) -> tuple[str, ...]:
-        """Returns the rows of a screen with so many, of which the last one is the echo line."""
-        self.shown = rows - 1
-        return tuple(self.lines[: self.shown] + [""] * rows)[:rows]
+    def picture(self, rows: int, columns: int) -> Picture:
+        self.shown = max(1, rows - 1)
+        foot = "a key shows more, q ends" if len(self.lines) > self.shown else "a key ends this"
+        made = [sent(beginning(line, columns), columns) for line in self.lines[: self.shown]]
+        made += [CLEAR] * (self.shown - len(made))
+        return Picture([*made, sent(beginning(cells(foot), columns), columns, REVERSE, RESET)], self.shown, 0)
 
-    def press(self, byte: int) -> Errand | None:
-        self.lines = self.lines[self.shown :] if byte == ord(" ") else []
-        self.is_open = bool(self.lines)
-        return None
+    def press(self, byte: int) -> None:
+        self.lines = self.lines[self.shown :]
+        self.is_open = bool(self.lines) and byte not in (CANCEL, RETURN, ord("q"))
+
+
+def show_help() -> Question:
+    """Shows the keys."""
+    return Page(list(map(cells, HELP)))
 
 
 def ask_for_line() -> Question:

@@ -2,29 +2,22 @@
 
 import math
 
-class Remarks:
-    """Remarks, each with the moment until which it stands."""
 
-    def __init__(self) -> None:
-        self.held: dict[str, float] = {}
-
-    def hold(self, text: str, until: float) -> None:
-        self.held[text] = until
+class Remarks(dict[str, float]):
+    """Remarks, each with the moment until which it stands; that is `math.inf` until somebody has taken note of it."""
 
     def acknowledge(self) -> None:
-        """Forgets those that stand until somebody has taken note of them."""
-        self.held = {text: until for text, until in self.held.items() if until < math.inf}
-
-    def drop(self, text: str) -> None:
-        """Forgets one."""
-        self.held.pop(text, None)
+        """Forgets those that somebody has to take note of."""
+        for text in [text for text, until in self.items() if until == math.inf]:
+            del self[text]
 
     def at(self, now: float) -> list[str]:
         """Returns those that stand at a moment; the others are forgotten."""
-        self.held = {text: until for text, until in self.held.items() if until > now}
-        return list(self.held)
+        for text in [text for text, until in self.items() if until <= now]:
+            del self[text]
+        return list(self)
 
     def patience(self, now: float) -> float | None:
         """Returns the seconds until the next one ends."""
-        first = min(self.held.values(), default=math.inf)
+        first = min(self.values(), default=math.inf)
         return None if first == math.inf else max(0.0, first - now)

@@ -9,30 +9,30 @@ from collections.abc import Callable, Generator, Sequence
 from dataclasses import replace
 
 from mgr_front import who
-from mgr_front.cells import row_width
+from mgr_front.apart import place_apart
+from mgr_front.cells import cells
 from mgr_front.company import Company
-from mgr_front.completion import accept, asks_for_name, complete
+from mgr_front.completion import ANSWERED, KILL_EMACS, NAMED, accept, complete
 from mgr_front.dispatch import Dispatcher
-from mgr_front.echo import Echo, echo_line
 from mgr_front.editor import BLOCK, LEAST_ROWS, MOST_ROWS, Editor
 from mgr_front.errands import COPY_ALL, LEAVE, YANK, Errand, switch_to
 from mgr_front.keys import CANCEL, NO_KEY, RETURN, TAB, Keys, Typed
-from mgr_front.minibuffer import Help, Question
-from mgr_front.apart import place_apart
+from mgr_front.minibuffer import Page, Question
 from mgr_front.notes import KeptFiles, found, why_not_written
+from mgr_front.opening import NEW
 from mgr_front.remarks import Remarks
 from mgr_front.saving import REST, SAVE
 from mgr_front.screen import Screen
 from mgr_front.signals import Signals
-from mgr_front.statuses import COMMAND, FIND, KILL, SWITCH, Status
-from mgr_front.view import Mark, picture
+from mgr_front.statuses import COMMAND, Status
+from mgr_front.view import Echo, echo_line, picture
 from mgr_front.who import WHO
 
 # Seconds until what may be the beginning of a longer key counts as keys of its own, as ESC does.
 PATIENCE = 0.05
 # Seconds for which it is said what is wrong with a note that was opened.
 OPENED = 10.0
-# Seconds between two pictures while further ones are to come.
+# Seconds between two pictures of what others do while further ones are to come.
 PICTURE = 0.05
 # Seconds without a key before all is saved, and between two savings of what others did.
 IDLE = 1.0
@@ -80,12 +80,12 @@ class Session:
         self.put: Callable[[], None] = lambda: None
         self.errand: Errand | None = None
         self.question: Question | None = None
-        # What the front says in place of mgr's message; the remarks and the status that were drawn last,
-        # and when.
+        # What the front says in place of mgr's message; what was drawn last beside the status, and when.
         self.said: str | None = None
-        self.drawn: tuple[list[str], str, list[Mark]] = [], "", []
+        self.drawn: tuple[object, ...] = ()
         self.painted = -math.inf
-        self.is_stale = self.rings = self.is_ending = False
+        # Whether a status was not drawn yet, and whether it answers own keys.
+        self.is_stale = self.is_awaited = self.rings = self.is_ending = False
         self.has_colours = True
         # When a key was typed, when all was saved, and by which report.
         self.typed = self.rested = time.monotonic()
@@ -97,7 +97,7 @@ class Session:
         Where that is a signal, what was typed before it is still taken.
         """
         try:
-            while self.signals.first is None and self._step():
+            while self.signals.first is None and self.step():
                 pass
             while self.signals.first and self._has_keys() and self._take_keys():
                 pass
@@ -106,35 +106,35 @@ class Session:
         except OSError:
             pass  # The terminal is gone, which may be seen before the signal that says so.
 
-    def _step(self) -> bool:
-        """Waits for what is ready and does that, and answers whether there is more to come."""
-        reading = [self.signals.woken] + [0] * (len(self.editor.waiting) < MOST_WAITING)
-        ready = self._await(reading, self._patience())
+    def step(self) -> bool:
+        """Waits for what is ready and does that, and answers whether there is more to come.
+
+        What a person waits for comes first: keys go on to mgr, and its answer is drawn. Then others are told, and
+        mgr is given what they did. At the end neither the terminal nor others count any more.
+        """
+        others = self.company.mailbox.woken if self.company else self.signals.woken
+        reading = [self.editor.written]
+        if not self.is_ending:
+            reading += [self.signals.woken, others] + [0] * (self.screen.is_raw and len(self.editor.waiting) < MOST_WAITING)
+        writing = [self.editor.keys] * bool(self.editor.waiting)
+        ready, _, _ = select.select(reading, writing, [], None if self.is_ending else self._patience())
         if self.signals.woken in ready:
             self._heed()
-        if self.company and self.company.mailbox.woken in ready:
-            self.company.hear()
-        if self.editor.written in ready and not self._take_statuses():
-            return False
         if 0 in ready and self.screen.is_raw and not self._take_keys():
             return False
         if not ready and self.keys.is_in_doubt:
             self.dispatcher.take(self.keys.give_up())
-        self.work()
-        self._draw()
-        return True
-
-    def _await(self, reading: list[int], seconds: float | None) -> list[int]:
-        """Waits until mgr, others or one of these have something to read; gives mgr what it takes meanwhile.
-
-        At the end nothing is taken of others any more.
-        """
-        writing = [self.editor.keys] * bool(self.editor.waiting)
-        others = [self.company.mailbox.woken] if self.company and not self.is_ending else []
-        ready, free, _ = select.select([self.editor.written, *others, *reading], writing, [], seconds)
-        if free:
+        told: list[Status] = []
+        try:
+            goes_on = self.editor.written not in ready or self._take_statuses(told)
+            self.dispatcher.run(self)
             self.editor.write()
-        return ready
+            self._draw()
+        finally:
+            for status in told:
+                self._tell(status)
+        self._watch(others in ready)
+        return goes_on
 
     def _patience(self) -> float | None:
         """Returns after how many seconds something is to be done, whatever happens."""
@@ -151,9 +151,10 @@ class Session:
             return None
         return max(self.typed, self.rested) + IDLE - time.monotonic()
 
-    def work(self) -> None:
-        """Does what strokes and watches ask for."""
-        self.dispatcher.run(self)
+    def _watch(self, hears: bool) -> None:
+        """Gives mgr what others did, and has it save what was not saved for a while."""
+        if self.company and hears:
+            self.company.hear()
         if self.company and not (self.errand or self.is_ending):
             self.company.feed(self.editor)
         due = self._rest_due()
@@ -184,23 +185,28 @@ class Session:
             raise
         return bool(sent)
 
-    def _take_statuses(self) -> bool:
+    def _take_statuses(self, told: list[Status]) -> bool:
         """Takes what mgr told, and answers whether it has not ended."""
         try:
             for status in self.editor.read():
-                self._take(status)
+                told.append(status)
+                self.take(status)
         except EOFError:
             return False
         return True
 
-    def _take(self, status: Status) -> None:
+    def take(self, status: Status) -> None:
+        """Takes note of a status, and goes on with an errand that waits for it."""
         self.remark(self.greeting)
         self.greeting = ""
-        if self.editor.taken:
+        if status.label or status.saved == "ok":
+            self.remarks.pop(NEW, None)
+        is_key = self.editor.taken > 0
+        if is_key:
             self.said = None
-        self.note(status)
+        self._note(status)
         has_rested = self._has_rested(status)
-        is_saved = has_rested or self.editor.taken and status.message.startswith(SAVED)
+        is_saved = has_rested or is_key and status.message.startswith(SAVED)
         if is_saved or len(self.kept.known) < len(self.buffers):
             self.note_kept()
         if status.saved == "ok" and (has_rested or is_saved and status.buffer == self.names[0]):
@@ -210,33 +216,41 @@ class Session:
                 self._go_on(self.errand, status)
             return
         self.is_stale = True
-        is_key = self.editor.taken > 0 and not status.begun
-        self.rings = self.rings or is_key and status.message in RINGING
+        self.is_awaited = self.is_awaited or is_key and self.editor.is_settled
+        self.rings = self.rings or is_key and not status.begun and status.message in RINGING
 
-    def note(self, status: Status) -> None:
-        """Takes note of what a status tells of buffers, and tells others what was made."""
+    def _note(self, status: Status) -> None:
+        """Takes note of what a status tells of buffers."""
         name = status.buffer
         self.buffers.setdefault(name, found(name))
         # A plain text counts as changed from the start.
         was = self.opened.setdefault(name, (status.is_changed, status.unsaved))
         if status.operations:
             self.made.add(self.names[0])
-            self.keep(status.operations)
         if status.saved in UNSAVED or status.saved == "ok":
-            self.remarks.drop(self.fault)
+            self.remarks.pop(self.fault, None)
             self.fault = UNSAVED.get(status.saved, "")
-        if self.fault and status.saved == "file":
-            self.fault += next(filter(None, map(why_not_written, self.buffers)), "")
         if self.fault and status.saved in UNSAVED:
-            self.remarks.hold(self.fault, math.inf)
+            if status.saved == "file":
+                self.fault += next(filter(None, map(why_not_written, self.buffers)), "")
+            self.remarks[self.fault] = math.inf
         if status.is_changed and (status.is_changed, status.unsaved) != was and (self.fault or name != self.names[0]):
             self.made.add(name)
-        own = self.editor.pasted & status.refused.keys()
-        for number in own:
+        for number in self.editor.pasted & status.refused.keys():
             self.remark(f"Not put in: {status.refused[number]}")
+
+    def _tell(self, status: Status) -> None:
+        """Tells others what was made, once note is taken of that."""
+        if status.operations:
+            self.keep(status.operations)
         if self.company:
-            others = {number: fault for number, fault in status.refused.items() if number not in own}
+            others = {number: fault for number, fault in status.refused.items() if number not in self.editor.pasted}
             self.company.note_status(replace(status, refused=others))
+
+    def note(self, status: Status) -> None:
+        """Takes note of a status at the end, and tells others."""
+        self._note(status)
+        self._tell(status)
 
     def _has_rested(self, status: Status) -> bool:
         """Whether a status is the first one after all was saved, as it was asked for."""
@@ -252,35 +266,31 @@ class Session:
             self.remark(said)
 
     def _draw(self) -> None:
-        """Draws the newest status, where it was not drawn yet."""
-        if self.is_ending:
+        """Draws the newest status, or what changed beside it."""
+        if self.is_ending or self.errand or not self.editor.status.frame:
             return
         now = time.monotonic()
         if self.company and self.company.said:
             # The mode line goes on to say that one is alone.
             is_alone = self.company.state.word == "alone"
-            self.remarks.hold(self.company.said, now + OPENED if is_alone else math.inf)
+            self.remarks[self.company.said] = now + OPENED if is_alone else math.inf
             self.company.said = ""
-        remarks, status = self.remarks.at(now), self.company.shown() if self.company else ""
+        shown = self.company.shown() if self.company else ""
         marks = self.company.marks(self.editor.status, self.has_colours) if self.company else []
-        is_drawn = not self.is_stale and (remarks, status, marks) == self.drawn
-        if not self.editor.status.frame or is_drawn or self.errand or self._draws_later(now):
+        drawn = self.remarks.at(now), self.dispatcher.failing, shown, marks
+        comes_later = not (self.is_awaited or self.editor.is_answered) and now < self.painted + PICTURE
+        if comes_later or not self.is_stale and drawn == self.drawn:
             return
         columns, rows = os.get_terminal_size(1)
-        if isinstance(self.question, who.Page):
-            self.screen.draw(self.question.picture(rows, columns))
+        if isinstance(self.question, Page):
+            made = self.question.picture(rows, columns)
         else:
-            shown = Status(self.question.page(rows)) if isinstance(self.question, Help) else self._shown()
-            self.screen.draw(picture(shown, self._echo(remarks), rows, columns, status, marks), self.rings)
-        self.is_stale = self.rings = False
-        self.drawn = remarks, status, marks
-        self.painted = now
+            made = picture(self.shown(), self._echo(), rows, columns, shown, marks)
+        self.screen.draw(made, self.rings)
+        self.is_stale = self.is_awaited = self.rings = False
+        self.drawn, self.painted = drawn, now
 
-    def _draws_later(self, now: float) -> bool:
-        """Whether further pictures come soon, of which only some are drawn."""
-        return not self.editor.is_answered and now < self.painted + PICTURE
-
-    def _shown(self) -> Status:
+    def shown(self) -> Status:
         """Returns the newest status, with the note's name as it is shown."""
         status, (path, name) = self.editor.status, self.names
         if path == name:
@@ -290,15 +300,16 @@ class Session:
             frame[row] = frame[row].replace(path, name, 1)
         return replace(status, frame=tuple(frame), message=status.message.replace(path, name))
 
-    def _echo(self, remarks: Sequence[str]) -> Echo:
+    def _echo(self) -> Echo:
         if self.question:
-            return Echo(self.question.text, row_width(self.question.text))
-        return echo_line(self._shown(), self.said, remarks)
+            return Echo(self.question.text, len(cells(self.question.text)))
+        failing = self.dispatcher.failing.decode("utf-8", "replace")
+        return echo_line(self.shown(), self.said, list(self.remarks), failing)
 
     def remark(self, said: str) -> None:
         """Says something of a note that was opened, for a while."""
         if said:
-            self.remarks.hold(said, time.monotonic() + OPENED)
+            self.remarks[said] = time.monotonic() + OPENED
 
     def start(self, errand: Errand) -> None:
         """Begins an errand. Its first keys are pressed at once; all others wait for its end."""
@@ -313,12 +324,13 @@ class Session:
             self.editor.hand_on(next(errand) if status is None else errand.send(status))
         except StopIteration as end:
             self.errand, self.said = None, end.value
-            self.is_stale = True
+            self.is_stale = self.is_awaited = True
 
     def ask(self, question: Question) -> None:
         """Asks something in the echo line."""
         self.question = question
-        self.is_stale = True
+        self.remarks.pop(NEW, None)
+        self.is_stale = self.is_awaited = True
 
     def answer(self, byte: int) -> None:
         """Takes a key of the answer to what is asked."""
@@ -329,7 +341,7 @@ class Session:
             self.question = None
         if errand:
             self.start(errand)
-        self.is_stale = True
+        self.is_stale = self.is_awaited = True
 
     def save(self) -> Errand:
         """Saves the current buffer: its text is to be as it is now."""
@@ -339,10 +351,10 @@ class Session:
             self.buffers[status.buffer] = found(status.buffer)
         return None
 
-    def leave(self, answer: str = "") -> Errand:
-        """Leaves; where something was made it asks first what becomes of the texts."""
+    def leave(self, answer: str = "", keys: bytes = b"") -> Errand:
+        """Leaves, after these keys; where something was made it asks first what becomes of the texts."""
         self.rest()
-        unsaved = yield from self._unsaved((yield b""))
+        unsaved = yield from self._unsaved((yield keys))
         if unsaved and answer == "d":
             unsaved = yield from self._put_apart(unsaved)
         if not unsaved and (answer or not self.made):
@@ -368,16 +380,13 @@ class Session:
         """Puts the texts of buffers into the state folder, and returns the buffers where that fails."""
         failed = []
         for name in names:
-            place = place_apart(name)
-            if not place:
-                failed.append(name)
-                continue
-            yield switch_to(name) + COPY_ALL + b"\x18\x06" + place.encode() + b"\r"
-            status = yield YANK + SAVE
-            if status.message == SAVED + place:
-                self.apart[name] = place
-            else:
-                failed.append(name)
+            if place := place_apart(name):
+                yield switch_to(name) + COPY_ALL + b"\x18\x06" + place.encode() + b"\r"
+                status = yield YANK + SAVE
+                if status.message == SAVED + place:
+                    self.apart[name] = place
+                    continue
+            failed.append(name)
         return failed
 
     def rescue(self) -> Errand:
@@ -389,7 +398,7 @@ class Session:
     def complete(self) -> None:
         """Completes the answer of the open prompt; where it asks for no name, TAB is a part of it."""
         status = self.editor.status
-        if asks_for_name(status.label):
+        if status.label in NAMED:
             self.start(complete(status.label, status.answer, self.buffers))
         else:
             self.editor.hand_on(bytes([TAB]))
@@ -401,7 +410,9 @@ class Session:
             self.rest()
             names = self.company.names if self.company else {}
             self.start(who.show(self.editor.program, status.buffer, names, self.has_colours, self.ask))
-        elif status.label in (FIND, SWITCH, KILL):
+        elif (status.label, status.answer) == (COMMAND, KILL_EMACS):
+            self.start(self.leave(keys=bytes([CANCEL])))
+        elif status.label in ANSWERED:
             self.start(accept(status.label, status.answer))
         else:
             self.editor.hand_on(bytes([RETURN]))
@@ -420,11 +431,10 @@ class Session:
 
     def _settle(self) -> bool:
         """Does all that waits, and answers whether mgr has not ended."""
-        self.work()
+        self.dispatcher.run(self)
         while self.errand or self.dispatcher.strokes or not self.editor.is_answered:
-            if self.editor.written in self._await([], None) and not self._take_statuses():
+            if not self.step():
                 return False
-            self.work()
         return True
 
     def _heed(self) -> None:

@@ -6,7 +6,7 @@ from dataclasses import dataclass, field
 from itertools import accumulate
 from typing import Any
 
-PLAIN, PROMPT, QUERY = "plain", "prompt", "query"
+PLAIN, PROMPT, SEARCH, QUERY = "plain", "prompt", "search", "query"
 # How mgr labels its prompts, of those that the front does something at.
 COMMAND, FIND, SWITCH, KILL = "M-x ", "Find file: ", "Switch to buffer: ", "Kill buffer: "
 QUITTING = "Changed buffers; quit (y or n): "

@@ -1,23 +1,23 @@
-"""What a terminal of some size shows of a frame."""
+"""What a terminal of some size shows of a frame: its rows, as they are sent, and its cursor."""
 
 import functools
 from collections.abc import Sequence
 from dataclasses import dataclass
 
-from mgr_front.cells import BLANK, Cell, beginning, cells, part, shift, total_width
-from mgr_front.echo import Echo
+from mgr_front.cells import beginning, cells, part, shift
 from mgr_front.statuses import Status
 
-# So many lines are kept as they were made: most are the same in the next picture.
-MOST_LINES = 1024
+# So many rows are kept as they were made: most are the same in the next picture.
+KEPT = 1024
 # Of a terminal that has less than this a part is drawn beyond its edges.
-LEAST_FRAME_ROWS, LEAST_COLUMNS = 2, 4
+LEAST_ROWS, LEAST_COLUMNS = 2, 4
 LEAST_NOTE = 20
 
-
-# What ends a colour; how many colours writers have.
-RESET = "\x1b[m"
+CLEAR, REVERSE, RESET = "\x1b[K", "\x1b[7m", "\x1b[m"
+# How many colours writers have.
 COLOURS = 6
+# Control characters that an answer may have beside TAB are shown so.
+CONTROLS = dict.fromkeys(range(0x80, 0xA0), "?")
 
 
 @dataclass(frozen=True)
@@ -34,23 +34,38 @@ def style(replica: int, has_colours: bool, is_text: bool = False) -> str:
     """Returns what a terminal is sent before what is shown of a writer: of its point, or of its text."""
     colour = replica % COLOURS + 1
     if not has_colours:
-        return "\x1b[4m" if is_text else "\x1b[7m"
+        return "\x1b[4m" if is_text else REVERSE
     return f"\x1b[3{colour}m" if is_text else f"\x1b[30;4{colour}m"
 
 
 @dataclass(frozen=True)
-class Line:
-    """A row of the terminal."""
+class Echo:
+    """What stands in the echo line, and the column of the cursor where it stands there."""
 
-    cells: list[Cell]
-    is_reverse: bool = False
+    text: str
+    column: int | None = None
+
+
+def echo_line(status: Status, said: str | None = None, remarks: Sequence[str] = (), failing: str = "") -> Echo:
+    """Returns the echo line of a status; `failing` is what was typed in a search and is not found.
+
+    mgr shows a message or a prompt there, and the front has remarks. Here all stand in one row: the message, or
+    what is `said` in its place, and the remarks in brackets after what stands before them.
+    """
+    message = status.message if said is None else said
+    prompt = (status.label + status.answer).expandtabs().translate(CONTROLS)
+    prompt = f"Failing {prompt}{failing}" if failing else prompt
+    shown = [text for text in (prompt, message) if text]
+    shown += [remark for remark in remarks if remark != message]
+    text = "".join(f" [{text}]" if i else text for i, text in enumerate(shown))
+    return Echo(text, len(cells(prompt)) if status.asks_for_line else None)
 
 
 @dataclass(frozen=True)
 class Picture:
     """All rows of the terminal, and the row and column of its cursor."""
 
-    lines: list[Line]
+    rows: Sequence[str]
     row: int
     column: int
 
@@ -60,59 +75,61 @@ def picture(
 ) -> Picture:
     """Returns what shows of a frame, with this echo line and these marks.
 
-    The row of the cursor is shifted sideways so that the cursor shows. Where the terminal has fewer
-    rows than the frame, the echo line, the rows round the cursor and the mode line of its window
-    show. The note stands at the right end of that.
+    The row of the cursor is shifted sideways so that the cursor shows. Where the terminal has fewer rows than the
+    frame, those up to the cursor's show, and the echo line. The note stands at the right end of the mode line of
+    the cursor's window.
     """
-    rows, columns = max(rows, LEAST_FRAME_ROWS), max(columns, LEAST_COLUMNS)
-    frame, (row, column) = status.frame, status.cursor
-    current = min((i for i in status.mode_rows if i >= row), default=len(frame) - 2)
+    rows, columns = max(rows, LEAST_ROWS), max(columns, LEAST_COLUMNS)
+    frame, (row, column), mode_rows = status.frame, status.cursor, status.mode_rows
+    current = min((i for i in mode_rows if i >= row), default=len(frame) - 2)
     if echo.column is not None:
         row, column = len(frame) - 1, echo.column
     left = shift(column, columns)
-    lines = [
-        _line(text, left if i == row else 0, columns, tuple(mark for mark in marks if mark.row == i))
+    shown = [
+        mode_row(text, columns, note if i == current else "")
+        if i in mode_rows
+        else text_row(text, left if i == row else 0, columns, tuple(mark for mark in marks if mark.row == i))
         for i, text in enumerate((*frame[:-1], echo.text))
     ]
-    for i in status.mode_rows:
-        lines[i] = _mode_line(frame[i], columns, note if i == current else "")
-    if len(lines) > rows:
-        lines, row = _cut(lines, row, current, rows)
-    return Picture(lines, row, column - left)
+    if len(shown) > rows:
+        top = max(0, min(row, len(shown) - 2) - rows + 2)
+        shown, row = shown[top : top + rows - 1] + shown[-1:], min(row - top, rows - 1)
+    return Picture(shown, row, column - left)
 
 
-def _cut(lines: list[Line], row: int, mode: int, rows: int) -> tuple[list[Line], int]:
-    """Returns so many of the lines, and which of them is the cursor's row."""
-    body, foot = lines[:-1], lines[-1:]
-    if row < mode and rows > LEAST_FRAME_ROWS and mode > rows - 2:
-        body, foot = lines[:mode], [lines[mode], *foot]
-    height = rows - len(foot)
-    top = max(0, min(row - height + 1, len(body) - height))
-    return body[top : top + height] + foot, row - top
-
-
-@functools.lru_cache(maxsize=MOST_LINES)
-def _line(text: str, left: int, columns: int, marks: tuple[Mark, ...] = ()) -> Line:
+@functools.lru_cache(maxsize=KEPT)
+def text_row(text: str, left: int, columns: int, marks: tuple[Mark, ...] = ()) -> str:
+    """Returns a row of the text, or the echo line."""
     row = cells(text)
     for mark in marks:
         _put(mark, row)
-    return Line(part(row, left, columns))
+    return sent(part(row, left, columns), columns)
 
 
-def _put(mark: Mark, row: list[Cell]) -> None:
-    """Shows a mark in a row."""
-    end = 0
-    for i, (signs, width) in enumerate(row):
-        end += width
-        if mark.column < end if mark.letter else mark.column == end:
-            # No character of the text is hidden.
-            row[i] = f"{mark.style}{mark.letter if mark.letter and signs == ' ' else signs}{RESET}", width
-            return
+def sent(row: Sequence[str], columns: int, before: str = "", after: str = "") -> str:
+    """Returns what has a terminal show a row in place of another: it may not agree on the columns of each character.
+
+    A full row is not cleared at its end: that would take its last character.
+    """
+    text = f"{before}{''.join(row)}{after}"
+    if not text.isascii():
+        return CLEAR + text
+    return text + CLEAR * (len(row) < columns)
+
+
+def _put(mark: Mark, row: list[str]) -> None:
+    """Shows a mark in a row, in which no character of the text is hidden by it."""
+    place = mark.column if mark.letter else mark.column - 1
     if mark.letter:
-        row += [BLANK] * (mark.column - end) + [(f"{mark.style}{mark.letter}{RESET}", 1)]
+        row += [" "] * (place + 1 - len(row))
+    while 0 < place < len(row) and not row[place]:
+        place -= 1
+    if 0 <= place < len(row):
+        row[place] = f"{mark.style}{mark.letter if mark.letter and row[place] == ' ' else row[place]}{RESET}"
 
 
-def _mode_line(text: str, columns: int, note: str) -> Line:
-    """A mode line, cut to the columns, with the note at its end, of which most is left out that has no room."""
+@functools.lru_cache(maxsize=KEPT)
+def mode_row(text: str, columns: int, note: str) -> str:
+    """Returns a mode line with the note at its end, of which most is left out that has no room."""
     end = beginning(cells(f" {note} "), max(LEAST_NOTE, columns * 2 // 3)) if note else []
-    return Line(beginning(cells(text), max(0, columns - total_width(end))) + end, True)
+    return sent(beginning(cells(text), max(0, columns - len(end))) + end, columns, REVERSE, RESET)

@@ -8,7 +8,7 @@ from unittest import mock
 
 import context
 
-from mgr_front.completion import COMMANDS, accept, asks_for_name, candidates, complete
+from mgr_front.completion import COMMANDS, accept, candidates, complete
 from mgr_front.errands import Errand
 from mgr_front.statuses import Status
 
@@ -71,11 +71,6 @@ class TestCompletion(unittest.TestCase):
             home = os.getcwd().encode()
             self.assertEqual(play(complete("Find file: ", "~/not", [])), (b"\x7f" * 5 + home + b"/notes", None))
             self.assertEqual(play(accept("Find file: ", "~/notes")), (b"\x7f" * 7 + home + b"/notes\r", None))
-
-    def test_what_asks_for_a_name(self) -> None:
-        for label, wanted in [("Find file: ", True), ("M-x ", True), ("Query replace: ", False), ("", False)]:
-            with self.subTest(label=label):
-                self.assertEqual(asks_for_name(label), wanted)
 
     def test_a_fault_of_a_file_says_which_and_why(self) -> None:
         for name, message, wanted in [

@@ -11,7 +11,7 @@ from mgr_front.dispatch import Dispatcher
 from mgr_front.editor import Talk
 from mgr_front.errands import Errand
 from mgr_front.keys import Keys
-from mgr_front.minibuffer import HELP, Help, Question
+from mgr_front.minibuffer import Page, Question
 from mgr_front.statuses import Status
 
 
@@ -27,6 +27,7 @@ class FakeDesk:
         self.editor = editor
         self.errand: Errand | None = None
         self.question: Question | None = None
+        self.said: str | None = None
         self.done: list[str] = []
 
     def suspend(self) -> None:
@@ -126,7 +127,8 @@ class TestDispatch(unittest.TestCase):
     def test_keys_of_the_front_mean_nothing_in_an_answer(self) -> None:
         self.press(b"\x18\x06")
         self.answer(**asking("Find file: "))
-        self.assertEqual(self.press(b"\x18g"), b"\x18g")
+        self.assertEqual(self.press(b"\x18g"), b"\x18")
+        self.assertEqual(self.answer(**asking("Find file: ")), b"g")
         self.answer(**asking("Find file: ", "g"))
         self.assertEqual(self.press(b"\x1b[1;5D"), b"\xfe")
         self.answer(**asking("Find file: ", "g"))
@@ -168,11 +170,11 @@ class TestDispatch(unittest.TestCase):
             self.dispatcher = Dispatcher(self.editor)  # type: ignore[arg-type]
             self.press(keys)
             self.answer()
-            help = self.desk.question
-            assert isinstance(help, Help)
-            self.assertEqual(help.page(5), (*HELP[:4], ""))
+            shown = self.desk.question
+            assert isinstance(shown, Page)
+            self.assertIn("C-f C-b", shown.picture(5, 80).rows[0])
             self.press(b" ")
-            self.assertEqual(help.page(40), (*HELP[4:], *[""] * (44 - len(HELP))))
+            self.assertIn("C-SPC", shown.picture(40, 80).rows[0])
             self.assertEqual(self.press(b"\x1b[A") + self.press(b"a"), b"a")
             self.assertIsNone(self.desk.question)
             self.answer()
@@ -199,6 +201,39 @@ class TestDispatch(unittest.TestCase):
     def test_a_line_that_is_not_asked_for_any_more(self) -> None:
         self.assertEqual(self.press(b"\x18g12\x07a"), b"a")
         self.assertEqual(self.answer() + self.press(b"\x18g\rb"), b"b")
+
+    def test_a_search_that_fails_keeps_what_is_typed(self) -> None:
+        for what, sent, keys, kept in [
+            ("characters", b"y\xc3\xa9z", b"", "xy\u00e9z"),
+            ("DEL", b"y\x7f", b"", "x"),
+            ("DEL of a character of two bytes", b"\xc3\xa9\x7f", b"", "x"),
+            ("one more DEL than characters", b"\x7f\x7f", b"\x7f", ""),
+            ("C-g", b"y\x07", b"", ""),
+            ("C-s, which fails again", b"\x13\x12", b"", "x"),
+            ("RET", b"y\r", b"\r", ""),
+            ("another key", b"y\x01", b"\x01", ""),
+            ("an arrow", b"y\x1b[A", b"\x10", ""),
+            ("a paste, to the end of its line", b"\x1b[200~yz\n1\x1b[201~", b"", "xyz"),
+        ]:
+            with self.subTest(what):
+                self.setUp()
+                self.press(b"\x13")
+                self.answer(**asking("I-search: ", "", "search"))
+                self.assertEqual(self.press(b"fx"), b"f")
+                self.assertEqual(self.answer(**asking("I-search: ", "f", "search")), b"x")
+                self.answer(message="Search failed", **asking("I-search: ", "f", "search"))
+                self.assertEqual(self.dispatcher.failing, b"x")
+                self.assertEqual(self.press(sent), keys)
+                self.assertEqual(self.dispatcher.failing.decode(), kept)
+
+    def test_what_is_typed_at_once_after_a_search_began_waits_for_it(self) -> None:
+        self.assertEqual(self.press(b"a\x13fo"), b"a")
+        self.assertEqual(self.answer(), b"\x13")
+        self.assertEqual(self.answer(**asking("I-search: ", "", "search")), b"f")
+        self.assertEqual(self.answer(message="Search failed", **asking("I-search: ", "", "search")), b"")
+        self.assertEqual((self.dispatcher.failing, self.desk.said), (b"fo", ""))
+        self.press(b"\x07\x07b")
+        self.assertEqual((self.dispatcher.failing, self.answer()), (b"", b"b"))
 
     def test_a_paste_leaves_what_was_begun_and_no_question_is_answered_by_it(self) -> None:
         self.assertEqual(self.press(b"\x154\x1b[200~y\r\x1b[201~"), b"\x154")

@@ -5,9 +5,7 @@ import unittest
 
 import context  # noqa: F401
 
-from mgr_front.bindings import LINE_MODES, NAMED, argument_keys, named_keys, plain_keys
-from mgr_front.keys import Keys, Meta, Named, Pasted, Stroke, Typed
-from mgr_front.statuses import PLAIN
+from mgr_front.keys import HELP, Key, Keys, Pasted, Stroke, Typed
 
 SENT: list[tuple[str, bytes, bytes]] = [
     ("text", b"hello", b"hello"),
@@ -33,7 +31,7 @@ SENT: list[tuple[str, bytes, bytes]] = [
 
 
 def keys_of(strokes: list[Stroke]) -> bytes:
-    return b"".join(stroke.text.encode() if isinstance(stroke, Pasted) else plain_keys(stroke) for stroke in strokes)
+    return b"".join(stroke.text.encode() if isinstance(stroke, Pasted) else stroke.data for stroke in strokes)
 
 
 class TestKeys(unittest.TestCase):
@@ -51,7 +49,7 @@ class TestKeys(unittest.TestCase):
 
     def test_many_digits_that_are_no_key_are_read_at_once(self) -> None:
         digits, begun = b"1" * 60_000, time.monotonic()
-        self.assertEqual(Keys().take(b"\x1b[" + digits + b"\x01"), [Meta(ord("[")), Typed(digits + b"\x01")])
+        self.assertEqual(Keys().take(b"\x1b[" + digits + b"\x01"), [Key(b"\x1b["), Typed(digits + b"\x01")])
         self.assertLess(time.monotonic() - begun, 2)
 
     def test_escape_alone_is_given_up(self) -> None:
@@ -67,35 +65,19 @@ class TestKeys(unittest.TestCase):
             for i in range(0, len(sent), size):
                 for piece in keys.take(sent[i : i + size]):
                     assert isinstance(piece, Pasted)
-                    piece.data.decode()
-                self.assertFalse(keys.is_pasting and keys.is_in_doubt)
+                    self.assertNotIn("\ufffd", piece.text)
+                self.assertFalse(keys.paste and keys.is_in_doubt)
 
     def test_a_paste_that_breaks_off_is_given_up(self) -> None:
         keys = Keys()
-        self.assertEqual(keys.take(b"\x1b[200~ab\x1b[2"), [Pasted(b"ab", False)])
-        self.assertEqual(keys.give_up(), [Pasted(b"\x1b[2", True)])
+        self.assertEqual(keys.take(b"\x1b[200~ab\x1b[2"), [Pasted("ab", False)])
+        self.assertEqual(keys.give_up(), [Pasted("\x1b[2", True)])
 
     def test_help(self) -> None:
-        self.assertEqual(Keys().take(b"\x1bOP\x1b[11~\x1b[[A"), [Named("help")] * 3)
+        self.assertEqual(Keys().take(b"\x1bOP\x1b[11~\x1b[[A"), [Key(HELP)] * 3)
 
     def test_meta_is_told_from_escape(self) -> None:
-        self.assertEqual(Keys().take(b"\x1bfg\x1b[A"), [Meta(ord("f")), Typed(b"g"), Named("up")])
-
-
-class TestBindings(unittest.TestCase):
-    def test_nothing_of_a_named_key_goes_into_an_answer(self) -> None:
-        for name in NAMED:
-            for mode in LINE_MODES:
-                with self.subTest(name=name, mode=mode):
-                    self.assertEqual(len(named_keys(name, mode, False)), 1)
-
-    def test_digits_with_meta_go_on_with_an_argument(self) -> None:
-        self.assertEqual(argument_keys(ord("1"), False), b"\x151")
-        self.assertEqual(argument_keys(ord("2"), True), b"2")
-
-    def test_a_key_of_two_behind_a_begun_one_is_none(self) -> None:
-        self.assertEqual(named_keys("page-up", PLAIN, True), b"\xfe")
-        self.assertEqual(named_keys("page-up", PLAIN, False), b"\x1bv")
+        self.assertEqual(Keys().take(b"\x1bfg\x1b[A"), [Key(b"\x1bf"), Typed(b"g"), Key(b"\x10")])
 
 
 if __name__ == "__main__":

@@ -29,23 +29,26 @@ LACK = "what others lack they get at the next start"
 class Sessions(InFolder):
     def setUp(self) -> None:
         super().setUp()
-        state = mock.patch.dict(os.environ, XDG_STATE_HOME=str(self.folder / "state"))
-        state.start()
-        self.addCleanup(state.stop)
+        self.woken, waker = os.pipe()
+        self.addCleanup(os.close, self.woken)
+        self.addCleanup(os.close, waker)
+        size = mock.patch("os.get_terminal_size", return_value=os.terminal_size((80, 9)))
+        for patch in (mock.patch.dict(os.environ, XDG_STATE_HOME=str(self.folder / "state")), size):
+            patch.start()
+            self.addCleanup(patch.stop)
 
     def begin(self, name: str) -> Session:
         self.note = Note(str(self.folder / name))
         said = tempfile.TemporaryFile()
         self.addCleanup(said.close)
         editor = Editor(self.mgr, [self.note.name], 3, said)
-        screen, signals = mock.Mock(erase=127), mock.Mock(first=None)
+        screen, signals = mock.Mock(erase=127, is_raw=False), mock.Mock(first=None, woken=self.woken)
         return Session(editor, screen, signals)
 
     def settle(self, edit: Session) -> None:
         """Waits until all is answered."""
         while not edit.editor.is_settled:
-            edit._await([], None)
-            self.assertTrue(edit._take_statuses())
+            self.assertTrue(edit.step())
 
     def type(self, edit: Session, sent: bytes) -> None:
         edit.dispatcher.take(Keys().take(sent))
@@ -61,9 +64,8 @@ class TestStatuses(Sessions):
         edit = self.begin("note")
         self.settle(edit)
         self.type(edit, b"a\x18")
-        edit.work()
-        with mock.patch("os.get_terminal_size", return_value=os.terminal_size((80, 9))):
-            edit.resize()
+        edit.dispatcher.run(edit)
+        edit.resize()
         self.settle(edit)
         self.assertEqual((edit.editor.status.frame[0], len(edit.editor.status.frame)), ("a", 9))
 
@@ -72,7 +74,7 @@ class TestStatuses(Sessions):
         edit.said = "Sole completion"
         for keys, wanted in [(0, "Sole completion"), (1, None)]:
             edit.editor.note(Status(keys=keys))
-            edit._take(edit.editor.status)
+            edit.take(edit.editor.status)
             self.assertEqual(edit.said, wanted)
 
     def test_the_bell_rings_for_keys_that_mean_nothing(self) -> None:
@@ -85,7 +87,7 @@ class TestStatuses(Sessions):
             with self.subTest(keys=keys, begun=begun, message=message):
                 edit = self.begin("note")
                 edit.editor.note(Status(keys=keys, begun=begun, message=message))
-                edit._take(edit.editor.status)
+                edit.take(edit.editor.status)
                 self.assertEqual(edit.rings, wanted)
 
 
@@ -103,12 +105,8 @@ class TestSharing(Sessions):
         end = time.monotonic() + 10
         while (seen := look()) != wanted:
             self.assertLess(time.monotonic(), end, f"{seen!r} is not {wanted!r}")
-            edit.work()
-            ready = edit._await([], min(0.05, edit._patience() or 0.05))
-            if edit.editor.written in ready:
-                self.assertTrue(edit._take_statuses())
-            if edit.company and edit.company.mailbox.woken in ready:
-                edit.company.hear()
+            with mock.patch.object(edit, "_patience", return_value=0.05):
+                self.assertTrue(edit.step())
 
     def rested(self, edit: Session) -> list[str]:
         return [name for name in self.names() if name == "note"]
@@ -141,9 +139,11 @@ class TestSharing(Sessions):
     def test_at_the_end_others_wake_nobody(self) -> None:
         edit = self.begin("note")
         assert edit.company
-        edit.company.mailbox.post(Took((OPERATION.encode(),)))
-        for edit.is_ending, wanted in ((False, [edit.company.mailbox.woken]), (True, [])):
-            self.assertEqual(edit._await([], 0), wanted)
+        with mock.patch.object(edit.company, "hear") as hear:
+            edit.company.mailbox.post(Took((OPERATION.encode(),)))
+            self.type(edit, b"a")
+            edit.conclude()
+        hear.assert_not_called()
 
     def test_nothing_is_saved_before_anything_is_typed(self) -> None:
         edit = self.begin("note")
@@ -159,7 +159,7 @@ class TestSharing(Sessions):
     def test_the_names_of_copies_are_not_shown(self) -> None:
         edit = self.begin("note")
         edit.names = self.note.name, "shown"
-        self.assertEqual(edit._shown().frame[1], "----Mg: shown (fundamental)")
+        self.assertEqual(edit.shown().frame[1], "----Mg: shown (fundamental)")
 
 
 class TestEnds(Sessions):
@@ -184,12 +184,9 @@ class TestEnds(Sessions):
     def leave(self, edit: Session, keys: bytes) -> None:
         """Types, and goes on until mgr is left or something is asked."""
         self.type(edit, keys)
-        with mock.patch("os.get_terminal_size", return_value=os.terminal_size((80, 9))):
-            edit.work()
-            while edit.errand or edit.dispatcher.strokes or not edit.editor.is_answered:
-                if edit.editor.written in edit._await([], None) and not edit._take_statuses():
-                    return
-                edit.work()
+        edit.dispatcher.run(edit)
+        while (edit.errand or edit.dispatcher.strokes or not edit.editor.is_answered) and edit.step():
+            pass
 
     def test_leaving(self) -> None:
         for keys, answer, asks, text in [
@@ -204,7 +201,6 @@ class TestEnds(Sessions):
                 edit = self.begin("note")
                 edit.names = self.note.name, "note"
                 self.settle(edit)
-                edit._draw = mock.Mock()  # type: ignore[method-assign]
                 self.leave(edit, keys)
                 self.leave(edit, b"\x18\x03")
                 self.assertEqual(edit.question is not None, asks)
@@ -222,7 +218,6 @@ class TestEnds(Sessions):
                 edit = self.begin("note")
                 edit.names = self.note.name, "note"
                 self.settle(edit)
-                edit._draw = mock.Mock()  # type: ignore[method-assign]
                 (self.folder / "note").mkdir()
                 self.leave(edit, b"ab\x18\x03" * bool(end) + b"ab" * (not end))
                 for key in end:
@@ -274,7 +269,7 @@ class TestEnds(Sessions):
     def test_it_is_too_where_the_front_has_a_fault(self) -> None:
         edit = self.begin("note")
         self.type(edit, b"typed")
-        with mock.patch.object(edit, "work", side_effect=RuntimeError), self.assertRaises(RuntimeError):
+        with mock.patch.object(edit, "step", side_effect=RuntimeError), self.assertRaises(RuntimeError):
             ending.finish(edit, self.note)
         self.assertEqual(self.text("note"), "typed")
 
@@ -301,10 +296,10 @@ class TestEnds(Sessions):
         edit = self.begin("note")
         self.settle(edit)
         self.type(edit, b"ab")
-        edit.work()
+        edit.dispatcher.run(edit)
         self.settle(edit)
         self.type(edit, b"\x18g12")
-        edit.work()
+        edit.dispatcher.run(edit)
         self.assertIsNotNone(edit.question)
         ending.finish(edit, self.note)
         self.assertEqual(self.text("note"), "ab")

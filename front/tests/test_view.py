@@ -8,17 +8,16 @@ from unittest import mock
 
 import context  # noqa: F401
 
-from mgr_front.cells import cells, total_width
-from mgr_front.echo import Echo, echo_line
-from mgr_front.screen import CLOSE, Screen, change, until_done
+from mgr_front.screen import CLOSE, Screen, until_done
 from mgr_front.statuses import Status
-from mgr_front.view import Line, Mark, Picture, picture, style
+from mgr_front.view import CLEAR, Echo, Mark, Picture, echo_line, picture, style, text_row
 
 MODE = "----Mg: n (fundamental) L1 C0 W0".ljust(500, "-")
 
 
 def texts(shown: Picture) -> list[str]:
-    return ["".join(sign for sign, _ in line.cells) for line in shown.lines]
+    """Returns the rows without what only says how they are shown; a mark ends in `>`."""
+    return [re.sub("\x1b\\[7m(.*)\x1b\\[m", r"\1", row).replace("\x1b[m", ">").replace(CLEAR, "") for row in shown.rows]
 
 
 class TestPictures(unittest.TestCase):
@@ -34,13 +33,11 @@ class TestPictures(unittest.TestCase):
         self.assertEqual(texts(shown)[2], "$" + "y" * 10)
         self.assertEqual((shown.row, shown.column), (2, 11))
 
-    def test_a_smaller_terminal_shows_point_its_mode_line_and_the_echo_line(self) -> None:
+    def test_a_smaller_terminal_shows_point_and_the_echo_line(self) -> None:
         rows = tuple("abcdefgh") + (MODE, "said")
         for height, point, wanted, row in [
-            (4, 0, ["a", "b", MODE[:20], "said"], 0),
-            (4, 1, ["a", "b", MODE[:20], "said"], 1),
-            (4, 4, ["d", "e", MODE[:20], "said"], 1),
-            (3, 7, ["h", MODE[:20], "said"], 0),
+            (4, 0, ["a", "b", "c", "said"], 0),
+            (4, 4, ["c", "d", "e", "said"], 2),
             (2, 7, ["h", "said"], 0),
             (3, 9, ["h", MODE[:20], "said"], 2),
         ]:
@@ -49,24 +46,17 @@ class TestPictures(unittest.TestCase):
                 self.assertEqual(texts(shown), wanted)
                 self.assertEqual(shown.row, row)
 
-    def test_a_smaller_terminal_shows_the_window_of_point(self) -> None:
-        rows = ("a", "b", "c", MODE, "d", "e", MODE, "said")
-        for point, wanted in [(2, ["b", "c", MODE[:20], "said"]), (4, [MODE[:20], "d", MODE[:20], "said"])]:
-            with self.subTest(point=point):
-                status = Status(rows, (point, 0), (3, 2))
-                self.assertEqual(texts(picture(status, Echo("said"), 4, 20)), wanted)
-
     def test_no_size_is_too_small(self) -> None:
         status = Status(("x" * 500, "漢" * 250, MODE, "said"), (1, 498), (2,))
         for rows in range(6):
             for columns in range(30):
                 with self.subTest(rows=rows, columns=columns):
                     shown = picture(status, Echo("said"), rows, columns, "live")
-                    self.assertTrue(0 <= shown.row < len(shown.lines) and 0 <= shown.column < max(columns, 4))
+                    self.assertTrue(0 <= shown.row < len(shown.rows) and 0 <= shown.column < max(columns, 4))
 
     def test_mode_lines_are_in_reverse_and_the_current_one_has_the_status(self) -> None:
         shown = picture(Status(("a", MODE, MODE, MODE, ""), (0, 0), (1, 1)), Echo(""), 5, 40, "live")
-        self.assertEqual([line.is_reverse for line in shown.lines], [False, True, False, True, False])
+        self.assertEqual([row[:4] == "\x1b[7m" for row in shown.rows], [False, True, False, True, False])
         self.assertEqual(texts(shown)[1], "----Mg: n (fundamental) L1 C0 W0-- live ")
         self.assertEqual(texts(shown)[3], MODE[:40])
 
@@ -85,7 +75,7 @@ class TestPictures(unittest.TestCase):
             with self.subTest(text=text, marks=marks):
                 made = [Mark(0, column, "<", letter) for column, letter in marks]
                 shown = picture(Status((text, MODE, ""), (0, 0), (1,)), Echo(""), 3, 20, "", made)
-                self.assertEqual(texts(shown)[0].replace("\x1b[m", ">"), wanted)
+                self.assertEqual(texts(shown)[0], wanted)
 
     def test_colours(self) -> None:
         self.assertEqual([style(7, True), style(7, True, True)], ["\x1b[30;42m", "\x1b[32m"])
@@ -93,7 +83,7 @@ class TestPictures(unittest.TestCase):
 
     def test_a_mode_line_has_room_for_some_of_who_is_there(self) -> None:
         shown = picture(Status(("a", MODE, ""), (0, 0), (1,)), Echo(""), 3, 60, "live: " + "Alice L12, " * 20)
-        self.assertEqual((len(shown.lines[1].cells), texts(shown)[1][:26]), (60, "----Mg: n (fundament live:"))
+        self.assertEqual((len(texts(shown)[1]), texts(shown)[1][:26]), (60, "----Mg: n (fundament live:"))
 
 
 class TestEchoLines(unittest.TestCase):
@@ -111,6 +101,10 @@ class TestEchoLines(unittest.TestCase):
                 status = Status(mode=mode, label=label, answer="a" * bool(label), message=message)
                 self.assertEqual(echo_line(status, None, remarks), wanted)
 
+    def test_a_search_that_fails(self) -> None:
+        status = Status(mode="search", label="I-search: ", answer="fo", message="Search failed")
+        self.assertEqual(echo_line(status, "", [], "ox"), Echo("Failing I-search: foox"))
+
     def test_what_the_front_says_takes_the_place_of_a_message(self) -> None:
         self.assertEqual(echo_line(Status(message="Quit"), "Sole completion"), Echo("Sole completion"))
 
@@ -119,59 +113,17 @@ class TestEchoLines(unittest.TestCase):
         self.assertEqual(echo_line(status), Echo("Query replace: x        y?", 26))
 
 
-class TestChanges(unittest.TestCase):
-    """A change is played on a row of cells, and that has to be the new line then."""
-
-    def play(self, old: str, sent: str) -> str:
-        row: list[str] = []
-        for sign, columns in cells(old):
-            row += [sign] + [""] * (columns - 1)
-        for column, text, cleared in re.findall(r"\x1b\[1;(\d+)H([^\x1b]*)(\x1b\[K)?", sent):
-            place = int(column) - 1
-            for sign, columns in cells(text):
-                row += [" "] * (place - len(row))
-                row[place : place + columns] = [sign] + [""] * (columns - 1)
-                place += columns
-            if cleared:
-                del row[place:]
-        return "".join(row)
-
-    def test_changes(self) -> None:
-        for old, new, most in [
-            ("", "hello", 5),
-            ("hello", "hello", 0),
-            ("hello", "hello!", 1),
-            ("hello!", "hello", 0),
-            ("L1 C5 W0", "L1 C6 W0", 1),
-            ("漢字x", "漢漢x", 2),
-            ("漢x漢", "ab漢x", 4),
-            ("cafe", "cafe\u0301", 2),
-            ("cafe\u0301s", "cafes", 2),
-            ("abc", "", 0),
+class TestRows(unittest.TestCase):
+    def test_the_rest_of_a_row_is_cleared(self) -> None:
+        for text, columns, wanted in [
+            ("", 20, CLEAR),
+            ("hello", 20, f"hello{CLEAR}"),
+            ("x" * 20, 20, "x" * 20),
+            ("漢", 20, f"{CLEAR}漢"),
+            ("漢" * 10, 20, CLEAR + "漢" * 10),
         ]:
-            with self.subTest(old=old, new=new):
-                sent = change(0, Line(cells(old)), Line(cells(new)))
-                self.assertEqual(self.play(old, sent), new)
-                text = re.sub(r"\x1b\[[\d;]*[HK]", "", sent)
-                self.assertLessEqual(len(text), most)
-
-    def test_where_terminals_do_not_agree_the_whole_line_is_sent(self) -> None:
-        for old, new in [("a\u200db", "a\u200dc"), ("ab", "a❤\ufe0f"), ("🇩🇪x", "🇩🇪y")]:
-            with self.subTest(new=new):
-                self.assertEqual(change(0, Line(cells(old)), Line(cells(new))), f"\x1b[1;1H\x1b[K{new}")
-
-    def test_another_kind_of_line_is_sent_as_a_whole(self) -> None:
-        sent = change(0, Line(cells("abc")), Line(cells("abc"), True))
-        self.assertEqual(sent, "\x1b[1;1H\x1b[7mabc\x1b[m")
-
-    def test_a_part_of_a_mode_line_is_in_reverse(self) -> None:
-        sent = change(8, Line(cells("C5 W0"), True), Line(cells("C6 W0"), True))
-        self.assertEqual(sent, "\x1b[9;2H\x1b[7m6\x1b[m")
-
-    def test_full_lines_are_never_cleared(self) -> None:
-        full = Line(cells("x" * 20))
-        self.assertEqual(total_width(full.cells), 20)
-        self.assertNotIn("\x1b[K", change(0, Line(cells("y" * 20)), full))
+            with self.subTest(text=text):
+                self.assertEqual(text_row(text, 0, columns), wanted)
 
 
 class TestModes(unittest.TestCase):
@@ -216,6 +168,13 @@ class TestScreens(unittest.TestCase):
         self.screen.close()
         self.assertEqual(self.tcsetattr.call_count, 0)
         self.write_all.assert_called_with(CLOSE.encode())
+
+    def test_rows_that_changed_are_sent(self) -> None:
+        self.screen.open()
+        self.screen.draw(Picture(["a", "b"], 0, 1))
+        for rows, wanted in [(["a", "c"], "\x1b[2;1Hc\x1b[1;2H"), (["a", "c"], "\x1b[1;2H"), (["a"], "\x1b[m\x1b[?7l\x1b[2J\x1b[1;1Ha\x1b[1;2H")]:
+            self.screen.draw(Picture(rows, 0, 1))
+            self.write_all.assert_called_with(wanted.encode())
 
     def test_nothing_is_opened_or_drawn_once_all_is_over(self) -> None:
         self.screen.is_over = lambda: True

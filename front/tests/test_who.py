@@ -7,7 +7,8 @@ import context  # noqa: F401 (makes the package known)
 
 from mgr_front import who
 from mgr_front.notes import Refused
-from mgr_front.who import Page, pieces, row, show
+from mgr_front.minibuffer import Page
+from mgr_front.who import pieces, row, show
 
 TOLD = (
     b'{"replica":1001,"text":"Buy two litres of "}\n{"replica":2,"text":"oat "}\n'
@@ -20,17 +21,17 @@ class TestWho(unittest.TestCase):
         lines = pieces(TOLD)
         self.assertEqual(lines[0], [(1001, "Buy two litres of "), (2, "oat "), (1001, "milk")])
         self.assertEqual(lines[1:], [[(1001, "")], [(2, "\x1b[2Jend")]])
-        shown = ["".join(signs for signs, _ in row(line, {1001: "Alice"}, False).cells) for line in lines]
+        shown = ["".join(row(line, {1001: "Alice"}, False)) for line in lines]
         self.assertEqual(shown, ["Alice 2          Buy two litres of oat milk", "Alice            ", "2                ?[2Jend"])
-        self.assertEqual(row([(1, "o")], {}, True).cells[-1], ("\x1b[32mo\x1b[m", 1))
+        self.assertEqual(row([(1, "o")], {}, True)[-1], "\x1b[32mo\x1b[m")
 
     def test_it_stands_until_a_key(self) -> None:
         page = Page([row([(1, str(number))], {}, False) for number in range(5)])
         seen = []
         while page.is_open:
             picture = page.picture(4, 20)
-            self.assertEqual((len(picture.lines), picture.row), (4, 3))
-            seen += ["".join(signs for signs, _ in line.cells)[17:] for line in picture.lines[:3]]
+            self.assertEqual((len(picture.rows), picture.row), (4, 3))
+            seen += [line[17:].replace("\x1b[K", "") for line in picture.rows[:3]]
             page.press(ord(" "))
         self.assertEqual([text for text in seen if text], ["0", "1", "2", "3", "4"])
         page = Page([row([(1, "x")], {}, False)] * 9)

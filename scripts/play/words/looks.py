@@ -35,11 +35,7 @@ def stands(stage, about):
 
 
 def _with_cursor(row, column):
-    before, width = "", 0
-    for sign, columns in cells(row):
-        if width >= column:
-            break
-        before, width = before + sign, width + columns
+    before = "".join(cells(row)[:column])
     return f"{before}^{row[len(before):]}"
 
 
