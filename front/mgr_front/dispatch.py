@@ -17,7 +17,7 @@ if TYPE_CHECKING:
 
 REPAINT, SUSPEND, FORWARD, BACKWARD = 0x0C, 0x1A, 0x13, 0x12
 # Keys that the front looks at, besides the one that erases.
-SPECIAL = bytes([SUSPEND, ESCAPE, CONTROL_X, TAB, RETURN, FORWARD, BACKWARD, *HELP])
+SPECIAL = bytes([SUSPEND, ESCAPE, CONTROL_X, QUOTE, TAB, RETURN, FORWARD, BACKWARD, *HELP])
 LINE_MODES = (PROMPT, QUERY)
 SEARCHING = re.compile(b"[%c%c]" % (FORWARD, BACKWARD))
 CHARACTER = re.compile(b"[\xc0-\xf7][\x80-\xbf]*|.", re.DOTALL)
@@ -28,7 +28,7 @@ class Dispatcher:
     """The strokes that wait, in their order.
 
     What a stroke does can depend on what mgr asks for. Such a one waits until mgr has answered all
-    keys before it; a text goes on at once. ESC and C-x are kept until the key after them is there.
+    keys before it; a text goes on at once. ESC, C-x and C-q are kept until the key after them is there.
     """
 
     def __init__(self, editor: Editor, erase: int = DELETE) -> None:
@@ -107,8 +107,6 @@ class Dispatcher:
         if self.prefix:
             self._put_back(data[1:])
             self._complete(data[0], desk)
-        elif self._is_quoted():
-            self._hand_on(data, desk)
         elif self.editor.status.mode == SEARCH:
             found = CHARACTER.match(data)
             assert found
@@ -133,7 +131,7 @@ class Dispatcher:
             desk.accept()
         elif mode == PLAIN and key == HELP[0]:
             desk.ask(show_help())
-        elif mode not in LINE_MODES and key in (ESCAPE, CONTROL_X):
+        elif mode not in LINE_MODES and key in (ESCAPE, CONTROL_X, QUOTE):
             self.prefix = data
         else:
             self._hand_on(data, desk)
@@ -194,14 +192,13 @@ class Dispatcher:
         by C-q, for one more: so there nothing is done.
         """
         self.failing = b""
-        is_begun = bool(self.prefix) or self._is_quoted()
         if keys == HELP:
             self._break_off()
             desk.ask(show_help())
         elif len(keys) == 1:
             self._hand_on(self.prefix + keys, desk)
             self.prefix = b""
-        elif is_begun or self.editor.status.mode in LINE_MODES:
+        elif self.prefix or self.editor.status.mode in LINE_MODES:
             self._break_off()
         else:
             self.prefix = keys[:1]
@@ -225,7 +222,3 @@ class Dispatcher:
         """Has what was begun of a key be none."""
         self.editor.hand_on(self.prefix + bytes([NO_KEY]))
         self.prefix = b""
-
-    def _is_quoted(self) -> bool:
-        """Whether the next key is taken as a character."""
-        return self.editor.status.begun and self.editor.last.endswith(bytes([QUOTE]))

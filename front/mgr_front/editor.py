@@ -46,15 +46,12 @@ class Talk:
         self.waiting, self.untold, self.reports = bytearray(), bytearray(), 0
         # Which reports were texts of the person.
         self.pasted: set[int] = set()
-        # The last two bytes of all keys.
-        self.last = b""
 
     def hand_on(self, keys: bytes) -> None:
         """Has these keys wait for mgr, behind those that do; one that would begin a report is left out."""
         keys = keys.replace(REPORT, b"")
         self.waiting += keys
         self.untold += keys
-        self.last = (self.last + keys)[-2:]
 
     def report(self, line: bytes) -> int:
         """Has a report wait, wherever it stands among the keys, and returns its number."""

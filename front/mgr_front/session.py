@@ -222,9 +222,9 @@ class Session:
     def _note(self, status: Status) -> None:
         """Takes note of what a status tells of buffers."""
         name = status.buffer
-        self.buffers.setdefault(name, found(name))
-        # A plain text counts as changed from the start.
-        was = self.opened.setdefault(name, (status.is_changed, status.unsaved))
+        if name not in self.buffers:
+            # A plain text counts as changed from the start.
+            self.buffers[name], self.opened[name] = found(name), (status.is_changed, status.unsaved)
         if status.operations:
             self.made.add(self.names[0])
         if status.saved in UNSAVED or status.saved == "ok":
@@ -234,7 +234,7 @@ class Session:
             if status.saved == "file":
                 self.fault += next(filter(None, map(why_not_written, self.buffers)), "")
             self.remarks[self.fault] = math.inf
-        if status.is_changed and (status.is_changed, status.unsaved) != was and (self.fault or name != self.names[0]):
+        if status.is_changed and (status.is_changed, status.unsaved) != self.opened[name] and (self.fault or name != self.names[0]):
             self.made.add(name)
         for number in self.editor.pasted & status.refused.keys():
             self.remark(f"Not put in: {status.refused[number]}")

@@ -69,30 +69,28 @@ class Statuses:
 
     def __init__(self) -> None:
         self.rest = b""
-        # The members of the status whose lines are not all there yet, and those lines.
-        self.told: dict[str, Any] = {}
+        # The lines that no whole status has yet, of which the first tells how many are its own, and what it tells.
         self.lines: list[bytes] = []
+        self.told: dict[str, Any] = {}
         self.frame: tuple[str, ...] = ()
 
     def take(self, written: bytes) -> list[Status]:
         """Returns the statuses that are whole with these bytes, the newest last."""
         *lines, self.rest = (self.rest + written).split(b"\n")
-        return [status for line in lines if (status := self._take(line))]
-
-    def _take(self, line: bytes) -> Status | None:
-        """Takes a line, and returns the status that is whole with it."""
-        if self.told:
-            self.lines.append(line)
-        else:
-            self.told = json.loads(line)
-        told, rows = self.told, self.told["rows"]
-        if len(self.lines) < rows + told["operations"]:
-            return None
-        if rows:
-            self.frame = tuple(row.decode("utf-8", "replace") for row in self.lines[:rows])
-        operations = tuple(self.lines[rows:])
-        self.told, self.lines = {}, []
-        return _status(self.frame, operations, told)
+        self.lines += lines
+        made: list[Status] = []
+        while self.lines:
+            self.told = self.told or json.loads(self.lines[0])
+            rows = 1 + self.told["rows"]
+            end = rows + self.told["operations"]
+            if len(self.lines) < end:
+                break
+            if rows > 1:
+                self.frame = tuple(row.decode("utf-8", "replace") for row in self.lines[1:rows])
+            made.append(_status(self.frame, tuple(self.lines[rows:end]), self.told))
+            self.told = {}
+            del self.lines[:end]
+        return made
 
 
 def _status(frame: tuple[str, ...], operations: tuple[bytes, ...], told: dict[str, Any]) -> Status:

@@ -104,8 +104,7 @@ class TestDispatch(unittest.TestCase):
     def test_the_byte_that_erases(self) -> None:
         self.assertEqual(self.press(b"\x08"), b"\x7f")
         self.assertEqual(self.answer(), b"")
-        self.assertEqual(self.press(b"\x11\x08"), b"\x11")
-        self.assertEqual(self.answer(begun=True), b"\x08")
+        self.assertEqual(self.press(b"\x11\x08"), b"\x11\x08")
 
     def test_beginnings_of_keys_are_kept_back(self) -> None:
         self.assertEqual(self.press(b"\x18"), b"")
@@ -138,7 +137,7 @@ class TestDispatch(unittest.TestCase):
         self.press(b"\x1a")
         self.press(b"\x18\x1a")
         self.assertEqual(self.desk.done, ["suspend", "suspend"])
-        self.assertEqual(self.press(b"\x11\x1a") + self.answer(begun=True), b"\x11\x1a")
+        self.assertEqual(self.press(b"\x11\x1a"), b"\x11\x1a")
         self.assertEqual(self.desk.done, ["suspend", "suspend"])
 
     def test_keys_of_an_answer(self) -> None:

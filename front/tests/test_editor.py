@@ -26,7 +26,7 @@ class TestTalk(unittest.TestCase):
     def test_keys_go_on_but_for_one_that_would_begin_a_report(self) -> None:
         for keys in (b"ab\x1bf\xff", b"\xff", b"\x18\x13"):
             self.talk.hand_on(keys)
-        self.assertEqual((self.talk.waiting, self.talk.last), (b"ab\x1bf\x18\x13", b"\x18\x13"))
+        self.assertEqual(self.talk.waiting, b"ab\x1bf\x18\x13")
 
     def test_sizes_stand_among_the_keys(self) -> None:
         self.talk.hand_on(b"\x18")
