@@ -42,9 +42,9 @@ class Talk:
         # The newest status, and how many keys it was the first to tell of. One is to come at the start, as if
         # it were the answer to a report.
         self.status, self.taken = Status(reports=-1), 0
-        # What is still to be given; the keys that no status told of, and how many reports there were.
+        # What is still to be given; the keys that no status told of, how many reports there were, and which of
+        # these were texts of the person.
         self.waiting, self.untold, self.reports = bytearray(), bytearray(), 0
-        # Which reports were texts of the person.
         self.pasted: set[int] = set()
 
     def hand_on(self, keys: bytes) -> None:
@@ -111,11 +111,13 @@ class Editor(Talk):
         self.statuses = Statuses()
 
     def write(self) -> None:
-        """Gives mgr as much of what waits as it takes now."""
+        """Gives mgr as much of what waits as it takes now. One that takes no more ends, and its status says why."""
         try:
             del self.waiting[: os.write(self.keys, self.waiting[:BLOCK])]
         except BlockingIOError:
             pass
+        except BrokenPipeError:
+            self.waiting.clear()
 
     def read(self) -> Iterator[Status]:
         """Yields the statuses that came, each once note is taken of it; at their end it is an `EOFError`."""
@@ -126,33 +128,26 @@ class Editor(Talk):
             self.note(status)
             yield status
 
-    @property
-    def has_ended(self) -> bool:
-        return self.process.poll() is not None
-
     def end(self, seconds: float = math.inf, take: Callable[[Status], object] = id) -> bool:
         """Gives mgr what waits and then the end of the keys, and waits until it has saved and ended.
 
         Answers whether it has within so many seconds; it may be asked again. `take` is given its last statuses.
         """
+        assert self.process.stdin and self.process.stdout
         until = time.monotonic() + seconds
         while (left := until - time.monotonic()) > 0:
-            if not self.waiting and self.process.stdin:
+            if not self.waiting:
                 self.process.stdin.close()
-                self.process.stdin = None
             writing = [self.keys] * bool(self.waiting)
             ready, free, _ = select.select([self.written], writing, [], min(left, LOOK))
+            if free:
+                self.write()
             try:
-                if free:
-                    self.write()
                 for status in self.read() if ready else ():
                     take(status)
-            except BrokenPipeError:
-                self.waiting.clear()
             except EOFError:
+                self.process.stdin.close()
+                self.process.stdout.close()
                 self.process.wait()
-                for pipe in (self.process.stdin, self.process.stdout):
-                    if pipe:
-                        pipe.close()
                 return True
         return False

@@ -18,7 +18,7 @@ def finish(session: Session, note: Note) -> None:
     """
     editor = session.editor
     try:
-        if not editor.has_ended:
+        if editor.process.poll() is None:
             session.conclude()
     except BaseException:
         # Whatever it was: mgr gets what it did not get yet, and saves what it shows.

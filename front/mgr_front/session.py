@@ -101,8 +101,6 @@ class Session:
                 pass
             while self.signals.first and self._has_keys() and self._take_keys():
                 pass
-        except BrokenPipeError:
-            pass  # mgr takes no more keys: its status says why.
         except OSError:
             pass  # The terminal is gone, which may be seen before the signal that says so.
 
@@ -128,7 +126,8 @@ class Session:
         try:
             goes_on = self.editor.written not in ready or self._take_statuses(told)
             self.dispatcher.run(self)
-            self.editor.write()
+            if self.editor.waiting:
+                self.editor.write()
             self._draw()
         finally:
             for status in told:
@@ -421,13 +420,10 @@ class Session:
         """Does all strokes that wait, without the terminal, for as long as that takes."""
         self.is_ending, self.question = True, None
         self.dispatcher.take(self.keys.give_up())
-        try:
-            if self._settle():
-                self.rest()
-                self.start(self.rescue())
-                self._settle()
-        except BrokenPipeError:
-            pass  # mgr has ended.
+        if self._settle():
+            self.rest()
+            self.start(self.rescue())
+            self._settle()
 
     def _settle(self) -> bool:
         """Does all that waits, and answers whether mgr has not ended."""

@@ -3,7 +3,7 @@
 import os
 import signal
 from collections.abc import Iterator
-from contextlib import contextmanager
+from contextlib import contextmanager, suppress
 
 ENDING = (signal.SIGHUP, signal.SIGINT, signal.SIGQUIT, signal.SIGTERM)
 # What would end a mgr before it has saved. The front, which gets the first of them too, has it save;
@@ -32,31 +32,25 @@ class Signals:
         """Takes note of those that end a program, but for ignored ones, as SIGHUP under nohup, and of these others."""
         self.first: int | None = None
         self.came: set[int] = set()
-        self.woken, self.waker = os.pipe()
-        os.set_blocking(self.woken, False)
-        os.set_blocking(self.waker, False)
+        self.woken, self.waker = os.pipe2(os.O_NONBLOCK | os.O_CLOEXEC)
         signal.set_wakeup_fd(self.waker, warn_on_full_buffer=False)
-        for number in ENDING:
-            if signal.getsignal(number) != signal.SIG_IGN:
-                signal.signal(number, self._note_end)
-        for other in others:
-            self.listen(other)
+        for number in (*ENDING, *others):
+            if number in others or signal.getsignal(number) != signal.SIG_IGN:
+                self.listen(number)
 
     def listen(self, number: int) -> None:
         """Takes note of that signal from now on."""
         signal.signal(number, self._note)
 
-    def _note_end(self, number: int, _: object) -> None:
-        self.first = self.first or number
-
     def _note(self, number: int, _: object) -> None:
-        self.came.add(number)
+        if number in ENDING:
+            self.first = self.first or number
+        else:
+            self.came.add(number)
 
     def take(self) -> set[int]:
         """Returns those that end nothing and came since the last call."""
-        try:
+        with suppress(BlockingIOError):
             os.read(self.woken, 4096)
-        except BlockingIOError:
-            pass
         came, self.came = self.came, set()
         return came
