@@ -4,6 +4,7 @@ import math
 import os
 import select
 import signal
+import sys
 import time
 from collections.abc import Callable, Generator, Sequence
 from dataclasses import replace
@@ -45,6 +46,8 @@ PUT = SAVED, "No changes"
 UNSAVED = {"file": "Not saved: File fault", "memory": "Not saved: Out of memory"}
 LEAVING = "Leave: s puts the text, d leaves its file as it was? "
 APART = "Not saved: s tries again, d leaves and keeps it apart? "
+# Seconds for which a thread of a channel may keep a key waiting.
+SHARE = 0.0005
 # How much may wait for mgr before no more keys are read.
 MOST_WAITING = 65536
 
@@ -80,12 +83,12 @@ class Session:
         self.put: Callable[[], None] = lambda: None
         self.errand: Errand | None = None
         self.question: Question | None = None
-        # What the front says in place of mgr's message; what was drawn last beside the status, and when.
+        # What the front says in place of mgr's message; what was drawn last beside the status, and when; and when
+        # that is to be drawn which was not yet.
         self.said: str | None = None
         self.drawn: tuple[object, ...] = ()
-        self.painted = -math.inf
-        # Whether a status was not drawn yet, and whether it answers own keys.
-        self.is_stale = self.is_awaited = self.rings = self.is_ending = False
+        self.painted, self.due = -math.inf, math.inf
+        self.rings = self.is_ending = False
         self.has_colours = True
         # When a key was typed, when all was saved, and by which report.
         self.typed = self.rested = time.monotonic()
@@ -96,6 +99,7 @@ class Session:
 
         Where that is a signal, what was typed before it is still taken.
         """
+        sys.setswitchinterval(SHARE)
         try:
             while self.signals.first is None and self.step():
                 pass
@@ -139,9 +143,8 @@ class Session:
         """Returns after how many seconds something is to be done, whatever happens."""
         now = time.monotonic()
         dues = [self._rest_due(), self.remarks.patience(now), self.company.patience(now) if self.company else None]
-        seconds = [max(0.0, due) for due in dues if due is not None]
-        seconds += [PATIENCE] * self.keys.is_in_doubt + [PICTURE] * self.is_stale
-        return min(seconds, default=None)
+        dues += [PATIENCE] * self.keys.is_in_doubt + [self.due - now] * (self._draws and self.due < math.inf)
+        return min((max(0.0, due) for due in dues if due is not None), default=None)
 
     def _rest_due(self) -> float | None:
         """Returns in how many seconds all is to be saved, where a key was typed or something was taken since."""
@@ -214,8 +217,7 @@ class Session:
             if self.editor.is_answered and not status.more:
                 self._go_on(self.errand, status)
             return
-        self.is_stale = True
-        self.is_awaited = self.is_awaited or is_key and self.editor.is_settled
+        self._draw_soon(is_key and self.editor.is_settled)
         self.rings = self.rings or is_key and not status.begun and status.message in RINGING
 
     def _note(self, status: Status) -> None:
@@ -264,9 +266,18 @@ class Session:
             self.put_aside.append(said)
             self.remark(said)
 
+    def _draw_soon(self, is_awaited: bool = False) -> None:
+        """Has a picture be drawn: at once where own keys made it, or nothing else is to come, else by and by."""
+        self.due = min(self.due, 0.0 if is_awaited or self.editor.is_answered else self.painted + PICTURE)
+
+    @property
+    def _draws(self) -> bool:
+        """Whether there is something to draw: nothing is within an errand, nor at the end."""
+        return not (self.is_ending or self.errand) and bool(self.editor.status.frame)
+
     def _draw(self) -> None:
         """Draws the newest status, or what changed beside it."""
-        if self.is_ending or self.errand or not self.editor.status.frame:
+        if not self._draws:
             return
         now = time.monotonic()
         if self.company and self.company.said:
@@ -277,8 +288,9 @@ class Session:
         shown = self.company.shown() if self.company else ""
         marks = self.company.marks(self.editor.status, self.has_colours) if self.company else []
         drawn = self.remarks.at(now), self.dispatcher.failing, shown, marks
-        comes_later = not (self.is_awaited or self.editor.is_answered) and now < self.painted + PICTURE
-        if comes_later or not self.is_stale and drawn == self.drawn:
+        if drawn != self.drawn:
+            self._draw_soon()
+        if now < self.due:
             return
         columns, rows = os.get_terminal_size(1)
         if isinstance(self.question, Page):
@@ -286,8 +298,8 @@ class Session:
         else:
             made = picture(self.shown(), self._echo(), rows, columns, shown, marks)
         self.screen.draw(made, self.rings)
-        self.is_stale = self.is_awaited = self.rings = False
-        self.drawn, self.painted = drawn, now
+        self.rings = False
+        self.drawn, self.painted, self.due = drawn, now, math.inf
 
     def shown(self) -> Status:
         """Returns the newest status, with the note's name as it is shown."""
@@ -323,24 +335,23 @@ class Session:
             self.editor.hand_on(next(errand) if status is None else errand.send(status))
         except StopIteration as end:
             self.errand, self.said = None, end.value
-            self.is_stale = self.is_awaited = True
+            self.due = 0.0
 
     def ask(self, question: Question) -> None:
         """Asks something in the echo line."""
         self.question = question
         self.remarks.pop(NEW, None)
-        self.is_stale = self.is_awaited = True
+        self.due = 0.0
 
     def answer(self, byte: int) -> None:
         """Takes a key of the answer to what is asked."""
-        if not self.question:
-            return
+        assert self.question
         errand = self.question.press(byte)
         if not self.question.is_open:
             self.question = None
         if errand:
             self.start(errand)
-        self.is_stale = self.is_awaited = True
+        self.due = 0.0
 
     def save(self) -> Errand:
         """Saves the current buffer: its text is to be as it is now."""
@@ -440,7 +451,7 @@ class Session:
             self.suspend()
         if signal.SIGCONT in came:
             self.screen.open()
-            self.is_stale = True
+            self.due = 0.0
         if signal.SIGWINCH in came:
             self.resize()
 
@@ -453,7 +464,7 @@ class Session:
     def repaint(self) -> None:
         """Has all of the screen be drawn anew."""
         self.screen.forget()
-        self.is_stale = True
+        self.due = 0.0
 
     def suspend(self) -> None:
         """Puts the terminal back and stops, until somebody continues this program."""
@@ -465,4 +476,4 @@ class Session:
         # Where nobody could continue it, it does not stop.
         self.signals.listen(signal.SIGTSTP)
         self.screen.open()
-        self.is_stale = True
+        self.due = 0.0

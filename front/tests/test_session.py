@@ -1,5 +1,6 @@
 """Sessions beside a program that takes the place of mgr, and their ends."""
 
+import math
 import os
 import pathlib
 import shutil
@@ -18,6 +19,7 @@ from mgr_front.company import Company
 from mgr_front.editor import Editor
 from mgr_front.keys import Keys
 from mgr_front.notes import Note
+from mgr_front.opening import NEW
 from mgr_front.session import Session
 from mgr_front.signals import ENDING
 from mgr_front.statuses import Status
@@ -76,6 +78,26 @@ class TestStatuses(Sessions):
             edit.editor.note(Status(keys=keys))
             edit.take(edit.editor.status)
             self.assertEqual(edit.said, wanted)
+
+    def test_what_is_said_of_a_new_note_goes_at_a_prompt_and_a_save(self) -> None:
+        for members, wanted in [({}, [NEW]), ({"label": "M-x "}, []), ({"saved": "ok"}, [])]:
+            edit = self.begin("note")
+            edit.greeting = NEW
+            edit.take(Status())
+            edit.take(Status(**members))
+            self.assertEqual(list(edit.remarks), wanted)
+
+    def test_what_answers_own_keys_is_drawn_at_once(self) -> None:
+        for keys, reports, wanted in [(1, 1, True), (1, 0, True), (0, 0, False), (0, 1, True)]:
+            with self.subTest(keys=keys, reports=reports):
+                edit = self.begin("note")
+                self.settle(edit)
+                edit.due, edit.painted = math.inf, time.monotonic()
+                edit.editor.reports = 1
+                edit.editor.untold += b"a" * keys
+                edit.editor.note(Status(("", "", ""), keys=keys, reports=reports))
+                edit.take(edit.editor.status)
+                self.assertEqual(edit.due <= time.monotonic(), wanted)
 
     def test_the_bell_rings_for_keys_that_mean_nothing(self) -> None:
         for keys, begun, message, wanted in [
@@ -230,6 +252,17 @@ class TestEnds(Sessions):
                 self.assertTrue(place.startswith(guests.copies_of(self.note.name)))
                 self.assertEqual((pathlib.Path(place).read_text(), edit.discards), ("ab", False))
                 tell.assert_called_once_with("apart")
+
+    def test_the_command_that_leaves_asks_as_its_key_does(self) -> None:
+        edit = self.begin("note")
+        edit.names = self.note.name, "note"
+        self.settle(edit)
+        self.leave(edit, b"ab\x1bxsave-buffers-kill-emacs\r")
+        assert edit.question
+        self.assertEqual(edit.question.text, session.LEAVING)
+        self.leave(edit, b"s")
+        ending.finish(edit, self.note)
+        self.assertEqual(self.text("note"), "ab")
 
     def test_who_stays(self) -> None:
         edit = self.begin("note")
