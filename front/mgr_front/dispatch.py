@@ -210,7 +210,7 @@ class Dispatcher:
         if self.prefix or status.begun:
             self._break_off()
             self.strokes.appendleft(pasted)
-        elif status.mode == QUERY or status.is_quitting:
+        elif status.mode == QUERY:
             self.editor.hand_on(bytes([CANCEL]))
             self.strokes.appendleft(pasted)
         elif self.failing:

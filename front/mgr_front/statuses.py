@@ -9,7 +9,6 @@ from typing import Any
 PLAIN, PROMPT, SEARCH, QUERY = "plain", "prompt", "search", "query"
 # How mgr labels its prompts, of those that the front does something at.
 COMMAND, FIND, SWITCH, KILL = "M-x ", "Find file: ", "Switch to buffer: ", "Kill buffer: "
-QUITTING = "Changed buffers; quit (y or n): "
 
 # Members of a status that are kept as they are.
 KEPT = ("begun", "keys", "message", "mode", "more", "reports", "saved")
@@ -52,16 +51,6 @@ class Status:
     def mode_rows(self) -> list[int]:
         """Returns which rows are mode lines."""
         return [end - 1 for end in accumulate(height + 1 for height in self.heights)]
-
-    @property
-    def is_quitting(self) -> bool:
-        """Whether it is asked whether to quit, where `y` throws changes away."""
-        return self.label == QUITTING
-
-    @property
-    def asks_for_line(self) -> bool:
-        """Whether an answer of any length is asked for: the cursor stands behind it then."""
-        return self.mode == PROMPT and not self.is_quitting
 
 
 class Statuses:

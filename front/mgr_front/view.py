@@ -5,7 +5,7 @@ from collections.abc import Sequence
 from dataclasses import dataclass
 
 from mgr_front.cells import beginning, cells, part, shift
-from mgr_front.statuses import Status
+from mgr_front.statuses import PROMPT, Status
 
 # So many rows are kept as they were made: most are the same in the next picture.
 KEPT = 1024
@@ -58,7 +58,7 @@ def echo_line(status: Status, said: str | None = None, remarks: Sequence[str] = 
     shown = [text for text in (prompt, message) if text]
     shown += [remark for remark in remarks if remark != message]
     text = "".join(f" [{text}]" if i else text for i, text in enumerate(shown))
-    return Echo(text, len(cells(prompt)) if status.asks_for_line else None)
+    return Echo(text, len(cells(prompt)) if status.mode == PROMPT else None)
 
 
 @dataclass(frozen=True)

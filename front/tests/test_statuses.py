@@ -57,16 +57,6 @@ class TestStatuses(unittest.TestCase):
         for heights, wanted in [((1,), [1]), ((3, 1, 7), [3, 5, 13])]:
             self.assertEqual(Status(heights=heights).mode_rows, wanted)
 
-    def test_what_is_asked_for(self) -> None:
-        for label, mode, wanted in [
-            ("", "plain", False),
-            ("Query replace with: ", "prompt", True),
-            ("I-search: ", "search", False),
-            ("Changed buffers; quit (y or n): ", "prompt", False),
-        ]:
-            with self.subTest(label=label):
-                self.assertEqual(Status(label=label, mode=mode).asks_for_line, wanted)
-
 
 if __name__ == "__main__":
     unittest.main()
