@@ -2,9 +2,11 @@
 
 import errno
 import os
+import re
 import termios
 import tty
 from collections.abc import Callable, Sequence
+from os.path import commonprefix
 
 from mgr_front.keys import DELETE
 from mgr_front.view import Picture
@@ -14,6 +16,8 @@ OPEN, CLOSE = "\x1b[?1049h\x1b[?2004h", "\x1b[m\x1b[?2004l\x1b[?7h\x1b[?25h\x1b[
 # All is cleared, and a full row does not go on below.
 EMPTY = "\x1b[m\x1b[?7l\x1b[2J"
 BELL = "\x07"
+# A row of which terminals agree in which column each character stands; in reverse, and cleared after it, or not.
+PLAIN = re.compile("(\x1b\\[7m)?([ -~]*)(\x1b\\[m)?(\x1b\\[K)?")
 # So many rows change for a key at most times.
 FEW = 3
 
@@ -80,14 +84,27 @@ class Screen:
         self.is_open = self.is_taken = True
         if len(self.drawn) != len(picture.rows):
             out, self.drawn = out + EMPTY, [""] * len(picture.rows)
-        pairs = zip(self.drawn, picture.rows)
-        changes = [f"\x1b[{i};1H{new}" for i, (old, new) in enumerate(pairs, 1) if old != new]
+        pairs = enumerate(zip(self.drawn, picture.rows), 1)
+        changes = [change(number, old, new) for number, (old, new) in pairs if old != new]
         # The cursor is not seen running over many rows.
         hides = len(changes) > FEW
         cursor = f"\x1b[{picture.row + 1};{picture.column + 1}H"
         out += "".join(["\x1b[?25l" * hides, *changes, cursor, "\x1b[?25h" * hides, BELL * rings])
         self.drawn = picture.rows
         write_all(out.encode())
+
+
+def change(number: int, old: str, new: str) -> str:
+    """Returns what makes a new row of an old one: of plain ones what they have in common at both ends stays."""
+    was, now = PLAIN.fullmatch(old), PLAIN.fullmatch(new)
+    if not (was and now) or was[1] != now[1]:
+        return f"\x1b[{number};1H{new}"
+    begin = len(commonprefix([was[2], now[2]]))
+    ends = was[2][begin:][::-1], now[2][begin:][::-1]
+    end = len(commonprefix(ends)) if len(was[2]) == len(now[2]) else 0
+    text = now[2][begin : len(now[2]) - end]
+    clear = now[4] if len(now[2]) < len(was[2]) else ""
+    return f"\x1b[{number};{begin + 1}H{now[1] or ''}{text}{now[3] or ''}{clear or ''}"
 
 
 def is_in_background() -> bool:

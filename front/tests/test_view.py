@@ -8,9 +8,9 @@ from unittest import mock
 
 import context  # noqa: F401
 
-from mgr_front.screen import CLOSE, Screen, until_done
+from mgr_front.screen import CLOSE, Screen, change, until_done
 from mgr_front.statuses import Status
-from mgr_front.view import CLEAR, Echo, Mark, Picture, echo_line, picture, style, text_row
+from mgr_front.view import CLEAR, Echo, Mark, Picture, echo_line, mode_row, picture, style, text_row
 
 MODE = "----Mg: n (fundamental) L1 C0 W0".ljust(500, "-")
 
@@ -168,6 +168,29 @@ class TestScreens(unittest.TestCase):
         self.screen.close()
         self.assertEqual(self.tcsetattr.call_count, 0)
         self.write_all.assert_called_with(CLOSE.encode())
+
+    def test_what_two_rows_have_in_common_stays(self) -> None:
+        for old, new, wanted in [
+            ("", "hello", "1Hhello"),
+            ("hello", "hello!", "6H!"),
+            ("hello!", "hello", f"6H{CLEAR}"),
+            ("abcd", "", f"1H{CLEAR}"),
+            ("L1 C5 W0", "L1 C6 W0", "5H6"),
+            ("aab", "ab", f"2Hb{CLEAR}"),
+            ("aba", "aa", f"2Ha{CLEAR}"),
+            ("漢字x", "漢漢x", f"1H{CLEAR}漢漢x"),
+            ("abc", "ab漢", f"1H{CLEAR}ab漢"),
+        ]:
+            with self.subTest(old=old, new=new):
+                self.assertEqual(change(1, text_row(old, 0, 9), text_row(new, 0, 9)), f"\x1b[1;{wanted}")
+
+    def test_full_rows_are_never_cleared(self) -> None:
+        self.assertEqual(change(1, text_row("x" * 9, 0, 9), text_row("x" * 8 + "y", 0, 9)), "\x1b[1;9Hy")
+
+    def test_rows_in_reverse(self) -> None:
+        reverse = [mode_row(text, 5, "") for text in ("C5 W0", "C6 W0")]
+        self.assertEqual(change(9, *reverse), "\x1b[9;2H\x1b[7m6\x1b[m")
+        self.assertEqual(change(9, text_row("C5 W0", 0, 5), reverse[0]), "\x1b[9;1H\x1b[7mC5 W0\x1b[m")
 
     def test_rows_that_changed_are_sent(self) -> None:
         self.screen.open()
