@@ -124,8 +124,9 @@ def saved_by_itself(terminal):
     terminal.left("left", "status 0")
 
 
-# Keys that mgr-live hands on as they are, some of which open prompts, begin others or end them.
-KEYS = [b"a", b"word ", b"c\r", b"\x7f", b"\x13", b"\x12", b"y", b"n", b"!", b"\x07", b"\x154", b"\x11"]
+# Keys that mgr-live hands on as they are, some of which open prompts, begin others or end them. C-s and C-r are none:
+# it keeps what a search does not find.
+KEYS = [b"a", b"word ", b"c\r", b"\x7f", b"y", b"n", b"!", b"\x07", b"\x154", b"\x11"]
 KEYS += [b"\x18b\r", b"\x18b", b"\x18\x13", b"\x182", b"\x18o", b"\x180", b"\x181", b"\x0b", b"\x19", b"\x17"]
 KEYS += [b"\x00", b"\x1f", b"\x0c", b"\x01", b"\x05", b"\x02", b"\x06", "漢".encode(), "é".encode()]
 LEAVE, SAVE_AND_NEXT = b"\xfe\x07", b"\x18\x13\x18b\r"
