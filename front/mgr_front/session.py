@@ -4,7 +4,6 @@ import math
 import os
 import select
 import signal
-import sys
 import time
 from collections.abc import Callable, Generator, Sequence
 from dataclasses import replace
@@ -46,8 +45,6 @@ PUT = SAVED, "No changes"
 UNSAVED = {"file": "Not saved: File fault", "memory": "Not saved: Out of memory"}
 LEAVING = "Leave: s puts the text, d leaves its file as it was? "
 APART = "Not saved: s tries again, d leaves and keeps it apart? "
-# Seconds for which a thread of a channel may keep a key waiting.
-SHARE = 0.0005
 # How much may wait for mgr before no more keys are read.
 MOST_WAITING = 65536
 
@@ -99,7 +96,6 @@ class Session:
 
         Where that is a signal, what was typed before it is still taken.
         """
-        sys.setswitchinterval(SHARE)
         try:
             while self.signals.first is None and self.step():
                 pass
