@@ -33,7 +33,9 @@ M-x C-g C-h       a command; leave what was begun; this
 class Question:
     """A question, and its answer so far."""
 
-    def __init__(self, label: str, accept: Callable[[str], Errand | None], most: int = MOST_NAME, keys: str = "") -> None:
+    def __init__(
+        self, label: str, accept: Callable[[str], Errand | None], most: int = MOST_NAME, keys: str = ""
+    ) -> None:
         """Asks for at most so many characters, digits if they are few, or for one of these keys.
 
         `accept` makes an errand of the answer.

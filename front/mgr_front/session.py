@@ -113,7 +113,8 @@ class Session:
         others = self.company.mailbox.woken if self.company else self.signals.woken
         reading = [self.editor.written]
         if not self.is_ending:
-            reading += [self.signals.woken, others] + [0] * (self.screen.is_raw and len(self.editor.waiting) < MOST_WAITING)
+            takes_keys = self.screen.is_raw and len(self.editor.waiting) < MOST_WAITING
+            reading += [self.signals.woken, others] + [0] * takes_keys
         writing = [self.editor.keys] * bool(self.editor.waiting)
         ready, _, _ = select.select(reading, writing, [], None if self.is_ending else self._patience())
         if self.signals.woken in ready:
@@ -231,7 +232,8 @@ class Session:
             if status.saved == "file":
                 self.fault += next(filter(None, map(why_not_written, self.buffers)), "")
             self.remarks[self.fault] = math.inf
-        if status.is_changed and (status.is_changed, status.unsaved) != self.opened[name] and (self.fault or name != self.names[0]):
+        is_made = status.is_changed and (status.is_changed, status.unsaved) != self.opened[name]
+        if is_made and (self.fault or name != self.names[0]):
             self.made.add(name)
         for number in self.editor.pasted & status.refused.keys():
             self.remark(f"Not put in: {status.refused[number]}")

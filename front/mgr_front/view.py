@@ -22,7 +22,10 @@ CONTROLS = dict.fromkeys(range(0x80, 0xA0), "?")
 
 @dataclass(frozen=True)
 class Mark:
-    """What is shown of another writer, and how: a letter at a place, if nothing stands there, or what stands before it."""
+    """What is shown of another writer, and how.
+
+    It is a letter at a place, if nothing stands there; without a letter, what stands before it.
+    """
 
     row: int
     column: int

@@ -34,7 +34,8 @@ def row(line: list[tuple[int, str]], names: Mapping[int, str], has_colours: bool
 
     def styled(replica: int, text: str, is_text: bool) -> list[str]:
         signs = cells(shown(text, len(text)))
-        return [style(replica, True, is_text) + sign + RESET if sign else "" for sign in signs] if has_colours else signs
+        colour = style(replica, True, is_text)
+        return [f"{colour}{sign}{RESET}" if sign else "" for sign in signs] if has_colours else signs
 
     made: list[str] = []
     for replica in dict.fromkeys(replica for replica, _ in line):
@@ -45,7 +46,9 @@ def row(line: list[tuple[int, str]], names: Mapping[int, str], has_colours: bool
     return made
 
 
-def show(mgr: str, buffer: str, names: Mapping[int, str], has_colours: bool, ask_by: Callable[[Question], None]) -> Errand:
+def show(
+    mgr: str, buffer: str, names: Mapping[int, str], has_colours: bool, ask_by: Callable[[Question], None]
+) -> Errand:
     """Leaves the prompt, and shows who wrote what in a buffer, all of which is saved then."""
     yield bytes([CANCEL])
     try:

@@ -24,7 +24,10 @@ SAID = [
     ),
     (
         written(("x", "y"), 1, buffer=OTHER, cursor=[1, 13], keys=8, mode="prompt", prompt=PROMPT),
-        Status(("x", "y"), (1, 13), (1,), 8, 0, False, "prompt", "Find file: ", "no", "", "other", True, operations=(LINE,), is_live=False),
+        Status(
+            ("x", "y"), (1, 13), (1,), 8, mode="prompt", label="Find file: ", answer="no", buffer="other",
+            is_changed=True, operations=(LINE,), is_live=False,
+        ),
     ),
     (
         written(places=[[4, 7, 0, 1]], point=[1, 2, 3, 7]),

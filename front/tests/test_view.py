@@ -195,7 +195,11 @@ class TestScreens(unittest.TestCase):
     def test_rows_that_changed_are_sent(self) -> None:
         self.screen.open()
         self.screen.draw(Picture(["a", "b"], 0, 1))
-        for rows, wanted in [(["a", "c"], "\x1b[2;1Hc\x1b[1;2H"), (["a", "c"], "\x1b[1;2H"), (["a"], "\x1b[m\x1b[?7l\x1b[2J\x1b[1;1Ha\x1b[1;2H")]:
+        for rows, wanted in [
+            (["a", "c"], "\x1b[2;1Hc\x1b[1;2H"),
+            (["a", "c"], "\x1b[1;2H"),
+            (["a"], "\x1b[m\x1b[?7l\x1b[2J\x1b[1;1Ha\x1b[1;2H"),
+        ]:
             self.screen.draw(Picture(rows, 0, 1))
             self.write_all.assert_called_with(wanted.encode())
 

@@ -22,7 +22,8 @@ class TestWho(unittest.TestCase):
         self.assertEqual(lines[0], [(1001, "Buy two litres of "), (2, "oat "), (1001, "milk")])
         self.assertEqual(lines[1:], [[(1001, "")], [(2, "\x1b[2Jend")]])
         shown = ["".join(row(line, {1001: "Alice"}, False)) for line in lines]
-        self.assertEqual(shown, ["Alice 2          Buy two litres of oat milk", "Alice            ", "2                ?[2Jend"])
+        wanted = ["Alice 2          Buy two litres of oat milk", "Alice            ", "2                ?[2Jend"]
+        self.assertEqual(shown, wanted)
         self.assertEqual(row([(1, "o")], {}, True)[-1], "\x1b[32mo\x1b[m")
 
     def test_it_stands_until_a_key(self) -> None:
