@@ -12,6 +12,7 @@ import os
 import random
 import socket
 from collections.abc import Callable
+from contextlib import suppress
 from typing import Any
 
 from mgr_front.program import Log
@@ -60,22 +61,20 @@ class Copy:
         """`path` is that of its text."""
         self.owner = [machine(), user(), os.path.realpath(path)]
         self.file = os.path.join(state_folder(), "copies", digest(json.dumps(self.owner).encode()))
-        self.kept: dict[str, Any] = {"copy": self.owner, "counters": {}, "operations": 0, "text": "", "put": 0, "compacted": 0}
-        try:
-            with open(self.file, encoding="ascii") as file:
-                self.kept |= json.load(file)
-        except (OSError, ValueError, TypeError):
-            pass
+        # Its numbers, with the counters that were told; the text that was put last, and the log then; the compacted log.
+        self.kept: dict[str, Any] = {"copy": self.owner, "counters": {}, "compacted": 0}
+        self.note_put(None, 0)
+        with suppress(OSError, ValueError, TypeError), open(self.file, encoding="ascii") as file:
+            self.kept |= json.load(file)
 
-    def _keep(self) -> None:
-        """Keeps it; where that fails, the next edit has another number, or begins with a question."""
-        try:
+    def keep(self, **members: object) -> None:
+        """Keeps these, and what was noted; if that fails, the next edit has another number, or begins with a question."""
+        self.kept |= members
+        with suppress(OSError):
             os.makedirs(os.path.dirname(self.file), mode=0o700, exist_ok=True)
             with open(self.file + ".new", "w", encoding="ascii") as file:
                 json.dump(self.kept, file)
             os.replace(self.file + ".new", self.file)
-        except OSError:
-            pass
 
     def number(self, log: Log | None) -> int:
         """Returns the number for this copy: its last one under which the log goes as far as was told, else a new one.
@@ -95,25 +94,16 @@ class Copy:
     def keep_number(self, number: int, counter: int = 0) -> None:
         """Keeps a number and the greatest counter that was told of it: a note that is only read needs none."""
         if counter > self.kept["counters"].get(str(number), -1):
-            self.kept["counters"][str(number)] = counter
-            self._keep()
+            self.keep(counters=self.kept["counters"] | {str(number): counter})
 
-    def remember(self, text: bytes, log: Log) -> None:
-        """Keeps how an edit left it, with this text, which is the one of its log."""
-        self.kept |= {"text": digest(text), "operations": log.operations}
-        self._keep()
+    def note_put(self, text: bytes | None, size: int, operations: int = 0) -> None:
+        """Notes which text was put last, and how many bytes and operations the log had then; 0 is not known."""
+        self.kept |= {"text": "" if text is None else digest(text), "put": size, "operations": operations}
 
-    def put(self, size: int) -> None:
-        """Keeps how many bytes the log had when its text was put."""
-        if size != self.kept["put"]:
-            self.kept["put"] = size
-            self._keep()
+    def is_put(self, text: bytes) -> bool:
+        """Whether this text was put last: then no other program wrote in it."""
+        return bool(digest(text) == self.kept["text"])
 
-    def compacted(self, size: int) -> None:
-        """Keeps how many bytes the log has as it is compacted."""
-        self.kept["compacted"] = size
-        self._keep()
-
-    def is_merged(self, text: bytes, log: Log) -> bool:
-        """Whether the text is that of the last edit, and the log only grew since, as in a merge."""
-        return bool(digest(text) == self.kept["text"] and log.operations >= self.kept["operations"])
+    def has_grown(self, log: Log) -> bool:
+        """Whether the log has at least the operations that it had then, as after a merge of git."""
+        return bool(0 < self.kept["operations"] <= log.operations)

@@ -6,7 +6,6 @@ save, unless it comes into the log first.
 
 import itertools
 import os
-import shutil
 import tempfile
 import time
 from collections.abc import Sequence
@@ -81,28 +80,31 @@ class Opening:
             # mgr does not show what waits.
             self.remarks.append(f"A part of {self.note.log} is missing")
         if log.text == "same":
-            self.copy.kept["put"] = log.bytes  # This is kept with the first own operations.
+            self.copy.note_put(read(self.note.name), log.bytes, log.operations)  # It is kept with own operations.
         if not differ(self.mgr, self.note, log, self.number):
             return
-        keeps = self.options.keeps_file or self.copy.is_merged(read(self.note.name), log) or self._is_behind()
-        found = None if keeps and not self.options.takes_file else Difference(self.mgr, self.note, log)
+        begin = self._begin()
+        is_put = self.copy.is_put(read(self.note.name)) and (begin is not None or self.copy.has_grown(log))
+        keeps = self.options.keeps_file or is_put
+        found = None if keeps and not self.options.takes_file else Difference(self.mgr, self.note, log, begin)
         if found and (self.options.takes_file or choice(found.question(), "f", "l") == "f"):
-            self.keep(())
-            found.take_file(self.number)
-            self._keep_written(log_of(self.mgr, self.note))
+            # Under its own number this copy may have written what this part of the log lacks.
+            found.take_file(self.copy.new_number(log))
         else:
             self.remarks += mend(self.mgr, self.note)[0]
         self.put()
 
-    def _is_behind(self) -> bool:
-        """Whether the text is what the log made as its text was put last: then no other program wrote in it."""
-        lines = read(self.note.log)[: self.copy.kept["put"]].count(b"\n")
-        return lines > 0 and ask(self.mgr, self.note, "show", "--lines", str(lines)) == read(self.note.name)
+    def _begin(self) -> bytes | None:
+        """Returns the beginning of the log that made the text that was put last, if the log still has it."""
+        begin = whole_lines(read(self.note.log)[: self.copy.kept["put"]])
+        text = ask(self.mgr, self.note, "show", "--lines", str(begin.count(b"\n"))) if begin else b""
+        return begin if self.copy.is_put(text) else None
 
     def put(self) -> None:
         """Takes note that mgr put the text of the log."""
         with suppress(OSError):
-            self.copy.put(os.path.getsize(self.note.log))
+            self.copy.note_put(read(self.note.name), os.path.getsize(self.note.log))
+            self.copy.keep()
 
     def begin_log(self) -> None:
         """Makes the log of a plain text: else others have nothing of it before its first key, nor know it as another."""
@@ -137,16 +139,17 @@ class Opening:
             text, log = read(self.note.name), log_of(self.mgr, self.note)
         except (OSError, Refused):
             return  # One of them is not there, or this person may not read it.
-        if log and (log.text == "same" or is_older):
-            self.copy.remember(text, log)
         if log and log.bytes > max(LARGE, TIMES * len(text), 2 * self.copy.kept["compacted"]):
             self._compact()
+        if log and (log.text == "same" or is_older):
+            self.copy.note_put(text, os.path.getsize(self.note.log), log.operations)
+            self.copy.keep()
 
     def _compact(self) -> None:
         """Has the log be compacted; it is again once it has grown to twice of what it is then."""
         try:
             ask(self.mgr, self.note, "compact")
-            self.copy.compacted(os.path.getsize(self.note.log))
+            self.copy.keep(compacted=os.path.getsize(self.note.log))
         except Refused as refused:
             tell(f"{self.note.log} was not compacted: {refused}")
 
@@ -156,20 +159,26 @@ def differ(mgr: str, note: Note, log: Log, replica: int) -> bool:
     return log.text == "other" and edit(mgr, note, replica) == 0
 
 
+def whole_lines(data: bytes) -> bytes:
+    return data[: data.rfind(b"\n") + 1]
+
+
 def _date(path: str) -> str:
     return time.strftime("%Y-%m-%d %H:%M", time.localtime(os.stat(path).st_mtime))
 
 
 class Difference:
-    """A note whose text is another than that of its log."""
+    """A note whose text another program changed, and what it changed."""
 
-    def __init__(self, mgr: str, note: Note, log: Log) -> None:
-        self.mgr, self.note, self.log = mgr, note, log
+    def __init__(self, mgr: str, note: Note, log: Log, begin: bytes | None) -> None:
+        """`begin` is the beginning of the log that made the text before; if it is not known, all of it is compared."""
+        self.mgr, self.note, self.log, self.begin = mgr, note, log, begin
         try:
             self.new = read(note.name).decode()
         except UnicodeDecodeError:
             raise Refused(f"{note.name}: not UTF-8: see --keep-file") from None
-        self.changes = changes(text_of(mgr, note), self.new)
+        lines = [] if begin is None else ["--lines", str(begin.count(b"\n"))]
+        self.changes = changes(ask(mgr, note, "show", *lines).decode(), self.new)
 
     def question(self) -> str:
         """Returns what the person is asked."""
@@ -177,17 +186,19 @@ class Difference:
         missing = f"A part of {log} is missing: {waiting} characters wait for it.\n" * bool(waiting)
         deleted = sum(count for _, count, _ in self.changes)
         new = sum(len(put) for _, _, put in self.changes)
-        return (
-            f"{name} and its log {log} differ. Go on with which?\n{missing}"
-            f"f  the file, of {_date(name)}: in the log {deleted:,} characters are deleted, {new:,} are new\n"
-            f"l  the log, of {_date(log)}: the file is kept as {name}~\n"
-        )
+        if self.begin is None:
+            taken = f"f  the file, of {_date(name)}: {deleted:,} characters of the log deleted, {new:,} new\n"
+        else:
+            taken = f"f  both: as in the file, of {_date(name)}, {deleted:,} characters deleted, {new:,} new\n"
+        asked = f"{name} and its log {log} differ. Go on with which?\n{missing}{taken}"
+        return f"{asked}l  the log, of {_date(log)}: the file is kept as {name}~\n"
 
     def take_file(self, replica: int) -> None:
-        """Brings the changes of the file into the log, as edits of this replica: all, or none."""
+        """Has mgr merge the changes of the file, as edits of this number, which nobody has used: all, or none."""
         with tempfile.TemporaryDirectory() as folder:
             copy = Note(os.path.join(folder, "copy"))
-            shutil.copyfile(self.note.log, copy.log)
+            with open(copy.log, "wb") as file:
+                file.write(read(self.note.log) if self.begin is None else self.begin)
             if not put_text(self.mgr, copy, replica, self.new):
                 raise Refused(f"{self.note.log}: has no room for the changes of {self.note.name}: see --keep-file")
             ask(self.mgr, self.note, "merge", "--adopt", logs=[copy.log])
