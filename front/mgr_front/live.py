@@ -120,7 +120,7 @@ def main(words: Sequence[str], folder: str) -> int:
             return trim_stream(mgr, options)
         terminal_rows()
         if options.history:
-            options.text = choose(mgr, note)
+            options.text = choose(mgr, note, options)
         if not options.address and is_served(note.name):
             return edit_as_guest(mgr, options)
         if said := take_back(mgr, note):

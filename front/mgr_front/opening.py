@@ -4,22 +4,19 @@ mgr reads the log alone. So what another program wrote to the text would be put 
 save, unless it comes into the log first.
 """
 
-import itertools
 import os
 import tempfile
 import time
 from collections.abc import Sequence
 from contextlib import suppress
 
-from mgr_front.asking import choice
 from mgr_front.copies import Copy
 from mgr_front.difference import changes, splices
 from mgr_front.editor import REPORT
 from mgr_front.notes import KeptFiles, Note, Refused, found, read, why_not_written
 from mgr_front.options import Options
 from mgr_front.program import Log, ask, edit, log_of, text_of
-from mgr_front.saving import SAVE
-from mgr_front.saying import REFUSED, say, tell
+from mgr_front.saying import REFUSED, choice, tell
 from mgr_front.shared import counters
 
 # A log is large that has more bytes than this, and than so many times its text.
@@ -31,7 +28,7 @@ class Opening:
     """A note that is about to be edited, and the number of this copy."""
 
     def __init__(self, mgr: str, note: Note, options: Options) -> None:
-        """Does what is to be done first; `Refused` where nothing is edited then."""
+        """Does what is to be done first; `Refused` if nothing is edited then."""
         self.mgr, self.note, self.options, self.copy = mgr, note, options, Copy(note.name)
         # What is to be said at the start.
         self.remarks: list[str] = []
@@ -42,17 +39,17 @@ class Opening:
         except Refused as refused:
             log = self._mended(refused)
         if log:
-            self._keep_written(log)
             self._settle(log)
+            self._keep_number(log.counters.get(self.number, -1))
         if not os.path.isdir(os.path.dirname(note.name) or "."):
             self.remarks.append(f"Nothing can be saved{why_not_written(note.name)}")
         elif not (log or os.path.exists(note.name)):
             self.remarks.append(NEW)
 
-    def _keep_written(self, log: Log | None) -> None:
-        """Keeps how far this copy wrote in the log, if it did: others are told that when they are joined."""
-        if log and self.number in log.counters and self.options.replica is None:
-            self.copy.keep_number(self.number, log.counters[self.number])
+    def _keep_number(self, counter: int) -> None:
+        """Keeps how far this copy wrote, as others are told of it: a number that was given is not kept."""
+        if self.options.replica is None:
+            self.copy.keep_number(self.number, counter)
 
     def _mended(self, refused: Refused) -> Log | None:
         """Has the log mended that was refused so, if the person wants that, and says what was left out of it."""
@@ -61,7 +58,7 @@ class Opening:
         if refused.status != REFUSED or choice(asked, "m", "q") == "q":
             raise refused
         kept, said = mend(self.mgr, self.note)
-        say(said)
+        tell(said.decode().rstrip())
         if self.options.replica:
             raise Refused(f"{log} is mended: now give a --replica that nobody has used, or none")
         found = log_of(self.mgr, self.note)
@@ -71,22 +68,23 @@ class Opening:
         return found
 
     def _settle(self, log: Log) -> None:
-        """Where the note's text and its log differ: goes on with the one that the person chooses.
+        """If the note's text and its log differ, goes on with what the person chooses.
 
-        It is the log, without a question, where that was merged with another and the text is as it was, and where
-        a kill came after it and before its text was put.
+        It is the log, without a question, if no other program wrote in the text, as after a merge, or after a kill
+        that came before the text was put.
         """
         if log.waiting:
             # mgr does not show what waits.
             self.remarks.append(f"A part of {self.note.log} is missing")
         if log.text == "same":
-            self.copy.note_put(read(self.note.name), log.bytes, log.operations)  # It is kept with own operations.
+            # It is kept with the first own operations.
+            self.copy.note_put(read(self.note.name), log.bytes, log.operations)
         if not differ(self.mgr, self.note, log, self.number):
             return
         begin = self._begin()
         is_put = self.copy.is_put(read(self.note.name)) and (begin is not None or self.copy.has_grown(log))
-        keeps = self.options.keeps_file or is_put
-        found = None if keeps and not self.options.takes_file else Difference(self.mgr, self.note, log, begin)
+        keeps = (self.options.keeps_file or is_put) and not self.options.takes_file
+        found = None if keeps else Difference(self.mgr, self.note, log, begin)
         if found and (self.options.takes_file or choice(found.question(), "f", "l") == "f"):
             # Under its own number this copy may have written what this part of the log lacks.
             found.take_file(self.copy.new_number(log))
@@ -96,9 +94,14 @@ class Opening:
 
     def _begin(self) -> bytes | None:
         """Returns the beginning of the log that made the text that was put last, if the log still has it."""
-        begin = whole_lines(read(self.note.log)[: self.copy.kept["put"]])
+        begin = read(self.note.log)[: self.copy.kept["put"]]
+        begin = begin[: begin.rfind(b"\n") + 1]
         text = ask(self.mgr, self.note, "show", "--lines", str(begin.count(b"\n"))) if begin else b""
         return begin if self.copy.is_put(text) else None
+
+    def keep(self, lines: Sequence[bytes]) -> None:
+        """Keeps how far this copy wrote, before others are told these lines."""
+        self._keep_number(max(counters(lines, self.number), default=0))
 
     def put(self) -> None:
         """Takes note that mgr put the text of the log."""
@@ -106,50 +109,19 @@ class Opening:
             self.copy.note_put(read(self.note.name), os.path.getsize(self.note.log))
             self.copy.keep()
 
-    def begin_log(self) -> None:
-        """Makes the log of a plain text: else others have nothing of it before its first key, nor know it as another."""
-        if not self.note.has_log and found(self.note.name):
-            self.keep(())  # The text is written under this number.
-            edit(self.mgr, self.note, self.number, SAVE)
-            self.put()
-
-    def renumber(self) -> None:
-        """Has this copy have another number: somebody writes under the one that it had."""
-        self.copy.keep_number(self.copy.new_number(None))
-
-    def put_aside(self) -> str:
-        """Gives the note another name, with its log, and returns that."""
-        for number in itertools.count():
-            kept = Note(f"{self.note.name}.~{number}~" if number else f"{self.note.name}~")
-            if not (os.path.lexists(kept.name) or os.path.lexists(kept.log)):
-                break
-        for old, new in ((self.note.log, kept.log), (self.note.name, kept.name)):
-            if os.path.exists(old):
-                os.rename(old, new)
-        return kept.name
-
-    def keep(self, lines: Sequence[bytes]) -> None:
-        """Keeps how far this copy wrote, before others are told these lines."""
-        if self.options.replica is None:
-            self.copy.keep_number(self.number, max(counters(lines, self.number), default=0))
-
     def remember(self, is_older: bool = False) -> None:
-        """Keeps how the edit left the note, if its text is the one of its log, or is to be older."""
+        """Keeps how the edit left the note, if its text is the one of its log, or is to be older; compacts a large log."""
         try:
             text, log = read(self.note.name), log_of(self.mgr, self.note)
-        except (OSError, Refused):
-            return  # One of them is not there, or this person may not read it.
-        if log and log.bytes > max(LARGE, TIMES * len(text), 2 * self.copy.kept["compacted"]):
-            self._compact()
-        if log and (log.text == "same" or is_older):
-            self.copy.note_put(text, os.path.getsize(self.note.log), log.operations)
-            self.copy.keep()
-
-    def _compact(self) -> None:
-        """Has the log be compacted; it is again once it has grown to twice of what it is then."""
-        try:
-            ask(self.mgr, self.note, "compact")
-            self.copy.keep(compacted=os.path.getsize(self.note.log))
+            if log and log.bytes > max(LARGE, TIMES * len(text), 2 * self.copy.kept["compacted"]):
+                ask(self.mgr, self.note, "compact")
+                # It is compacted again once it has grown to twice of this.
+                self.copy.keep(compacted=os.path.getsize(self.note.log))
+            if log and (log.text == "same" or is_older):
+                self.copy.note_put(text, os.path.getsize(self.note.log), log.operations)
+                self.copy.keep()
+        except OSError:
+            pass  # There is no text, or this person may not read it.
         except Refused as refused:
             tell(f"{self.note.log} was not compacted: {refused}")
 
@@ -157,10 +129,6 @@ class Opening:
 def differ(mgr: str, note: Note, log: Log, replica: int) -> bool:
     """Whether a note's text is another than that of its log, and nobody else has it open, and may be about to put it."""
     return log.text == "other" and edit(mgr, note, replica) == 0
-
-
-def whole_lines(data: bytes) -> bytes:
-    return data[: data.rfind(b"\n") + 1]
 
 
 def _date(path: str) -> str:

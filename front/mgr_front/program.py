@@ -59,6 +59,11 @@ def text_of(mgr: str, note: Note) -> str:
     return ask(mgr, note, "show").decode()
 
 
+def made_by(mgr: str, log: bytes) -> str:
+    """Returns the text that the lines of a log make."""
+    return subprocess.run([mgr, "show"], input=log, capture_output=True).stdout.decode("utf-8", "replace")
+
+
 def edit(mgr: str, note: Note, replica: int, keys: bytes = b"") -> int:
     """Gives keys and reports to a live session in a note, and returns its status."""
     command = [mgr, "edit", "--live", "--strict", "--replica", str(replica), "--", note.name]

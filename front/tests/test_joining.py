@@ -101,7 +101,7 @@ class TestMeeting(InFolder):
         for text, wanted in (("mine", True), ("", False)):
             (self.folder / "note.ops").unlink()
             self.put(note=text)
-            with mock.patch("mgr_front.opening.edit", made):
+            with mock.patch.object(joining, "edit", made):
                 opened, company = self.meet(State("live"))
             self.assertEqual((opened.note.has_log, bool(company and company.note.adopts)), (wanted, not wanted))
             if wanted:

@@ -27,11 +27,11 @@ class Openings(InFolder):
         super().setUp()
         self.note = Note(str(self.folder / "note"))
         self.answers: list[str] = []
-        self.said: list[bytes] = []
+        self.said: list[str] = []
         for patch in (
             mock.patch("builtins.input", lambda _: self.answers.pop(0)),
             mock.patch("builtins.print"),
-            mock.patch.object(opening, "say", self.said.append),
+            mock.patch.object(opening, "tell", self.said.append),
             mock.patch.dict(os.environ, XDG_STATE_HOME=str(self.folder / "state")),
         ):
             patch.start()
@@ -71,7 +71,7 @@ class TestRefusedLogs(Openings):
         self.assertNotEqual(opened.number, 1001)
         said = ["note.ops.refused has what was left out", "note~ has what stood there"]
         self.assertEqual(self.remarks(opened), said)
-        self.assertEqual((self.said, self.text("note")), ([b"1 line is no operation\n"], "text"))
+        self.assertEqual((self.said, self.text("note")), (["1 line is no operation"], "text"))
 
     def test_a_number_that_is_given_may_be_one_that_lost_lines(self) -> None:
         self.put(note_ops="?text", note="text")
