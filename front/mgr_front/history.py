@@ -44,8 +44,9 @@ def steps(mgr: str, note: Note, options: Options) -> list[Step]:
     """Returns the texts that a note had, of commits and after so many lines of its log; the last is that of now."""
     folder, log = os.path.split(os.path.abspath(note.log))
     made = [*_commits(mgr, folder, "HEAD", f"./{log}")]
-    if options.address and options.address[0] == GIT:
-        branch = GitBranch(SharedNote(mgr, note, 0), print, options.address[1])
+    kind, place = options.way
+    if kind == GIT:
+        branch = GitBranch(SharedNote(mgr, note, 0), print, place)
         made += _commits(mgr, branch.clone, branch.ref, branch.file)
     lines = read(note.log).count(b"\n")
     for count in sorted({-(-lines * step // STEPS) for step in range(1, STEPS + 1)}):

@@ -15,7 +15,7 @@ from mgr_front.company import Company
 from mgr_front.copies import user
 from mgr_front.notes import Note, found
 from mgr_front.opening import Opening
-from mgr_front.options import FOLDER, GIT, HOSTS, PORTS, Options
+from mgr_front.options import FOLDER, GIT, HERE, HOSTS, PORTS, Options
 from mgr_front.program import edit, made_by, text_of
 from mgr_front.saving import SAVE
 from mgr_front.saying import REFUSED, choice, stop, tell
@@ -29,20 +29,17 @@ SHOWN = 60
 
 
 def channel(options: Options, note: SharedNote, post: Post) -> Worker:
-    """Returns the channel that the command line asks for: the hub of this machine that has the note, if none is named.
-
-    `Refused` says what it lacks.
-    """
-    kind, rest = options.address or ("", options.name)
+    """Returns the channel that the command line asks for; `Refused` says what it lacks."""
+    kind, rest = options.way
     person = options.person or user()
     if kind == GIT:
         return GitBranch(note, post, rest, options.person)
     if kind == FOLDER:
         return Folder(note, post, rest)
-    if kind in ("", PORTS, HOSTS):
-        way = by_port(int(rest)) if kind == PORTS else by_ssh(*rest.split(":", 1)) if kind else by_note(rest)
-        return Hub(note, post, way, person)
-    return RedisStream(note, post, f"{kind}:{rest}", person)
+    if kind not in (PORTS, HOSTS, HERE):
+        return RedisStream(note, post, f"{kind}:{rest}", person)
+    way = by_note(rest) if kind == HERE else by_port(int(rest)) if kind == PORTS else by_ssh(*rest.split(":", 1))
+    return Hub(note, post, way, person)
 
 
 def meet(opening: Opening) -> Company | None:
@@ -57,7 +54,7 @@ def meet(opening: Opening) -> Company | None:
     note.adopts = options.adopts or note.is_empty
     company = Company(note, lambda post: channel(options, note, post))
     company.channel.start()
-    _wait(company, SSH if options.address and options.address[0] == HOSTS else PATIENCE)
+    _wait(company, SSH if options.way[0] == HOSTS else PATIENCE)
     if company.state.word != "refused":
         if len(company.lines) > MANY * (options.text is None) and note.merge(tuple(company.lines)):
             company.lines.clear()

@@ -21,6 +21,8 @@ from mgr_front.shared import counters
 
 # A log is large that has more bytes than this, and than so many times its text.
 LARGE, TIMES = 1_000_000, 20
+# How many lines of a log may have come between its text and the note that was taken of its length.
+LATE = 20
 NEW = "New: C-x C-s saves, C-x C-c leaves, C-_ undoes, C-h helps"
 
 
@@ -81,8 +83,10 @@ class Opening:
             self.copy.note_put(read(self.note.name), log.bytes, log.operations)
         if not differ(self.mgr, self.note, log, self.number):
             return
-        begin = self._begin()
-        is_put = self.copy.is_put(read(self.note.name)) and (begin is not None or self.copy.has_grown(log))
+        is_put, begin = self.copy.is_put(read(self.note.name)), None
+        if not (is_put and self.copy.has_grown(log)):
+            begin = self._begin()
+            is_put = is_put and begin is not None
         keeps = (self.options.keeps_file or is_put) and not self.options.takes_file
         found = None if keeps else Difference(self.mgr, self.note, log, begin)
         if found and (self.options.takes_file or choice(found.question(), "f", "l") == "f"):
@@ -93,11 +97,17 @@ class Opening:
         self.put()
 
     def _begin(self) -> bytes | None:
-        """Returns the beginning of the log that made the text that was put last, if the log still has it."""
-        begin = read(self.note.log)[: self.copy.kept["put"]]
-        begin = begin[: begin.rfind(b"\n") + 1]
-        text = ask(self.mgr, self.note, "show", "--lines", str(begin.count(b"\n"))) if begin else b""
-        return begin if self.copy.is_put(text) else None
+        """Returns the beginning of the log that made the text that was put last, if the log still has it.
+
+        It is some lines shorter than was noted if further keys came to the log before that.
+        """
+        begin = read(self.note.log)[: self.copy.kept["put"]] + b"\n"
+        for _ in range(LATE):
+            begin = begin[: begin.rfind(b"\n", 0, -1) + 1]
+            lines = str(begin.count(b"\n"))
+            if self.copy.is_put(ask(self.mgr, self.note, "show", "--lines", lines) if begin else b""):
+                return begin
+        return None
 
     def keep(self, lines: Sequence[bytes]) -> None:
         """Keeps how far this copy wrote, before others are told these lines."""
@@ -175,8 +185,7 @@ class Difference:
 def put_text(mgr: str, note: Note, replica: int, text: str) -> bool:
     """Changes a note into this text, as edits of this replica, and answers whether its log makes that then."""
     old = text_of(mgr, note) if note.has_log else (found(note.name) or b"").decode()
-    reports = splices(changes(old, text))
-    given = b"".join(REPORT + report + b"\n" for report in reports)
+    given = b"".join(REPORT + report + b"\n" for report in splices(old, text))
     return edit(mgr, note, replica, given) == 0 and text_of(mgr, note) == text
 
 

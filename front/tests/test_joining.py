@@ -20,7 +20,7 @@ from mgr_front.copies import Copy
 from mgr_front.joining import meet
 from mgr_front.notes import Note, Refused
 from mgr_front.opening import Opening
-from mgr_front.options import read
+from mgr_front.options import HERE, read
 from mgr_front.saving import SAVE
 from mgr_front.shared import Others, SharedNote
 
@@ -146,7 +146,9 @@ class TestChannels(unittest.TestCase):
 
     def made(self, *words: str) -> object:
         note = SharedNote("mgr", Note("note"), 7)
-        return joining.channel(read(["note", *words]), note, lambda event: None)
+        options = read(["note", *words])
+        options.way = options.way if "--with" in words else (HERE, "note")
+        return joining.channel(options, note, lambda event: None)
 
     def test_engines(self) -> None:
         with mock.patch.object(stream, "library", mock.Mock()):
