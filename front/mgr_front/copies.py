@@ -9,12 +9,12 @@ import getpass
 import hashlib
 import json
 import os
-import random
+import secrets
 import socket
-from collections.abc import Callable
 from contextlib import suppress
 from typing import Any
 
+from mgr_front.notes import found
 from mgr_front.program import Log
 
 LEAST, MOST = 1000, 65000
@@ -29,11 +29,8 @@ def state_folder() -> str:
 
 def machine() -> str:
     """Returns a name of this machine that no other has: a copy of its files alone is not it."""
-    try:
-        with open("/etc/machine-id", encoding="ascii") as file:
-            return f"{socket.gethostname()} {file.read().strip()}"
-    except (OSError, UnicodeDecodeError):
-        return socket.gethostname()
+    number = found("/etc/machine-id") or b""
+    return f"{socket.gethostname()} {number.decode('ascii', 'replace').strip()}".strip()
 
 
 def user() -> str:
@@ -43,11 +40,9 @@ def user() -> str:
         return str(os.getuid())
 
 
-def draw(used: set[int], choose: Callable[[int, int], int] = random.SystemRandom().randint) -> int:
+def draw(used: set[int]) -> int:
     """Returns a number that is not used yet."""
-    while (number := choose(LEAST, MOST)) in used:
-        pass
-    return number
+    return secrets.choice(sorted({*range(LEAST, MOST + 1)} - used))
 
 
 def digest(data: bytes) -> str:
@@ -59,11 +54,11 @@ class Copy:
 
     def __init__(self, path: str) -> None:
         """`path` is that of its text."""
-        self.owner = [machine(), user(), os.path.realpath(path)]
-        self.file = os.path.join(state_folder(), "copies", digest(json.dumps(self.owner).encode()))
-        # Its numbers, with the counters that were told; the text that was put last, and the log then; the compacted log.
-        self.kept: dict[str, Any] = {"copy": self.owner, "counters": {}, "compacted": 0}
-        self.note_put(None, 0)
+        owner = [machine(), user(), os.path.realpath(path)]
+        self.file = os.path.join(state_folder(), "copies", digest(json.dumps(owner).encode()))
+        # Its numbers, with the counters that were told. A digest of the text that was put last, and how many bytes
+        # and operations its log had then, 0 if that is not known. How many bytes the log had as it was compacted.
+        self.kept: dict[str, Any] = {"copy": owner, "counters": {}, "text": "", "put": 0, "operations": 0, "compacted": 0}
         with suppress(OSError, ValueError, TypeError), open(self.file, encoding="ascii") as file:
             self.kept |= json.load(file)
 
@@ -82,9 +77,8 @@ class Copy:
         Another log was restored, cut or checked out, and others may have what it lacks: under that number it
         would be given twice.
         """
-        counters = log.counters if log else {}
-        told = {int(number): counter for number, counter in self.kept["counters"].items()}
-        numbers = [number for number in told if counters.get(number, 0) >= told[number]]
+        counters, told = log.counters if log else {}, self.kept["counters"]
+        numbers = [int(number) for number in told if counters.get(int(number), 0) >= told[number]]
         return numbers[-1] if numbers else self.new_number(log)
 
     def new_number(self, log: Log | None) -> int:
@@ -96,9 +90,9 @@ class Copy:
         if counter > self.kept["counters"].get(str(number), -1):
             self.keep(counters=self.kept["counters"] | {str(number): counter})
 
-    def note_put(self, text: bytes | None, size: int, operations: int = 0) -> None:
-        """Notes which text was put last, and how many bytes and operations the log had then; 0 is not known."""
-        self.kept |= {"text": "" if text is None else digest(text), "put": size, "operations": operations}
+    def note_put(self, text: bytes, size: int, operations: int = 0) -> None:
+        """Notes which text was put last, with a log of this size; that is kept with what is kept next."""
+        self.kept |= {"text": digest(text), "put": size, "operations": operations}
 
     def is_put(self, text: bytes) -> bool:
         """Whether this text was put last: then no other program wrote in it."""

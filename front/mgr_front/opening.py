@@ -13,7 +13,7 @@ from contextlib import suppress
 from mgr_front.copies import Copy
 from mgr_front.difference import changes, splices
 from mgr_front.editor import REPORT
-from mgr_front.notes import KeptFiles, Note, Refused, found, read, why_not_written
+from mgr_front.notes import KeptFiles, Note, Refused, read, why_not_written
 from mgr_front.options import Options
 from mgr_front.program import Log, ask, edit, log_of, text_of
 from mgr_front.saying import REFUSED, choice, tell
@@ -42,16 +42,10 @@ class Opening:
             log = self._mended(refused)
         if log:
             self._settle(log)
-            self._keep_number(log.counters.get(self.number, -1))
-        if not os.path.isdir(os.path.dirname(note.name) or "."):
-            self.remarks.append(f"Nothing can be saved{why_not_written(note.name)}")
-        elif not (log or os.path.exists(note.name)):
-            self.remarks.append(NEW)
-
-    def _keep_number(self, counter: int) -> None:
-        """Keeps how far this copy wrote, as others are told of it: a number that was given is not kept."""
-        if self.options.replica is None:
-            self.copy.keep_number(self.number, counter)
+            self.keep((), log.counters.get(self.number, -1))
+        elif not os.path.exists(note.name):
+            is_new = os.path.isdir(os.path.dirname(note.name) or ".")
+            self.remarks.append(NEW if is_new else f"Nothing can be saved{why_not_written(note.name)}")
 
     def _mended(self, refused: Refused) -> Log | None:
         """Has the log mended that was refused so, if the person wants that, and says what was left out of it."""
@@ -79,7 +73,6 @@ class Opening:
             # mgr does not show what waits.
             self.remarks.append(f"A part of {self.note.log} is missing")
         if log.text == "same":
-            # It is kept with the first own operations.
             self.copy.note_put(read(self.note.name), log.bytes, log.operations)
         if not differ(self.mgr, self.note, log, self.number):
             return
@@ -87,12 +80,8 @@ class Opening:
         if not (is_put and self.copy.has_grown(log)):
             begin = self._begin()
             is_put = is_put and begin is not None
-        keeps = (self.options.keeps_file or is_put) and not self.options.takes_file
-        found = None if keeps else Difference(self.mgr, self.note, log, begin)
-        if found and (self.options.takes_file or choice(found.question(), "f", "l") == "f"):
-            # Under its own number this copy may have written what this part of the log lacks.
-            found.take_file(self.copy.new_number(log))
-        else:
+        keeps = (is_put or self.options.keeps_file) and not self.options.takes_file
+        if keeps or not self._takes_file(begin):
             self.remarks += mend(self.mgr, self.note)[0]
         self.put()
 
@@ -109,9 +98,45 @@ class Opening:
                 return begin
         return None
 
-    def keep(self, lines: Sequence[bytes]) -> None:
-        """Keeps how far this copy wrote, before others are told these lines."""
-        self._keep_number(max(counters(lines, self.number), default=0))
+    def _takes_file(self, begin: bytes | None) -> bool:
+        """Has mgr merge what another program changed in the text, if the person wants that: all of it, or nothing.
+
+        `begin` is the beginning of the log that made the text before; if it is not known, all of it is compared.
+        """
+        try:
+            new = read(self.note.name).decode()
+        except UnicodeDecodeError:
+            raise Refused(f"{self.note.name}: not UTF-8: see --keep-file") from None
+        if not self.options.takes_file and choice(self._question(begin, new), "f", "l") == "l":
+            return False
+        with tempfile.TemporaryDirectory() as folder:
+            copy = Note(os.path.join(folder, "copy"))
+            with open(copy.log, "wb") as file:
+                file.write(read(self.note.log) if begin is None else begin)
+            # Under its own number this copy may have written what this part of the log lacks.
+            if not put_text(self.mgr, copy, self.copy.new_number(log_of(self.mgr, self.note)), new):
+                raise Refused(f"{self.note.log}: has no room for the changes of {self.note.name}: see --keep-file")
+            ask(self.mgr, self.note, "merge", "--adopt", logs=[copy.log])
+        return True
+
+    def _question(self, begin: bytes | None, new: str) -> str:
+        """Returns what the person is asked."""
+        lines = [] if begin is None else ["--lines", str(begin.count(b"\n"))]
+        made = changes(ask(self.mgr, self.note, "show", *lines).decode(), new)
+        deleted, put = sum(count for _, count, _ in made), sum(len(put) for _, _, put in made)
+        name, log = self.note.name, self.note.log
+        file, then = (time.strftime("%Y-%m-%d %H:%M", time.localtime(os.stat(path).st_mtime)) for path in (name, log))
+        taken = f"the file, of {file}: {deleted:,} characters of the log deleted, {put:,} new"
+        if begin is not None:
+            taken = f"both: as in the file, of {file}, {deleted:,} characters deleted, {put:,} new"
+        asked = f"{name} and its log {log} differ. Go on with which?\nf  {taken}\n"
+        said = "".join(f"{remark}\n" for remark in self.remarks)
+        return f"{said}{asked}l  the log, of {then}: the file is kept as {name}~\n"
+
+    def keep(self, lines: Sequence[bytes], counter: int = 0) -> None:
+        """Keeps how far this copy wrote, before others are told these lines; a number that was given is not kept."""
+        if self.options.replica is None:
+            self.copy.keep_number(self.number, max(counters(lines, self.number), default=counter))
 
     def put(self) -> None:
         """Takes note that mgr put the text of the log."""
@@ -141,50 +166,9 @@ def differ(mgr: str, note: Note, log: Log, replica: int) -> bool:
     return log.text == "other" and edit(mgr, note, replica) == 0
 
 
-def _date(path: str) -> str:
-    return time.strftime("%Y-%m-%d %H:%M", time.localtime(os.stat(path).st_mtime))
-
-
-class Difference:
-    """A note whose text another program changed, and what it changed."""
-
-    def __init__(self, mgr: str, note: Note, log: Log, begin: bytes | None) -> None:
-        """`begin` is the beginning of the log that made the text before; if it is not known, all of it is compared."""
-        self.mgr, self.note, self.log, self.begin = mgr, note, log, begin
-        try:
-            self.new = read(note.name).decode()
-        except UnicodeDecodeError:
-            raise Refused(f"{note.name}: not UTF-8: see --keep-file") from None
-        lines = [] if begin is None else ["--lines", str(begin.count(b"\n"))]
-        self.changes = changes(ask(mgr, note, "show", *lines).decode(), self.new)
-
-    def question(self) -> str:
-        """Returns what the person is asked."""
-        name, log, waiting = self.note.name, self.note.log, self.log.waiting
-        missing = f"A part of {log} is missing: {waiting} characters wait for it.\n" * bool(waiting)
-        deleted = sum(count for _, count, _ in self.changes)
-        new = sum(len(put) for _, _, put in self.changes)
-        if self.begin is None:
-            taken = f"f  the file, of {_date(name)}: {deleted:,} characters of the log deleted, {new:,} new\n"
-        else:
-            taken = f"f  both: as in the file, of {_date(name)}, {deleted:,} characters deleted, {new:,} new\n"
-        asked = f"{name} and its log {log} differ. Go on with which?\n{missing}{taken}"
-        return f"{asked}l  the log, of {_date(log)}: the file is kept as {name}~\n"
-
-    def take_file(self, replica: int) -> None:
-        """Has mgr merge the changes of the file, as edits of this number, which nobody has used: all, or none."""
-        with tempfile.TemporaryDirectory() as folder:
-            copy = Note(os.path.join(folder, "copy"))
-            with open(copy.log, "wb") as file:
-                file.write(read(self.note.log) if self.begin is None else self.begin)
-            if not put_text(self.mgr, copy, replica, self.new):
-                raise Refused(f"{self.note.log}: has no room for the changes of {self.note.name}: see --keep-file")
-            ask(self.mgr, self.note, "merge", "--adopt", logs=[copy.log])
-
-
 def put_text(mgr: str, note: Note, replica: int, text: str) -> bool:
     """Changes a note into this text, as edits of this replica, and answers whether its log makes that then."""
-    old = text_of(mgr, note) if note.has_log else (found(note.name) or b"").decode()
+    old = text_of(mgr, note) if note.has_log else ""
     given = b"".join(REPORT + report + b"\n" for report in splices(old, text))
     return edit(mgr, note, replica, given) == 0 and text_of(mgr, note) == text
 

@@ -80,8 +80,7 @@ class TestNumbers(Copies):
             copy.keep_number(1003)
 
     def test_a_number_that_is_used_is_not_drawn(self) -> None:
-        drawn = iter([2000, 3000])
-        self.assertEqual(copies.draw({2000}, lambda least, most: next(drawn)), 3000)
+        self.assertEqual(copies.draw({*range(1000, 3000), *range(3001, 65001)}), 3000)
 
 
 class TestTextsPutLast(Copies):

@@ -13,13 +13,9 @@ from context import InFolder
 from mgr_front import opening
 from mgr_front.copies import Copy
 from mgr_front.notes import Note, Refused
-from mgr_front.opening import Difference, Opening
+from mgr_front.opening import Opening
 from mgr_front.options import read
-from mgr_front.program import Log, log_of
-
-
-def log(size: int, operations: int) -> Log:
-    return Log(size, operations, 0, "same", {})
+from mgr_front.program import log_of
 
 
 class Openings(InFolder):
@@ -102,16 +98,18 @@ class TestDifferences(Openings):
                 self.assertEqual((self.text("note"), self.text(kept)), ("text~", "other"))
 
     def test_it_is_said_what_the_file_does_to_the_log(self) -> None:
-        self.put(note_ops="one\ntwo\nand more\n", note="one\n2\n")
+        self.put(note_ops="one\ntwo\nand more\n")
+        opened = self.open()
+        self.put(note="one\n2\n")
         for begin, wanted in (
             (None, "f  the file, of ..: 12 characters of the log deleted, 1 new\n"),
             (b"one\ntwo\n", "f  both: as in the file, of .., 3 characters deleted, 1 new\n"),
         ):
-            with mock.patch.object(opening, "_date", return_value=".."):
-                self.assertIn(wanted, Difference(self.mgr, self.note, log(0, 0), begin).question())
+            with mock.patch.object(opening.time, "strftime", return_value=".."):
+                self.assertIn(wanted, opened._question(begin, "one\n2\n"))
         (self.folder / "note").write_bytes(b"\xff")
         with self.assertRaises(Refused):
-            Difference(self.mgr, self.note, log(0, 0), None)
+            self.open()
 
     def test_the_file_is_taken_without_the_last_words_of_the_log(self) -> None:
         for then, wanted in (("", "one\ntwo\n"), ("one\n", "one\n"), ("one\ntwo\n", "one\n")):
