@@ -42,7 +42,8 @@ def user() -> str:
 
 def draw(used: set[int]) -> int:
     """Returns a number that is not used yet."""
-    return secrets.choice(sorted({*range(LEAST, MOST + 1)} - used))
+    number: int = secrets.choice([*{*range(LEAST, MOST + 1)} - used])
+    return number
 
 
 def digest(data: bytes) -> str:

@@ -109,7 +109,7 @@ class TestDifferences(Openings):
                 self.assertIn(wanted, opened._question(begin, "one\n2\n"))
         (self.folder / "note").write_bytes(b"\xff")
         with self.assertRaises(Refused):
-            self.open()
+            opened._takes_file(None)
 
     def test_the_file_is_taken_without_the_last_words_of_the_log(self) -> None:
         for then, wanted in (("", "one\ntwo\n"), ("one\n", "one\n"), ("one\ntwo\n", "one\n")):
