@@ -10,7 +10,7 @@ import shutil
 import subprocess
 import tempfile
 
-from mgr_front.copies import draw, state_folder
+from mgr_front.copies import Copy, state_folder
 from mgr_front.meeting import socket_name
 from mgr_front.notes import Note, Refused, read
 from mgr_front.opening import mend, put_text
@@ -56,8 +56,8 @@ def keep_apart(mgr: str, note: Note, place: str) -> str:
         if note.has_log:
             shutil.copyfile(note.log, copy.log)
             mend(mgr, copy)
-        log = log_of(mgr, copy)
-        if put_text(mgr, copy, draw(set(log.counters if log else ())), read(place).decode()):
+        number = Copy(copy.name).new_number(log_of(mgr, copy))
+        if put_text(mgr, copy, number, read(place).decode()):
             return f"{copy.log} has what {note.log} did not take; the next start takes it"
     except (OSError, Refused):
         pass

@@ -1,5 +1,6 @@
 """How others are reached, and what is asked before an edit with them."""
 
+import glob
 import itertools
 import os
 import select
@@ -105,10 +106,8 @@ def _first_line(text: str) -> str:
 
 def _put_aside(note: Note) -> str:
     """Gives a note another name, with its log, and returns that."""
-    for end in itertools.chain(["~"], (f".~{number}~" for number in itertools.count(1))):
-        kept = Note(note.name + end)
-        if not (os.path.lexists(kept.name) or os.path.lexists(kept.log)):
-            break
+    names = (f"{note.name}.~{number}~" if number else f"{note.name}~" for number in itertools.count())
+    kept = next(Note(name) for name in names if not glob.glob(glob.escape(name) + "*"))
     for old, new in ((note.log, kept.log), (note.name, kept.name)):
         if os.path.exists(old):
             os.rename(old, new)
