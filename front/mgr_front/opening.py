@@ -80,8 +80,7 @@ class Opening:
         if not (is_put and self.copy.has_grown(log)):
             begin = self._begin()
             is_put = is_put and begin is not None
-        keeps = (is_put or self.options.keeps_file) and not self.options.takes_file
-        if keeps or not self._takes_file(begin):
+        if is_put or self.options.keeps_file or not self._takes_file(begin):
             self.remarks += mend(self.mgr, self.note)[0]
         self.put()
 

@@ -134,7 +134,7 @@ class TestDifferences(Openings):
         self.put(note_ops="text", note="text")
         self.open().remember()
         self.put(note_ops="more and text")
-        self.open()
+        self.open(words=("--take-file",))
         self.assertEqual((self.text("note"), self.text("note~")), ("more and text", "text"))
 
     def test_it_is_without_a_question_after_a_kill(self) -> None:
