@@ -59,12 +59,13 @@ class Copy:
         self.file = os.path.join(state_folder(), "copies", digest(json.dumps(owner).encode()))
         # Its numbers, with the counters that were told. A digest of the text that was put last, and how many bytes
         # and operations its log had then, 0 if that is not known. How many bytes the log had as it was compacted.
-        self.kept: dict[str, Any] = {"copy": owner, "counters": {}, "text": "", "put": 0, "operations": 0, "compacted": 0}
+        self.kept: dict[str, Any] = {"copy": owner, "counters": {}, "text": "", "put": 0, "operations": 0}
+        self.kept["compacted"] = 0
         with suppress(OSError, ValueError, TypeError), open(self.file, encoding="ascii") as file:
             self.kept |= json.load(file)
 
     def keep(self, **members: object) -> None:
-        """Keeps these, and what was noted; if that fails, the next edit has another number, or begins with a question."""
+        """Keeps these, and what was noted; if that fails, the next edit has another number, or asks."""
         self.kept |= members
         with suppress(OSError):
             os.makedirs(os.path.dirname(self.file), mode=0o700, exist_ok=True)

@@ -144,7 +144,7 @@ class Opening:
             self.copy.keep()
 
     def remember(self, is_older: bool = False) -> None:
-        """Keeps how the edit left the note, if its text is the one of its log, or is to be older; compacts a large log."""
+        """Compacts a large log; keeps how the edit left the note, if its text is that of its log, or is to be older."""
         try:
             text, log = read(self.note.name), log_of(self.mgr, self.note)
             if log and log.bytes > max(LARGE, TIMES * len(text), 2 * self.copy.kept["compacted"]):
@@ -161,7 +161,7 @@ class Opening:
 
 
 def differ(mgr: str, note: Note, log: Log, replica: int) -> bool:
-    """Whether a note's text is another than that of its log, and nobody else has it open, and may be about to put it."""
+    """Whether a note's text is another than that of its log, and nobody has it open, who may be about to put it."""
     return log.text == "other" and edit(mgr, note, replica) == 0
 
 
