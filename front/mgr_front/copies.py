@@ -9,11 +9,12 @@ import getpass
 import hashlib
 import json
 import os
-import random
+import secrets
 import socket
-from collections.abc import Callable
+from contextlib import suppress
 from typing import Any
 
+from mgr_front.notes import found
 from mgr_front.program import Log
 
 LEAST, MOST = 1000, 65000
@@ -28,11 +29,8 @@ def state_folder() -> str:
 
 def machine() -> str:
     """Returns a name of this machine that no other has: a copy of its files alone is not it."""
-    try:
-        with open("/etc/machine-id", encoding="ascii") as file:
-            return f"{socket.gethostname()} {file.read().strip()}"
-    except (OSError, UnicodeDecodeError):
-        return socket.gethostname()
+    number = found("/etc/machine-id") or b""
+    return f"{socket.gethostname()} {number.decode('ascii', 'replace').strip()}".strip()
 
 
 def user() -> str:
@@ -42,10 +40,9 @@ def user() -> str:
         return str(os.getuid())
 
 
-def draw(used: set[int], choose: Callable[[int, int], int] = random.SystemRandom().randint) -> int:
+def draw(used: set[int]) -> int:
     """Returns a number that is not used yet."""
-    while (number := choose(LEAST, MOST)) in used:
-        pass
+    number: int = secrets.choice([*{*range(LEAST, MOST + 1)} - used])
     return number
 
 
@@ -58,24 +55,23 @@ class Copy:
 
     def __init__(self, path: str) -> None:
         """`path` is that of its text."""
-        self.owner = [machine(), user(), os.path.realpath(path)]
-        self.file = os.path.join(state_folder(), "copies", digest(json.dumps(self.owner).encode()))
-        self.kept: dict[str, Any] = {"copy": self.owner, "counters": {}, "operations": 0, "text": "", "put": 0, "compacted": 0}
-        try:
-            with open(self.file, encoding="ascii") as file:
-                self.kept |= json.load(file)
-        except (OSError, ValueError, TypeError):
-            pass
+        owner = [machine(), user(), os.path.realpath(path)]
+        self.file = os.path.join(state_folder(), "copies", digest(json.dumps(owner).encode()))
+        # Its numbers, with the counters that were told. A digest of the text that was put last, and how many bytes
+        # and operations its log had then, 0 if that is not known. How many bytes the log had as it was compacted.
+        self.kept: dict[str, Any] = {"copy": owner, "counters": {}, "text": "", "put": 0, "operations": 0}
+        self.kept["compacted"] = 0
+        with suppress(OSError, ValueError, TypeError), open(self.file, encoding="ascii") as file:
+            self.kept |= json.load(file)
 
-    def _keep(self) -> None:
-        """Keeps it; where that fails, the next edit has another number, or begins with a question."""
-        try:
+    def keep(self, **members: object) -> None:
+        """Keeps these, and what was noted; if that fails, the next edit has another number, or asks."""
+        self.kept |= members
+        with suppress(OSError):
             os.makedirs(os.path.dirname(self.file), mode=0o700, exist_ok=True)
             with open(self.file + ".new", "w", encoding="ascii") as file:
                 json.dump(self.kept, file)
             os.replace(self.file + ".new", self.file)
-        except OSError:
-            pass
 
     def number(self, log: Log | None) -> int:
         """Returns the number for this copy: its last one under which the log goes as far as was told, else a new one.
@@ -83,9 +79,8 @@ class Copy:
         Another log was restored, cut or checked out, and others may have what it lacks: under that number it
         would be given twice.
         """
-        counters = log.counters if log else {}
-        told = {int(number): counter for number, counter in self.kept["counters"].items()}
-        numbers = [number for number in told if counters.get(number, 0) >= told[number]]
+        counters, told = log.counters if log else {}, self.kept["counters"]
+        numbers = [int(number) for number in told if counters.get(int(number), 0) >= told[number]]
         return numbers[-1] if numbers else self.new_number(log)
 
     def new_number(self, log: Log | None) -> int:
@@ -95,25 +90,16 @@ class Copy:
     def keep_number(self, number: int, counter: int = 0) -> None:
         """Keeps a number and the greatest counter that was told of it: a note that is only read needs none."""
         if counter > self.kept["counters"].get(str(number), -1):
-            self.kept["counters"][str(number)] = counter
-            self._keep()
+            self.keep(counters=self.kept["counters"] | {str(number): counter})
 
-    def remember(self, text: bytes, log: Log) -> None:
-        """Keeps how an edit left it, with this text, which is the one of its log."""
-        self.kept |= {"text": digest(text), "operations": log.operations}
-        self._keep()
+    def note_put(self, text: bytes, size: int, operations: int = 0) -> None:
+        """Notes which text was put last, with a log of this size; that is kept with what is kept next."""
+        self.kept |= {"text": digest(text), "put": size, "operations": operations}
 
-    def put(self, size: int) -> None:
-        """Keeps how many bytes the log had when its text was put."""
-        if size != self.kept["put"]:
-            self.kept["put"] = size
-            self._keep()
+    def is_put(self, text: bytes) -> bool:
+        """Whether this text was put last: then no other program wrote in it."""
+        return bool(digest(text) == self.kept["text"])
 
-    def compacted(self, size: int) -> None:
-        """Keeps how many bytes the log has as it is compacted."""
-        self.kept["compacted"] = size
-        self._keep()
-
-    def is_merged(self, text: bytes, log: Log) -> bool:
-        """Whether the text is that of the last edit, and the log only grew since, as in a merge."""
-        return bool(digest(text) == self.kept["text"] and log.operations >= self.kept["operations"])
+    def has_grown(self, log: Log) -> bool:
+        """Whether the log has at least the operations that it had then, as after a merge of git."""
+        return bool(0 < self.kept["operations"] <= log.operations)

@@ -1,6 +1,6 @@
 """The end of an edit, whatever brought it: what was typed is taken, mgr saves it, and others are told."""
 
-from mgr_front.apart import keep_apart
+from mgr_front.guests import keep_apart
 from mgr_front.keys import NO_KEY
 from mgr_front.notes import Note, found, put_back
 from mgr_front.saving import CANCEL

@@ -1,4 +1,6 @@
-"""Copies of a note that a hub of this machine has, in the person's state folder, for those who write at it."""
+"""Copies of a note in the person's state folder: of those who write at a hub of this machine, and of what a log
+could not take. The note's next start takes what they have.
+"""
 
 import fcntl
 import glob
@@ -6,10 +8,13 @@ import itertools
 import os
 import shutil
 import subprocess
+import tempfile
 
-from mgr_front.copies import state_folder
+from mgr_front.copies import Copy, state_folder
 from mgr_front.meeting import socket_name
-from mgr_front.notes import Note, read
+from mgr_front.notes import Note, Refused, read
+from mgr_front.opening import mend, put_text
+from mgr_front.program import log_of
 from mgr_front.shared import OTHER
 
 # How the names of folders begin whose logs have what a note's log could not take.
@@ -35,9 +40,33 @@ def guest_of(path: str) -> Note:
     raise AssertionError("numbers have no end")
 
 
+def place_apart(name: str) -> str:
+    """Returns a place for a buffer's text, in a folder beside the copies of that note; "" if there is none."""
+    try:
+        os.makedirs(copies_of(name), mode=0o700, exist_ok=True)
+        return os.path.join(tempfile.mkdtemp(prefix=APART, dir=copies_of(name)), "text")
+    except OSError:
+        return ""
+
+
+def keep_apart(mgr: str, note: Note, place: str) -> str:
+    """Makes a log of a text that was put apart and of what the note's log has; says where what is kept."""
+    copy = Note(os.path.join(os.path.dirname(place), os.path.basename(note.name)))
+    try:
+        if note.has_log:
+            shutil.copyfile(note.log, copy.log)
+            mend(mgr, copy)
+        number = Copy(copy.name).new_number(log_of(mgr, copy))
+        if put_text(mgr, copy, number, read(place).decode()):
+            return f"{copy.log} has what {note.log} did not take; the next start takes it"
+    except (OSError, Refused):
+        pass
+    return f"{place} is the text of {note.name}, which could not be saved"
+
+
 def take_back(mgr: str, note: Note) -> str | None:
     """Has mgr merge what copies have, of which the note may lack some; returns what it says if it does not."""
-    for log in glob.glob(os.path.join(glob.escape(copies_of(note.name)), "*", os.path.basename(note.log))):
+    for log in glob.glob(os.path.join(glob.escape(copies_of(note.name)), "*", glob.escape(os.path.basename(note.log)))):
         said = _taken(mgr, note, log)
         if said and OTHER not in said:
             return f"{log} was not taken: {said}"
@@ -47,24 +76,18 @@ def take_back(mgr: str, note: Note) -> str | None:
 
 
 def _taken(mgr: str, note: Note, log: str) -> str:
-    """Has a log be taken, and returns why it is not."""
-    if os.path.exists(note.name) and not note.has_log:
-        # mgr merges nothing into a text without a log; this one has the text, and what was written to it.
-        return _copied(log, note.log)
-    done = subprocess.run([mgr, "merge", "--", note.name, log], capture_output=True)
-    said = done.stderr.decode("utf-8", "replace").strip()
-    return said or f"status {done.returncode}" if done.returncode else ""
-
-
-def _copied(log: str, to: str) -> str:
-    """Copies a log, all of it or nothing, for its owner alone, and returns why that fails."""
-    place = to + ".copy"
+    """Has a log be taken, all of it or nothing, and returns why it is not."""
+    if note.has_log or not os.path.exists(note.name):
+        done = subprocess.run([mgr, "merge", "--", note.name, log], capture_output=True)
+        said = done.stderr.decode("utf-8", "replace").strip()
+        return said or f"status {done.returncode}" if done.returncode else ""
+    # mgr merges nothing into a text without a log; this one has the text, and what was written to it.
     try:
-        with open(place, "wb", opener=lambda path, flags: os.open(path, flags, 0o600)) as file:
+        with tempfile.NamedTemporaryFile(dir=os.path.dirname(note.log) or ".") as file:
             file.write(read(log))
+            file.flush()
             os.fsync(file.fileno())
-        os.rename(place, to)
+            os.link(file.name, note.log)
         return ""
     except OSError as error:
-        os.unlink(place)
         return str(error.strerror)

@@ -1,10 +1,11 @@
 """How others are reached, and what is asked before an edit with them."""
 
+import glob
+import itertools
+import os
 import select
-import subprocess
 import time
 
-from mgr_front.asking import choice
 from mgr_front.channels import Post, shown
 from mgr_front.channels.folder import Folder
 from mgr_front.channels.git import GitBranch
@@ -13,11 +14,13 @@ from mgr_front.channels.redis import RedisStream
 from mgr_front.channels.worker import Worker
 from mgr_front.company import Company
 from mgr_front.copies import user
-from mgr_front.notes import read
+from mgr_front.notes import Note, found
 from mgr_front.opening import Opening
-from mgr_front.options import FOLDER, GIT, HOSTS, PORTS, Options
-from mgr_front.saying import REFUSED, stop, tell
-from mgr_front.shared import MANY, SharedNote, text_of
+from mgr_front.options import FOLDER, GIT, HERE, HOSTS, PORTS, Options
+from mgr_front.program import edit, made_by, text_of
+from mgr_front.saving import SAVE
+from mgr_front.saying import REFUSED, choice, stop, tell
+from mgr_front.shared import MANY, SharedNote
 
 # Seconds for which an edit waits for others before it begins alone, and for what comes of a hub that is there;
 # ssh may ask for a word, and ends by itself.
@@ -27,43 +30,44 @@ SHOWN = 60
 
 
 def channel(options: Options, note: SharedNote, post: Post) -> Worker:
-    """Returns the channel that the command line asks for: the hub of this machine that has the note, if none is named.
-
-    `Refused` says what it lacks.
-    """
-    kind, rest = options.address or ("", options.name)
+    """Returns the channel that the command line asks for; `Refused` says what it lacks."""
+    kind, rest = options.way
     person = options.person or user()
     if kind == GIT:
         return GitBranch(note, post, rest, options.person)
     if kind == FOLDER:
         return Folder(note, post, rest)
-    if kind == PORTS:
-        return Hub(note, post, by_port(int(rest)), person)
-    if kind == HOSTS:
-        return Hub(note, post, by_ssh(*rest.split(":", 1)), person)
-    return RedisStream(note, post, f"{kind}:{rest}", person) if kind else Hub(note, post, by_note(rest), person)
+    if kind not in (PORTS, HOSTS, HERE):
+        return RedisStream(note, post, f"{kind}:{rest}", person)
+    way = by_note(rest) if kind == HERE else by_port(int(rest)) if kind == PORTS else by_ssh(*rest.split(":", 1))
+    return Hub(note, post, way, person)
 
 
 def meet(opening: Opening) -> Company | None:
     """Joins others, and returns them, be it that they are away; None if the opening is to be done again."""
     options = opening.options
-    opening.begin_log()
+    if not opening.note.has_log and found(opening.note.name):
+        # Else others have nothing of a plain text before its first key, nor know it as another note.
+        opening.keep(())
+        edit(opening.mgr, opening.note, opening.number, SAVE)
+        opening.put()
     note = SharedNote(opening.mgr, opening.note, opening.number, options.adopts)
     note.adopts = options.adopts or note.is_empty
     company = Company(note, lambda post: channel(options, note, post))
     company.channel.start()
-    _wait(company, SSH if options.address and options.address[0] == HOSTS else PATIENCE)
+    _wait(company, SSH if options.way[0] == HOSTS else PATIENCE)
     if company.state.word != "refused":
         if len(company.lines) > MANY * (options.text is None) and note.merge(tuple(company.lines)):
             company.lines.clear()
         return company
     if note.refused:
         _settle(opening, note)
-        return None
-    if "number" in company.state.why and options.replica is None:
-        opening.renumber()
-        return None
-    stop(company.state.why, REFUSED)
+    elif "number" in company.state.why and options.replica is None:
+        # Somebody writes under the number that this copy had.
+        opening.copy.keep_number(opening.copy.new_number(None))
+    else:
+        stop(company.state.why, REFUSED)
+    return None
 
 
 def _wait(company: Company, seconds: float) -> None:
@@ -79,11 +83,11 @@ def _wait(company: Company, seconds: float) -> None:
 
 def _settle(opening: Opening, note: SharedNote) -> None:
     """Asks what becomes of a note if others have another one."""
-    name = opening.note.name
-    theirs, mine = (_first_line(note, given) for given in (text_of(note.refused), None))
+    name, mgr = opening.note.name, opening.mgr
+    here, there = text_of(mgr, opening.note), made_by(mgr, b"\n".join([*note.refused, b""]))
     asked = (
         f"{name} and what the others have are two notes: they share nothing.\n"
-        f"here:  {mine}\nthere: {theirs}\n"
+        f"here:  {_first_line(here)}\nthere: {_first_line(there)}\n"
         f"t  take theirs; this one is kept as {name}~\n"
         "f  fuse both into one, for good\n"
         "q  leave both as they are\n"
@@ -92,14 +96,19 @@ def _settle(opening: Opening, note: SharedNote) -> None:
     if answer == "q":
         stop("nothing was joined", REFUSED)
     if answer == "t":
-        tell(f"{name} is now {opening.put_aside()}")
+        tell(f"{name} is now {_put_aside(opening.note)}")
     opening.options.adopts = answer == "f"
 
 
-def _first_line(note: SharedNote, log: bytes | None) -> str:
-    """Returns the first line of a log's text, or of the note's."""
-    command = [note.mgr, "show"] + (["--", note.name] if log is None else [])
-    text = subprocess.run(command, input=log, capture_output=True).stdout
-    if log is None and not note.note.has_log:
-        text = read(note.name)
-    return shown(text.decode("utf-8", "replace").strip().split("\n")[0], SHOWN)
+def _first_line(text: str) -> str:
+    return shown(text.strip().partition("\n")[0], SHOWN)
+
+
+def _put_aside(note: Note) -> str:
+    """Gives a note another name, with its log, and returns that."""
+    names = (f"{note.name}.~{number}~" if number else f"{note.name}~" for number in itertools.count())
+    kept = next(Note(name) for name in names if not glob.glob(glob.escape(name) + "*"))
+    for old, new in ((note.log, kept.log), (note.name, kept.name)):
+        if os.path.exists(old):
+            os.rename(old, new)
+    return kept.name

@@ -4,7 +4,6 @@ import glob
 import os
 from dataclasses import dataclass
 
-
 # How the names of logs end.
 LOG = ".ops"
 
@@ -34,10 +33,8 @@ class Note:
     def check(self) -> None:
         """Refuses what stands under the names of the note and cannot be edited."""
         for path in (self.name, self.log):
-            if os.path.isdir(path):
-                raise Refused(f"{path}: is a folder")
             if os.path.exists(path) and not os.path.isfile(path):
-                raise Refused(f"{path}: is a pipe or a device")
+                raise Refused(f"{path}: is a folder" if os.path.isdir(path) else f"{path}: is a pipe or a device")
 
 
 def read(path: str) -> bytes:
@@ -53,6 +50,15 @@ def found(path: str) -> bytes | None:
         return None
 
 
+def put_back(path: str, before: bytes | None) -> None:
+    """Has a file be as it was before, be it that there was none."""
+    if before is None:
+        os.unlink(path)
+    else:
+        with open(path, "wb") as file:
+            file.write(before)
+
+
 def why_not_written(name: str) -> str:
     """Returns which file of a note cannot be written, and why, as far as that can be seen."""
     folder = os.path.dirname(name) or "."
@@ -66,15 +72,6 @@ def why_not_written(name: str) -> str:
     return "" if os.access(folder, os.W_OK) else f": {folder} takes no new file"
 
 
-def put_back(path: str, before: bytes | None) -> None:
-    """Has a file be as it was before, be it that there was none."""
-    if before is None:
-        os.unlink(path)
-    else:
-        with open(path, "wb") as file:
-            file.write(before)
-
-
 class KeptFiles:
     """What mgr keeps beside notes, as something else had written it."""
 
@@ -83,8 +80,8 @@ class KeptFiles:
 
     def since(self, name: str) -> list[str]:
         """Says what was kept beside a note since the last look at it; nothing at the first one."""
-        paths = [glob.escape(path) + end for path in (name, Note(name).log) for end in ("~", ".~*~")]
-        found = {kept for path in paths for kept in glob.glob(path)}
+        ends = "~", ".~*~", f"{LOG}~", f"{LOG}.~*~"
+        found = {kept for end in ends for kept in glob.glob(glob.escape(name) + end)}
         known = self.known.get(name, found)
         self.known[name] = found
         return [f"{kept} has what stood there" for kept in sorted(found - known)]

@@ -4,27 +4,25 @@ mgr reads the log alone. So what another program wrote to the text would be put 
 save, unless it comes into the log first.
 """
 
-import itertools
 import os
-import shutil
 import tempfile
 import time
 from collections.abc import Sequence
 from contextlib import suppress
 
-from mgr_front.asking import choice
 from mgr_front.copies import Copy
 from mgr_front.difference import changes, splices
 from mgr_front.editor import REPORT
-from mgr_front.notes import KeptFiles, Note, Refused, found, read, why_not_written
+from mgr_front.notes import KeptFiles, Note, Refused, read, why_not_written
 from mgr_front.options import Options
 from mgr_front.program import Log, ask, edit, log_of, text_of
-from mgr_front.saving import SAVE
-from mgr_front.saying import REFUSED, say, tell
+from mgr_front.saying import REFUSED, choice, tell
 from mgr_front.shared import counters
 
 # A log is large that has more bytes than this, and than so many times its text.
 LARGE, TIMES = 1_000_000, 20
+# How many lines of a log may have come between its text and the note that was taken of its length.
+LATE = 20
 NEW = "New: C-x C-s saves, C-x C-c leaves, C-_ undoes, C-h helps"
 
 
@@ -32,7 +30,7 @@ class Opening:
     """A note that is about to be edited, and the number of this copy."""
 
     def __init__(self, mgr: str, note: Note, options: Options) -> None:
-        """Does what is to be done first; `Refused` where nothing is edited then."""
+        """Does what is to be done first; `Refused` if nothing is edited then."""
         self.mgr, self.note, self.options, self.copy = mgr, note, options, Copy(note.name)
         # What is to be said at the start.
         self.remarks: list[str] = []
@@ -43,17 +41,11 @@ class Opening:
         except Refused as refused:
             log = self._mended(refused)
         if log:
-            self._keep_written(log)
             self._settle(log)
-        if not os.path.isdir(os.path.dirname(note.name) or "."):
-            self.remarks.append(f"Nothing can be saved{why_not_written(note.name)}")
-        elif not (log or os.path.exists(note.name)):
-            self.remarks.append(NEW)
-
-    def _keep_written(self, log: Log | None) -> None:
-        """Keeps how far this copy wrote in the log, if it did: others are told that when they are joined."""
-        if log and self.number in log.counters and self.options.replica is None:
-            self.copy.keep_number(self.number, log.counters[self.number])
+            self.keep((), log.counters.get(self.number, -1))
+        elif not os.path.exists(note.name):
+            is_new = os.path.isdir(os.path.dirname(note.name) or ".")
+            self.remarks.append(NEW if is_new else f"Nothing can be saved{why_not_written(note.name)}")
 
     def _mended(self, refused: Refused) -> Log | None:
         """Has the log mended that was refused so, if the person wants that, and says what was left out of it."""
@@ -62,7 +54,7 @@ class Opening:
         if refused.status != REFUSED or choice(asked, "m", "q") == "q":
             raise refused
         kept, said = mend(self.mgr, self.note)
-        say(said)
+        tell(said.decode().rstrip())
         if self.options.replica:
             raise Refused(f"{log} is mended: now give a --replica that nobody has used, or none")
         found = log_of(self.mgr, self.note)
@@ -72,132 +64,111 @@ class Opening:
         return found
 
     def _settle(self, log: Log) -> None:
-        """Where the note's text and its log differ: goes on with the one that the person chooses.
+        """If the note's text and its log differ, goes on with what the person chooses.
 
-        It is the log, without a question, where that was merged with another and the text is as it was, and where
-        a kill came after it and before its text was put.
+        It is the log, without a question, if no other program wrote in the text, as after a merge, or after a kill
+        that came before the text was put.
         """
         if log.waiting:
             # mgr does not show what waits.
             self.remarks.append(f"A part of {self.note.log} is missing")
         if log.text == "same":
-            self.copy.kept["put"] = log.bytes  # This is kept with the first own operations.
+            self.copy.note_put(read(self.note.name), log.bytes, log.operations)
         if not differ(self.mgr, self.note, log, self.number):
             return
-        keeps = self.options.keeps_file or self.copy.is_merged(read(self.note.name), log) or self._is_behind()
-        found = None if keeps and not self.options.takes_file else Difference(self.mgr, self.note, log)
-        if found and (self.options.takes_file or choice(found.question(), "f", "l") == "f"):
-            self.keep(())
-            found.take_file(self.number)
-            self._keep_written(log_of(self.mgr, self.note))
-        else:
+        is_put, begin = self.copy.is_put(read(self.note.name)), None
+        if not (is_put and self.copy.has_grown(log)):
+            begin = self._begin()
+            is_put = is_put and begin is not None
+        if is_put or self.options.keeps_file or not self._takes_file(begin):
             self.remarks += mend(self.mgr, self.note)[0]
         self.put()
 
-    def _is_behind(self) -> bool:
-        """Whether the text is what the log made as its text was put last: then no other program wrote in it."""
-        lines = read(self.note.log)[: self.copy.kept["put"]].count(b"\n")
-        return lines > 0 and ask(self.mgr, self.note, "show", "--lines", str(lines)) == read(self.note.name)
+    def _begin(self) -> bytes | None:
+        """Returns the beginning of the log that made the text that was put last, if the log still has it.
+
+        It is some lines shorter than was noted if further keys came to the log before that.
+        """
+        begin = read(self.note.log)[: self.copy.kept["put"]] + b"\n"
+        for _ in range(LATE):
+            begin = begin[: begin.rfind(b"\n", 0, -1) + 1]
+            lines = str(begin.count(b"\n"))
+            if self.copy.is_put(ask(self.mgr, self.note, "show", "--lines", lines) if begin else b""):
+                return begin
+        return None
+
+    def _takes_file(self, begin: bytes | None) -> bool:
+        """Has mgr merge what another program changed in the text, if the person wants that: all of it, or nothing.
+
+        `begin` is the beginning of the log that made the text before; if it is not known, all of it is compared.
+        """
+        try:
+            new = read(self.note.name).decode()
+        except UnicodeDecodeError:
+            raise Refused(f"{self.note.name}: not UTF-8: see --keep-file") from None
+        if not self.options.takes_file and choice(self._question(begin, new), "f", "l") == "l":
+            return False
+        with tempfile.TemporaryDirectory() as folder:
+            copy = Note(os.path.join(folder, "copy"))
+            with open(copy.log, "wb") as file:
+                file.write(read(self.note.log) if begin is None else begin)
+            # Under its own number this copy may have written what this part of the log lacks.
+            if not put_text(self.mgr, copy, self.copy.new_number(log_of(self.mgr, self.note)), new):
+                raise Refused(f"{self.note.log}: has no room for the changes of {self.note.name}: see --keep-file")
+            ask(self.mgr, self.note, "merge", "--adopt", logs=[copy.log])
+        return True
+
+    def _question(self, begin: bytes | None, new: str) -> str:
+        """Returns what the person is asked."""
+        lines = [] if begin is None else ["--lines", str(begin.count(b"\n"))]
+        made = changes(ask(self.mgr, self.note, "show", *lines).decode(), new)
+        deleted, put = sum(count for _, count, _ in made), sum(len(put) for _, _, put in made)
+        name, log = self.note.name, self.note.log
+        file, then = (time.strftime("%Y-%m-%d %H:%M", time.localtime(os.stat(path).st_mtime)) for path in (name, log))
+        taken = f"the file, of {file}: {deleted:,} characters of the log deleted, {put:,} new"
+        if begin is not None:
+            taken = f"both: as in the file, of {file}, {deleted:,} characters deleted, {put:,} new"
+        asked = f"{name} and its log {log} differ. Go on with which?\nf  {taken}\n"
+        said = "".join(f"{remark}\n" for remark in self.remarks)
+        return f"{said}{asked}l  the log, of {then}: the file is kept as {name}~\n"
+
+    def keep(self, lines: Sequence[bytes], counter: int = 0) -> None:
+        """Keeps how far this copy wrote, before others are told these lines; a number that was given is not kept."""
+        if self.options.replica is None:
+            self.copy.keep_number(self.number, max(counters(lines, self.number), default=counter))
 
     def put(self) -> None:
         """Takes note that mgr put the text of the log."""
         with suppress(OSError):
-            self.copy.put(os.path.getsize(self.note.log))
-
-    def begin_log(self) -> None:
-        """Makes the log of a plain text: else others have nothing of it before its first key, nor know it as another."""
-        if not self.note.has_log and found(self.note.name):
-            self.keep(())  # The text is written under this number.
-            edit(self.mgr, self.note, self.number, SAVE)
-            self.put()
-
-    def renumber(self) -> None:
-        """Has this copy have another number: somebody writes under the one that it had."""
-        self.copy.keep_number(self.copy.new_number(None))
-
-    def put_aside(self) -> str:
-        """Gives the note another name, with its log, and returns that."""
-        for number in itertools.count():
-            kept = Note(f"{self.note.name}.~{number}~" if number else f"{self.note.name}~")
-            if not (os.path.lexists(kept.name) or os.path.lexists(kept.log)):
-                break
-        for old, new in ((self.note.log, kept.log), (self.note.name, kept.name)):
-            if os.path.exists(old):
-                os.rename(old, new)
-        return kept.name
-
-    def keep(self, lines: Sequence[bytes]) -> None:
-        """Keeps how far this copy wrote, before others are told these lines."""
-        if self.options.replica is None:
-            self.copy.keep_number(self.number, max(counters(lines, self.number), default=0))
+            self.copy.note_put(read(self.note.name), os.path.getsize(self.note.log))
+            self.copy.keep()
 
     def remember(self, is_older: bool = False) -> None:
-        """Keeps how the edit left the note, if its text is the one of its log, or is to be older."""
+        """Compacts a large log; keeps how the edit left the note, if its text is that of its log, or is to be older."""
         try:
             text, log = read(self.note.name), log_of(self.mgr, self.note)
-        except (OSError, Refused):
-            return  # One of them is not there, or this person may not read it.
-        if log and (log.text == "same" or is_older):
-            self.copy.remember(text, log)
-        if log and log.bytes > max(LARGE, TIMES * len(text), 2 * self.copy.kept["compacted"]):
-            self._compact()
-
-    def _compact(self) -> None:
-        """Has the log be compacted; it is again once it has grown to twice of what it is then."""
-        try:
-            ask(self.mgr, self.note, "compact")
-            self.copy.compacted(os.path.getsize(self.note.log))
+            if log and log.bytes > max(LARGE, TIMES * len(text), 2 * self.copy.kept["compacted"]):
+                ask(self.mgr, self.note, "compact")
+                # It is compacted again once it has grown to twice of this.
+                self.copy.keep(compacted=os.path.getsize(self.note.log))
+            if log and (log.text == "same" or is_older):
+                self.copy.note_put(text, os.path.getsize(self.note.log), log.operations)
+                self.copy.keep()
+        except OSError:
+            pass  # There is no text, or this person may not read it.
         except Refused as refused:
             tell(f"{self.note.log} was not compacted: {refused}")
 
 
 def differ(mgr: str, note: Note, log: Log, replica: int) -> bool:
-    """Whether a note's text is another than that of its log, and nobody else has it open, and may be about to put it."""
+    """Whether a note's text is another than that of its log, and nobody has it open, who may be about to put it."""
     return log.text == "other" and edit(mgr, note, replica) == 0
-
-
-def _date(path: str) -> str:
-    return time.strftime("%Y-%m-%d %H:%M", time.localtime(os.stat(path).st_mtime))
-
-
-class Difference:
-    """A note whose text is another than that of its log."""
-
-    def __init__(self, mgr: str, note: Note, log: Log) -> None:
-        self.mgr, self.note, self.log = mgr, note, log
-        try:
-            self.new = read(note.name).decode()
-        except UnicodeDecodeError:
-            raise Refused(f"{note.name}: not UTF-8: see --keep-file") from None
-        self.changes = changes(text_of(mgr, note), self.new)
-
-    def question(self) -> str:
-        """Returns what the person is asked."""
-        name, log, waiting = self.note.name, self.note.log, self.log.waiting
-        missing = f"A part of {log} is missing: {waiting} characters wait for it.\n" * bool(waiting)
-        deleted = sum(count for _, count, _ in self.changes)
-        new = sum(len(put) for _, _, put in self.changes)
-        return (
-            f"{name} and its log {log} differ. Go on with which?\n{missing}"
-            f"f  the file, of {_date(name)}: in the log {deleted:,} characters are deleted, {new:,} are new\n"
-            f"l  the log, of {_date(log)}: the file is kept as {name}~\n"
-        )
-
-    def take_file(self, replica: int) -> None:
-        """Brings the changes of the file into the log, as edits of this replica: all, or none."""
-        with tempfile.TemporaryDirectory() as folder:
-            copy = Note(os.path.join(folder, "copy"))
-            shutil.copyfile(self.note.log, copy.log)
-            if not put_text(self.mgr, copy, replica, self.new):
-                raise Refused(f"{self.note.log}: has no room for the changes of {self.note.name}: see --keep-file")
-            ask(self.mgr, self.note, "merge", "--adopt", logs=[copy.log])
 
 
 def put_text(mgr: str, note: Note, replica: int, text: str) -> bool:
     """Changes a note into this text, as edits of this replica, and answers whether its log makes that then."""
-    old = text_of(mgr, note) if note.has_log else (found(note.name) or b"").decode()
-    reports = splices(changes(old, text))
-    given = b"".join(REPORT + report + b"\n" for report in reports)
+    old = text_of(mgr, note) if note.has_log else ""
+    given = b"".join(REPORT + report + b"\n" for report in splices(old, text))
     return edit(mgr, note, replica, given) == 0 and text_of(mgr, note) == text
 
 

@@ -36,9 +36,9 @@ def find(folder: str) -> str | None:
     return shutil.which(named)
 
 
-def ask(mgr: str, note: Note, *words: str, given: bytes = b"", logs: Sequence[str] = ()) -> bytes:
+def ask(mgr: str, note: Note, *words: str, logs: Sequence[str] = ()) -> bytes:
     """Returns what a command of mgr writes of a note, and of logs; `Refused` says why it does not do it."""
-    done = subprocess.run([mgr, *words, "--", note.name, *logs], input=given, capture_output=True)
+    done = subprocess.run([mgr, *words, "--", note.name, *logs], input=b"", capture_output=True)
     if done.returncode:
         said = done.stderr.decode("utf-8", "replace")
         raise Refused(explained(done.returncode, said, note, False), shell_status(done.returncode))
@@ -57,6 +57,11 @@ def log_of(mgr: str, note: Note) -> Log | None:
 def text_of(mgr: str, note: Note) -> str:
     """Returns the text of a note's log."""
     return ask(mgr, note, "show").decode()
+
+
+def made_by(mgr: str, log: bytes) -> str:
+    """Returns the text that the lines of a log make."""
+    return subprocess.run([mgr, "show"], input=log, capture_output=True).stdout.decode("utf-8", "replace")
 
 
 def edit(mgr: str, note: Note, replica: int, keys: bytes = b"") -> int:

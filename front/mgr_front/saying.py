@@ -1,6 +1,7 @@
-"""What a program says for itself, on standard error."""
+"""What a program says for itself on standard error, and what it asks on the terminal."""
 
 import sys
+from contextlib import suppress
 from typing import NoReturn
 
 from mgr_front.screen import write_all
@@ -9,17 +10,32 @@ from mgr_front.screen import write_all
 REFUSED, FAILED = 1, 3
 
 
-def say(text: bytes) -> None:
-    try:
-        write_all(text, to=2)
-    except OSError:
-        pass  # The terminal is gone, and with it whoever would read this.
-
-
 def tell(what: str, program: str = "mgr-live") -> None:
-    say(f"{program}: {what}\n".encode("utf-8", "surrogateescape"))
+    # If the terminal is gone, so is whoever would read this.
+    with suppress(OSError):
+        write_all(f"{program}: {what}\n".encode("utf-8", "surrogateescape"), to=2)
 
 
 def stop(what: str, status: int = FAILED, program: str = "mgr-live") -> NoReturn:
     tell(what, program)
     sys.exit(status)
+
+
+def answer(asked: str) -> str:
+    """Returns the line that is answered; ends the program if the answers end."""
+    try:
+        return input(asked).strip()
+    except UnicodeDecodeError:
+        return ""
+    except (EOFError, KeyboardInterrupt):
+        print()
+        stop("nothing was done")
+
+
+def choice(question: str, *letters: str, default: str = "") -> str:
+    """Asks for one of these letters until it is given. An empty answer is the default, if there is one."""
+    print(question, end="")
+    asked = f"{', '.join(letters[:-1])} or {letters[-1]}? "
+    while (answered := answer(asked).lower() or default) not in letters:
+        pass
+    return answered

@@ -16,6 +16,7 @@ from mgr_front.completion import ANSWERED, KILL_EMACS, NAMED, accept, complete
 from mgr_front.dispatch import Dispatcher
 from mgr_front.editor import BLOCK, LEAST_ROWS, MOST_ROWS, Editor
 from mgr_front.errands import COPY_ALL, LEAVE, YANK, Errand, switch_to
+from mgr_front.guests import place_apart
 from mgr_front.keys import CANCEL, NO_KEY, RETURN, TAB, Keys, Typed
 from mgr_front.minibuffer import Page, Question
 from mgr_front.notes import KeptFiles, found, why_not_written

@@ -80,23 +80,23 @@ class TestNumbers(Copies):
             copy.keep_number(1003)
 
     def test_a_number_that_is_used_is_not_drawn(self) -> None:
-        drawn = iter([2000, 3000])
-        self.assertEqual(copies.draw({2000}, lambda least, most: next(drawn)), 3000)
+        self.assertEqual(copies.draw({*range(1000, 3000), *range(3001, 65001)}), 3000)
 
 
-class TestLastEdits(Copies):
-    def test_a_merge_is_told_from_a_change_and_a_loss(self) -> None:
-        self.assertFalse(Copy(self.path).is_merged(b"text", log_of()))
-        Copy(self.path).remember(b"text", log_of())
-        for what, path, text, operations, wanted in [
-            ("nothing", self.path, b"text", 10, True),
-            ("a merge", self.path, b"text", 11, True),
-            ("another text", self.path, b"other", 11, False),
-            ("an older log", self.path, b"text", 9, False),
-            ("another note", self.path + "2", b"text", 10, False),
-        ]:
-            with self.subTest(what):
-                self.assertEqual(Copy(path).is_merged(text, log_of(operations)), wanted)
+class TestTextsPutLast(Copies):
+    def test_one_is_told_from_the_text_of_another_program(self) -> None:
+        self.assertFalse(Copy(self.path).is_put(b""))
+        copy = Copy(self.path)
+        copy.note_put(b"text", 9, 10)
+        copy.keep()
+        for path, text, wanted in [(self.path, b"text", True), (self.path, b"other", False), (self.path + "2", b"text", False)]:
+            self.assertEqual(Copy(path).is_put(text), wanted)
+
+    def test_a_log_that_grew_is_told_from_an_older_one(self) -> None:
+        copy = Copy(self.path)
+        for known, operations, wanted in [(0, 10, False), (10, 10, True), (10, 11, True), (10, 9, False)]:
+            copy.note_put(b"text", 9, known)
+            self.assertEqual(copy.has_grown(log_of(operations)), wanted)
 
 
 if __name__ == "__main__":

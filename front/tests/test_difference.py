@@ -39,7 +39,7 @@ class TestDifferences(unittest.TestCase):
         seeded = [tuple("".join(chance.choices("ab\n", k=chance.randrange(30))) for _ in range(2)) for _ in range(300)]
         for old, new in [*PAIRS, *seeded]:
             with self.subTest(old=old[:30], new=new[:30]):
-                self.assertEqual(spliced(old, splices(changes(old, new))), new)
+                self.assertEqual(spliced(old, splices(old, new)), new)
 
     def test_only_what_differs_is_changed(self) -> None:
         for old, new, wanted in [

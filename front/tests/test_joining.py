@@ -20,7 +20,7 @@ from mgr_front.copies import Copy
 from mgr_front.joining import meet
 from mgr_front.notes import Note, Refused
 from mgr_front.opening import Opening
-from mgr_front.options import read
+from mgr_front.options import HERE, read
 from mgr_front.saving import SAVE
 from mgr_front.shared import Others, SharedNote
 
@@ -101,7 +101,7 @@ class TestMeeting(InFolder):
         for text, wanted in (("mine", True), ("", False)):
             (self.folder / "note.ops").unlink()
             self.put(note=text)
-            with mock.patch("mgr_front.opening.edit", made):
+            with mock.patch.object(joining, "edit", made):
                 opened, company = self.meet(State("live"))
             self.assertEqual((opened.note.has_log, bool(company and company.note.adopts)), (wanted, not wanted))
             if wanted:
@@ -146,7 +146,9 @@ class TestChannels(unittest.TestCase):
 
     def made(self, *words: str) -> object:
         note = SharedNote("mgr", Note("note"), 7)
-        return joining.channel(read(["note", *words]), note, lambda event: None)
+        options = read(["note", *words])
+        options.way = options.way if "--with" in words else (HERE, "note")
+        return joining.channel(options, note, lambda event: None)
 
     def test_engines(self) -> None:
         with mock.patch.object(stream, "library", mock.Mock()):

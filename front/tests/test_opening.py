@@ -3,6 +3,7 @@
 import contextlib
 import io
 import os
+import pathlib
 import unittest
 from collections.abc import Iterator
 from unittest import mock
@@ -12,13 +13,9 @@ from context import InFolder
 from mgr_front import opening
 from mgr_front.copies import Copy
 from mgr_front.notes import Note, Refused
-from mgr_front.opening import Difference, Opening
+from mgr_front.opening import Opening
 from mgr_front.options import read
-from mgr_front.program import Log, log_of
-
-
-def log(size: int, operations: int) -> Log:
-    return Log(size, operations, 0, "same", {})
+from mgr_front.program import log_of
 
 
 class Openings(InFolder):
@@ -26,11 +23,11 @@ class Openings(InFolder):
         super().setUp()
         self.note = Note(str(self.folder / "note"))
         self.answers: list[str] = []
-        self.said: list[bytes] = []
+        self.said: list[str] = []
         for patch in (
             mock.patch("builtins.input", lambda _: self.answers.pop(0)),
             mock.patch("builtins.print"),
-            mock.patch.object(opening, "say", self.said.append),
+            mock.patch.object(opening, "tell", self.said.append),
             mock.patch.dict(os.environ, XDG_STATE_HOME=str(self.folder / "state")),
         ):
             patch.start()
@@ -70,7 +67,7 @@ class TestRefusedLogs(Openings):
         self.assertNotEqual(opened.number, 1001)
         said = ["note.ops.refused has what was left out", "note~ has what stood there"]
         self.assertEqual(self.remarks(opened), said)
-        self.assertEqual((self.said, self.text("note")), ([b"1 line is no operation\n"], "text"))
+        self.assertEqual((self.said, self.text("note")), (["1 line is no operation"], "text"))
 
     def test_a_number_that_is_given_may_be_one_that_lost_lines(self) -> None:
         self.put(note_ops="?text", note="text")
@@ -101,20 +98,44 @@ class TestDifferences(Openings):
                 self.assertEqual((self.text("note"), self.text(kept)), ("text~", "other"))
 
     def test_it_is_said_what_the_file_does_to_the_log(self) -> None:
-        self.put(note_ops="one\ntwo\n", note="one\ntwo and more\n")
-        found = Difference(self.mgr, self.note, log(0, 0))
-        self.assertIn(": in the log 0 characters are deleted, 9 are new\n", found.question())
+        self.put(note_ops="one\ntwo\nand more\n")
+        opened = self.open()
+        self.put(note="one\n2\n")
+        for begin, wanted in (
+            (None, "f  the file, of ..: 12 characters of the log deleted, 1 new\n"),
+            (b"one\ntwo\n", "f  both: as in the file, of .., 3 characters deleted, 1 new\n"),
+        ):
+            with mock.patch.object(opening.time, "strftime", return_value=".."):
+                self.assertIn(wanted, opened._question(begin, "one\n2\n"))
         (self.folder / "note").write_bytes(b"\xff")
         with self.assertRaises(Refused):
-            Difference(self.mgr, self.note, log(0, 0))
+            opened._takes_file(None)
+
+    def test_the_file_is_taken_without_the_last_words_of_the_log(self) -> None:
+        for then, wanted in (("", "one\ntwo\n"), ("one\n", "one\n"), ("one\ntwo\n", "one\n")):
+            self.put(note_ops="one\n", note="one\n")
+            opened = self.open()
+            if then:
+                # Keys may come to the log before its length is noted.
+                self.put(note_ops=then)
+                opened.put()
+            self.put(note_ops="one\ntwo\n", note="words of another\n")
+            given: list[object] = []
+
+            def made(mgr: str, note: Note, number: int, text: str) -> bool:
+                given.extend([pathlib.Path(note.log).read_text(), text, number in (1001, opened.number)])
+                return True
+
+            with mock.patch.object(opening, "put_text", made):
+                self.open("f")
+            self.assertEqual(given, [wanted, "words of another\n", False])
 
     def test_it_is_without_a_question_where_it_was_merged(self) -> None:
         self.put(note_ops="text", note="text")
         self.open().remember()
-        self.put(note_ops="text and more")
-        self.open()
-        self.assertEqual((self.text("note"), self.text("note~")), ("text and more", "text"))
-
+        self.put(note_ops="more and text")
+        self.open(words=("--take-file",))
+        self.assertEqual((self.text("note"), self.text("note~")), ("more and text", "text"))
 
     def test_it_is_without_a_question_after_a_kill(self) -> None:
         for log, text, answers, kept in (
@@ -147,10 +168,10 @@ class TestLargeLogs(Openings):
             opened = self.open()
             opened.copy.kept["compacted"] = before
             with mock.patch.multiple(opening, LARGE=large, TIMES=times):
-                with mock.patch.object(opened.copy, "compacted") as kept, mock.patch("os.path.getsize", return_value=7):
+                with mock.patch.object(opened.copy, "keep") as kept, mock.patch("os.path.getsize", return_value=7):
                     opened.remember()
             self.assertEqual("note.ops~" in self.names(), wanted)
-            self.assertEqual(kept.call_args, mock.call(7) if wanted else None)
+            self.assertEqual(mock.call(compacted=7) in kept.call_args_list, wanted)
 
 
 class TestBeginnings(Openings):

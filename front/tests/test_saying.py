@@ -7,8 +7,7 @@ from unittest import mock
 
 import context  # noqa: F401
 
-from mgr_front.asking import choice
-from mgr_front.saying import FAILED
+from mgr_front.saying import FAILED, choice
 
 NO_TEXT = UnicodeDecodeError("utf-8", b"\xff", 0, 1, "invalid start byte")
 
@@ -23,10 +22,10 @@ class TestChoices(unittest.TestCase):
 
     def test_without_an_answer_the_program_ends(self) -> None:
         for end in (EOFError(), KeyboardInterrupt()):
-            with mock.patch("mgr_front.asking.stop", side_effect=SystemExit(FAILED)) as stop:
+            with mock.patch("mgr_front.saying.stop", side_effect=SystemExit(FAILED)) as stop:
                 with self.assertRaises(SystemExit):
                     self.answer("x", end)
-            stop.assert_called_once_with("nothing was done", FAILED)
+            stop.assert_called_once_with("nothing was done")
 
 
 if __name__ == "__main__":
