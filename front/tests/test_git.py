@@ -10,9 +10,9 @@ from unittest import mock
 from writers import WithWriters, Writer
 
 from mgr_front.channels import State, git
-from mgr_front.channels.git import GitBranch, Pace, fault_of
+from mgr_front.channels.git import GitBranch, fault_of
 
-QUICK = Pace(commits=0.3, soon=0.1, later=0.2, lively=60)
+QUICK = {"COMMITS": 0.3, "SOON": 0.1, "LATER": 0.2, "AGAIN": (0.01, 0.2)}
 IDENTITY = {"GIT_CONFIG_GLOBAL": os.devnull, "GIT_CONFIG_NOSYSTEM": "1"}
 
 
@@ -38,7 +38,7 @@ class TestGit(WithWriters):
         settings = mock.patch.dict(os.environ, IDENTITY)
         settings.start()
         self.addCleanup(settings.stop)
-        sooner = mock.patch.object(git, "AGAIN", (0.01, 0.2))
+        sooner = mock.patch.multiple(git, **QUICK)
         sooner.start()
         self.addCleanup(sooner.stop)
         self.shared = self.folder / "shared.git"
@@ -51,9 +51,8 @@ class TestGit(WithWriters):
         author = ["-c", "user.name=Else", "-c", "user.email=else@example.org"]
         return subprocess.run(["git", *where, *author, *words], check=True, capture_output=True, text=True).stdout.strip()
 
-    def make(self, writer: Writer, pace: Pace = QUICK) -> GitBranch:
-        name = f"Writer {writer.replica}"
-        return GitBranch(writer, writer.post, f"{self.shared}#{self.branch}", name, pace)
+    def make(self, writer: Writer) -> GitBranch:
+        return GitBranch(writer, writer.post, f"{self.shared}#{self.branch}", f"Writer {writer.replica}")
 
     def tip(self) -> str:
         return self.git("show", f"{self.branch}:note.ops")
@@ -72,15 +71,16 @@ class TestGit(WithWriters):
             self.close(writer)
 
     def test_commits_are_apart_but_the_last_one(self) -> None:
-        one = self.begin(1, lambda writer: self.make(writer, Pace(commits=600, soon=0.1)), "a")
-        self.wait("live", one.word)
-        for sign in "bcd":
-            one.type(sign)
-        other = self.begin(2, self.make)
-        self.wait("a", other.signs)
-        self.assertEqual(len(self.authors()), 1)
-        self.close(one)
-        self.wait("abcd", other.signs)
+        with mock.patch.object(git, "COMMITS", 600):
+            one = self.begin(1, self.make, "a")
+            self.wait("live", one.word)
+            for sign in "bcd":
+                one.type(sign)
+            other = self.begin(2, self.make)
+            self.wait("a", other.signs)
+            self.assertEqual(len(self.authors()), 1)
+            self.close(one)
+            self.wait("abcd", other.signs)
         self.assertEqual(len(self.authors()), 2)
 
     def test_many_who_push_at_once(self) -> None:
