@@ -8,7 +8,7 @@ import tempfile
 from collections.abc import Iterable, Sequence
 from dataclasses import dataclass
 
-from mgr_front.channels import Apart, shown
+from mgr_front.channels import CONFLICT, FAULTS, Apart, shown
 from mgr_front.notes import Note
 
 # What mgr says of a log that is tied to nothing in a note.
@@ -35,9 +35,8 @@ class SharedNote:
         self.name, self.log = note.name, note.log
         # Its claims, and how its log was then.
         self.known: tuple[object, bytes] = None, b""
-        # Lines that it did not accept, and what mgr said of them.
+        # Lines of another note, which it did not accept.
         self.refused: tuple[bytes, ...] = ()
-        self.refusal = ""
 
     def _run(self, *words: str, given: bytes = b"") -> bytes:
         return written(run(self.mgr, *words, given=given))
@@ -111,8 +110,10 @@ class SharedNote:
             copy = os.path.join(folder, "copy")
             shutil.copyfile(self.log, copy + ".ops")
             done = run(self.mgr, "merge", "--", copy, "-", given=text_of(others.lines))
-        self.refusal = done.stderr.decode("utf-8", "replace").strip()
-        return not done.returncode or OTHER in self.refusal and bool(places(own) & places(theirs))
+        said = done.stderr.decode("utf-8", "replace")
+        if CONFLICT in said:
+            raise Apart(FAULTS[CONFLICT], "conflict")
+        return not done.returncode or OTHER in said and bool(places(own) & places(theirs))
 
 
 def run(mgr: str, *words: str, given: bytes = b"") -> "subprocess.CompletedProcess[bytes]":

@@ -48,7 +48,8 @@ class Hubs(InFolder):
     def begin(self) -> None:
         said = self.open.enter_context(tempfile.TemporaryFile())
         editor = Editor(self.mgr, ["--", self.path], 3, said)
-        hub._await_note(editor)
+        while not editor.is_settled:
+            list(editor.read())
         tcp = socket.create_server((meeting.HOST, 0))
         self.port = tcp.getsockname()[1]
         self.listeners = [tcp, meeting.listen(self.path)]
@@ -198,7 +199,7 @@ class TestWriters(Hubs):
         alice.write(line(1, 13))
         self.expect(alice.state, "conflict")
         self.assertIn("alice (1)", alice.why())
-        self.expect(lambda: any("conflict" in each and "alice" in each for each in self.printed), True)
+        self.expect(lambda: any("Conflict" in each and "alice" in each for each in self.printed), True)
 
     def test_another_note_gives_nothing_away(self) -> None:
         alice = self.join("alice", 1)
@@ -208,7 +209,7 @@ class TestWriters(Hubs):
         self.expect(other.state, "refused")
         self.assertEqual((self.log(), other.lines()), ([line(1, 99)], {line(7, 2)}))
         self.assertEqual(set(other.note.refused), {line(1, 99)})
-        self.expect(lambda: "other (2): it has another note" in self.printed, True)
+        self.expect(lambda: "other (2): another note" in self.printed, True)
 
 
 class TestStrangers(Hubs):

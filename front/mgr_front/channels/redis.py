@@ -9,7 +9,7 @@ from typing import Any
 from mgr_front.channels import Apart, Post
 from mgr_front.channels.presence import Presence
 from mgr_front.channels.stream import ANSWER, BY, FIRST, LINES, Stream, lines_of
-from mgr_front.channels.worker import Worker
+from mgr_front.channels.worker import Descriptors, Worker
 from mgr_front.copies import digest
 from mgr_front.shared import SharedNote, text_of
 from mgr_front.wire import operations
@@ -47,8 +47,8 @@ class RedisStream(Worker):
                 self.stream.say("leave", replica=self.note.replica)
             self.stream.link.connection_pool.disconnect()
 
-    def descriptors(self) -> tuple[list[int], list[int]]:
-        return [self.ear.connection._sock.fileno()] if self.ear else [], []
+    def descriptors(self) -> Descriptors:
+        return [self.ear.connection._sock] if self.ear else [], []
 
     def join(self) -> str:
         """Takes all of the stream, and gives what it lacks: one at a time does, after what others gave."""

@@ -7,15 +7,19 @@ import time
 from abc import ABC, abstractmethod
 from collections.abc import Iterable, Sequence
 from contextlib import AbstractContextManager
+from typing import Any
 
 from mgr_front.channels import Apart, Place, Post, State, Took
 from mgr_front.channels.presence import Presence
 from mgr_front.mailbox import Mailbox
 from mgr_front.shared import Others, SharedNote
 
-# Seconds before it is tried again after a break: the first ones, and the most.
+# Seconds before it is tried again after a break: at first, and at most.
 FIRST_PAUSE, MOST_PAUSE = 1.0, 30.0
 FINAL = "refused", "conflict"
+
+# What is to be read and written, as select has it.
+Descriptors = tuple[Sequence[Any], Sequence[Any]]
 
 
 class Worker(ABC):
@@ -35,6 +39,8 @@ class Worker(ABC):
         self.told: list[bytes] = []
         self._given: Mailbox[Sequence[bytes]] = Mailbox()
         self._state = State("")
+        # Seconds until it is tried again after a break.
+        self.pause = FIRST_PAUSE
         self._thread = threading.Thread(target=self._run, daemon=True)
 
     def connected(self) -> AbstractContextManager[object]:
@@ -52,7 +58,7 @@ class Worker(ABC):
     def leave(self) -> None:
         """Waits until what was passed on last has been taken."""
 
-    def descriptors(self) -> tuple[list[int], list[int]]:
+    def descriptors(self) -> Descriptors:
         """Returns what is to be read and written: its waits end once that can be."""
         return [], []
 
@@ -128,24 +134,19 @@ class Worker(ABC):
 
     def _run(self) -> None:
         self.say(State("joining"))
-        pause = FIRST_PAUSE
-        while not self._work():
-            if self.is_leaving or self._state.word in FINAL:
-                return
-            # One that was live joins again soon.
-            pause = FIRST_PAUSE if self._was_live else pause
-            until = time.monotonic() + pause
+        while not (self._has_worked() or self.is_leaving or self._state.word in FINAL):
+            until = time.monotonic() + self.pause
             while not self.is_leaving and time.monotonic() < until:
                 self.wait(until - time.monotonic())
-            pause = min(2 * pause, MOST_PAUSE)
+            self.pause = min(2 * self.pause, MOST_PAUSE)
 
-    def _work(self) -> bool:
+    def _has_worked(self) -> bool:
         """Joins and has turns; answers whether that went well up to the end."""
-        self._was_live = False
         try:
             with self.connected():
                 self.join_all()
-                self._was_live = True
+                # One that was live joins again soon.
+                self.pause = FIRST_PAUSE
                 self._stay()
             return True
         except Apart as apart:
