@@ -66,9 +66,7 @@ class TestGit(WithWriters):
         self.wait("abc", other.signs)
         self.assertEqual(self.authors(), ["Writer 1|Writer 1", "Writer 2|Writer 2", "Writer 1|Writer 1"])
         self.assertEqual(self.git("rev-list", "--merges", self.branch), "")
-        for writer in (one, other):
-            self.assertEqual([state.word for state in writer.states], ["joining", "live"])
-            self.close(writer)
+        self.expect_well(one, other)
 
     def test_commits_are_apart_but_the_last_one(self) -> None:
         with mock.patch.object(git, "COMMITS", 600):
@@ -126,16 +124,14 @@ class TestGit(WithWriters):
         self.git("add", ".", folder=clone)
         self.git("commit", "-qm", "else", folder=clone)
         self.git("push", "-q", "origin", "HEAD:notes", folder=clone)
-        one = self.begin(1, self.make, "a")
-        self.wait("live", one.word)
+        self.first()
         self.wait(["below/note.ops", "note.ops", "text"], lambda: self.git("ls-tree", "-r", "--name-only", "notes").split())
         self.assertEqual(self.git("show", "notes:below/note.ops"), "below")
         self.assertFalse((clone / "note.ops").exists())
 
     def test_the_branch_that_is_the_head(self) -> None:
         self.branch = ""
-        one = self.begin(1, self.make, "a")
-        self.wait("live", one.word)
+        one = self.first()
         # A repository without a commit names no head.
         self.assertEqual(self.git("branch", "--format=%(refname:short)"), "main")
         self.close(one)
@@ -154,8 +150,7 @@ class TestGit(WithWriters):
         self.git("add", ".", folder=own)
         self.git("commit", "-qm", "else", folder=own)
         self.shared = own
-        one = self.begin(1, self.make, "a")
-        self.wait("live", one.word)
+        self.first()
         self.assertEqual(self.git("status", "--porcelain"), "")
         self.assertEqual(self.git("ls-tree", "--name-only", "notes"), "note.ops")
         self.branch = "main"
@@ -166,9 +161,7 @@ class TestGit(WithWriters):
 
     def test_a_repository_that_is_not_there(self) -> None:
         self.shared = self.folder / "absent"
-        one = self.begin(1, self.make, "a")
-        self.wait("alone", one.word)
-        self.assertEqual(one.states[-1].why, f"fatal: '{self.shared}' does not appear to be a git repository")
+        self.expect_apart("alone", f"fatal: '{self.shared}' does not appear to be a git repository")
 
     def test_a_log_that_is_spoiled_is_said_and_stays(self) -> None:
         one, other = self.pair()

@@ -245,6 +245,7 @@ class TestStrangers(Hubs):
         self.assertEqual(self.hub.editor.status.frame[0].replace("a", ""), "")
 
     def test_others_do_not_wait_for_one_that_takes_nothing(self) -> None:
+        self.open.enter_context(mock.patch("mgr_front.wire.STUCK", 600))
         slow = self.stranger(self.hello())
         # Else the system takes more and more for it.
         slow.setsockopt(socket.SOL_SOCKET, socket.SO_RCVBUF, 65536)
@@ -257,7 +258,8 @@ class TestStrangers(Hubs):
         self.expect(lambda: len(bob.lines()), 600)
         came = b""
         while b'{"op":"behind"}\n' not in came:
-            came += slow.recv(1 << 20)
+            came += (block := slow.recv(1 << 20))
+            self.assertTrue(block)
         self.assertLess(len(came), 2_000_000)
         for i in range(600, 1200):
             alice.write(text % (1 + 4000 * i))

@@ -58,13 +58,12 @@ class Folder(Worker):
         self.files: dict[str, Taken] = {}
         self.poll, self.last_append = LEAST_POLL, 0.0
 
-    def join(self) -> str:
+    def join(self) -> None:
         """Reads all files; what they lack is appended to the own one."""
         self.files, self.poll = {}, LEAST_POLL
         lines = b"".join(self._read(name, stamp) for name, stamp in self._stamps().items())
-        given, others = self.compare(lines, mends=True)
+        given, _ = self.compare(lines, mends=True)
         self._append(given)
-        return others.remark
 
     def turn(self) -> float:
         stamps = self._stamps()

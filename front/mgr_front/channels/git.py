@@ -65,13 +65,12 @@ class GitBranch(Worker):
         self.is_ahead = False
         self.changed = self.next_look = self.next_commit = 0.0
 
-    def join(self) -> str:
+    def join(self) -> None:
         self.tip = None
         self._open()
         self._look()
         if self.is_ahead:
             self._commit()
-        return ""
 
     def turn(self) -> float:
         if time.monotonic() >= self.next_look:
@@ -94,8 +93,8 @@ class GitBranch(Worker):
                 self.tip = self._word("rev-parse", "--verify", self.ref)
             entry = self._word("ls-tree", self.tip, "--", self.file) if tip else ""
             self.tip_log = self._git("cat-file", "blob", entry.split()[2]) if entry else b""
-            given, others = self.compare(self.tip_log)
-            self.claims, self.is_ahead = others.claims, bool(given)
+            given, self.claims = self.compare(self.tip_log)
+            self.is_ahead = bool(given)
             self.changed = time.monotonic()
         is_lively = time.monotonic() < self.changed + LIVELY
         self.next_look = time.monotonic() + (SOON if is_lively else LATER)

@@ -15,7 +15,7 @@ from mgr_front.channels import Apart, Post, State
 from mgr_front.channels.presence import Presence
 from mgr_front.channels.worker import Descriptors, Worker
 from mgr_front.copies import digest
-from mgr_front.shared import Others, SharedNote, text_of
+from mgr_front.shared import SharedNote, text_of
 from mgr_front.signals import held_back
 from mgr_front.wire import VERSION, Broken, Wire, claims_said
 
@@ -97,7 +97,7 @@ class Hub(Worker):
     def close(self, seconds: float) -> bool:
         return super().close(seconds) and self.is_taken
 
-    def join(self) -> str:
+    def join(self) -> None:
         """Says hello and what the note has; what it lacks comes, and then what the hub has, in short."""
         self._say("hello", version=VERSION, replica=self.note.replica, name=self.presence.name, token=self.token)
         until = time.monotonic() + FIRST
@@ -106,7 +106,6 @@ class Hub(Worker):
                 raise Broken("no answer")
             self._talk()
             self.wait(0.0 if self.is_joined else 1.0)
-        return ""
 
     def turn(self) -> float:
         assert self.wire
@@ -166,7 +165,7 @@ class Hub(Worker):
         if self.is_joined:
             return self.note.missing(claims)
         try:
-            lacked = self.accept(Others(self.came, claims))
+            lacked = self.accept(self.came, claims)
         except Apart as apart:
             wire.say("refused", why=apart.state.why)
             wire.write()

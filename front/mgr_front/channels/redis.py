@@ -30,6 +30,8 @@ class RedisStream(Worker):
         self.heard = 0.0
         # How many entries of the stream were read, and the last one; when something came or was told.
         self.count, self.last, self.changed = 0, FIRST, 0.0
+        # What was heard on the channel before its entry was read.
+        self.early: set[bytes] = set()
 
     @contextmanager
     def connected(self) -> Iterator[None]:
@@ -50,33 +52,35 @@ class RedisStream(Worker):
     def descriptors(self) -> Descriptors:
         return [self.ear.connection._sock] if self.ear else [], []
 
-    def join(self) -> str:
+    def join(self) -> None:
         """Takes all of the stream, and gives what it lacks: one at a time does, after what others gave."""
         self.stream.check()
-        given, remark = self._compare_all()
+        given = self._compare_all()
         if given:
             with self.stream.link.lock(self.stream.giver, timeout=GIVING):
                 if self.stream.after(self.last) != ([], self.count):
-                    given, remark = self._compare_all()
+                    given = self._compare_all()
                 if given:
                     self.stream.add(text_of(given))
-        return remark
 
-    def _compare_all(self) -> tuple[list[bytes], str]:
-        """Takes all of the stream that the note lacks; returns what the stream lacks, and what was left out."""
+    def _compare_all(self) -> list[bytes]:
+        """Takes all of the stream that the note lacks, and returns what the stream lacks."""
         entries = self.stream.after(FIRST)
         self.last, self.count = entries[0][-1][0] if entries[0] else FIRST, entries[1]
-        given, others = self.compare(lines_of(entries), mends=True)
+        self.early.clear()
+        given, _ = self.compare(lines_of(entries), mends=True)
         self.changed = time.monotonic()
-        return given, others.remark
+        return given
 
     def turn(self) -> float:
         said = self._said()
         if self.heard < self.presence.signed < time.monotonic() - ANSWER:
             raise Apart("the connection is gone")
         if self.told:
-            count = len(self.told)
-            self.stream.add(text_of(self.told))
+            lines, count = text_of(self.told), len(self.told)
+            # So others have it while the server writes the entry to its disk.
+            self.stream.say("lines", lines=lines.decode())
+            self.stream.add(lines)
             self.passed(count)
             self.changed = time.monotonic()
         digests = {told.get("digest") for told in said if told.get("op") == "alive"}
@@ -88,7 +92,7 @@ class RedisStream(Worker):
         return min(self.presence.turn(self.stream.say, self.note.claims), ANSWER)
 
     def _said(self) -> list[dict[str, Any]]:
-        """Returns what was said on the channel; what is said of who is where is taken note of."""
+        """Returns what was said on the channel. Lines, and who is where, are taken."""
         said = []
         while message := self.ear.get_message():
             with suppress(ValueError, RecursionError, TypeError):
@@ -98,6 +102,10 @@ class RedisStream(Worker):
             self.presence.take(told)
             if told.get("by") == self.stream.by:
                 self.heard = time.monotonic()
+            elif told.get("op") == "lines":
+                lines = str(told.get("lines")).encode("utf-8", "replace")
+                self.early.add(lines)
+                self.take(operations(lines.splitlines()))
         return said
 
     def _look(self) -> None:
@@ -108,4 +116,6 @@ class RedisStream(Worker):
         elif entries:
             self.last, self.count, self.changed = entries[-1][0], size, time.monotonic()
             others = [members.get(LINES, b"") for _, members in entries if members.get(BY) != self.stream.by.encode()]
-            self.take(operations(b"\n".join(others).splitlines()))
+            news = [lines for lines in others if lines not in self.early]
+            self.take(operations(b"\n".join(news).splitlines()))
+            self.early.difference_update(others)
