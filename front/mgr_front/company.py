@@ -36,7 +36,7 @@ class Company:
         # Lines that mgr was not given yet, and when the last one came.
         self.lines: deque[bytes] = deque()
         self.took = 0.0
-        # Who is there, and was; what they wrote since the last key, and until when that is marked; what mgr knows of that.
+        # Who is there, and was; what they wrote since the last key, until when that is marked, what mgr knows of it.
         self.who: Mapping[int, tuple[str, Place]] = {}
         self.names: dict[int, str] = {note.replica: "I"}
         self.fresh: dict[Identifier, float] = {}

@@ -235,7 +235,8 @@ def serve(mgr: str, note: Note, number: int, port: int | None) -> int:
             stop(f"port {port}: {os.strerror(error.errno or 0)}", FAILED, PROGRAM)
         editor = Editor(mgr, ["--replica", str(number), "--", note.name], ROWS, said)
         try:
-            while not editor.is_settled:  # Once mgr has the note it has the lock: a socket that is there is a stale one.
+            # Once mgr has the note it has the lock: a socket that is there is a stale one.
+            while not editor.is_settled:
                 list(editor.read())
             listeners.append(meeting.listen(note.name))
             log(_served(note, port))

@@ -41,7 +41,7 @@ class Presence:
         self.post(Present({}))
 
     def move(self, place: Place) -> bool:
-        """Takes note of this writer's place; answers whether a turn is needed: up to that further ones change nothing."""
+        """Takes note of this writer's place; answers whether a turn is needed, if none is due already."""
         before, self.place = self.place, place
         return place != before == self.said
 
