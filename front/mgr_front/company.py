@@ -6,7 +6,7 @@ from collections import deque
 from collections.abc import Callable, Mapping
 
 from mgr_front.cells import width
-from mgr_front.channels import Event, Place, State, Took
+from mgr_front.channels import CONFLICT, FAULTS, Event, Place, State, Took
 from mgr_front.channels.worker import FINAL, Worker
 from mgr_front.editor import Talk
 from mgr_front.mailbox import Mailbox
@@ -19,11 +19,6 @@ from mgr_front.wire import is_operation, said
 MOST_GIVEN = 16384
 # Seconds for which it is marked what others wrote, and so many characters at most.
 FRESH, MOST_FRESH = 2.0, 200
-CONFLICT, FAR = "Conflict", "Far"
-FAULTS = {
-    CONFLICT: "two characters have one name: these copies do not become one any more",
-    FAR: "a counter too far ahead was not taken",
-}
 
 # Counter and replica.
 Identifier = tuple[int, int]
@@ -41,7 +36,7 @@ class Company:
         # Lines that mgr was not given yet, and when the last one came.
         self.lines: deque[bytes] = deque()
         self.took = 0.0
-        # Who is there, and was; what they wrote since the last key, and until when that is marked; what mgr knows of that.
+        # Who is there, and was; what they wrote since the last key, until when that is marked, what mgr knows of it.
         self.who: Mapping[int, tuple[str, Place]] = {}
         self.names: dict[int, str] = {note.replica: "I"}
         self.fresh: dict[Identifier, float] = {}
@@ -69,8 +64,6 @@ class Company:
         """Takes note of how the channel stands."""
         if not self.is_shared or state.word == "joining" and self.state.word == "alone":
             return
-        if state.word == "refused" and CONFLICT in self.note.refusal:
-            state = State("conflict", FAULTS[CONFLICT])
         if state.word == "alone" != self.state.word:
             self.since = time.time()
         if state.word == "alone" and state != self.state:

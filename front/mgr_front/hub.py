@@ -13,7 +13,7 @@ from functools import partial
 from typing import Any
 
 from mgr_front import meeting
-from mgr_front.channels import Apart
+from mgr_front.channels import CONFLICT, FAULTS, Apart, shown
 from mgr_front.channels.presence import ALIVE, place_of
 from mgr_front.copies import Copy, digest
 from mgr_front.editor import Editor
@@ -22,7 +22,7 @@ from mgr_front.mailbox import Mailbox
 from mgr_front.notes import KeptFiles, Note, Refused
 from mgr_front.opening import differ, mend
 from mgr_front.options import HubOptions, read_hub
-from mgr_front.peers import MOVE, Peer
+from mgr_front.peers import Peer
 from mgr_front.program import edit, explained, find, log_of, shell_status
 from mgr_front.saving import REST, SAVE
 from mgr_front.saying import FAILED, stop, tell
@@ -37,7 +37,8 @@ ROWS = 3
 MOST_PEERS = 200
 # Seconds between two savings, and until mgr is said to save at the end.
 REST_AFTER, PATIENCE = 1.0, 5.0
-CONFLICT = "conflict: two characters have one name; copies of both do not become one"
+# Two places of a peer that come within so many seconds are one.
+MOVE = 0.1
 
 
 class Hub:
@@ -45,14 +46,14 @@ class Hub:
 
     def __init__(self, editor: Editor, note: SharedNote, listeners: Sequence[socket.socket], signals: Signals) -> None:
         self.editor, self.note, self.listeners, self.signals = editor, note, listeners, signals
-        self.peers: dict[int, Peer] = {}
+        self.peers: list[Peer] = []
         # What mgr was given of whom, by the numbers of reports, and what it took and has not saved.
         self.given: deque[tuple[int, Peer, bytes]] = deque()
         self.unsaved: list[bytes] = []
         self.saving: tuple[int, int] | None = None
         self.fails = False
         self.rested = self.signed = time.monotonic()
-        # What programs that look at the log answer, each for a peer.
+        # What is to be done with what programs say that look at the log.
         self.pool = ThreadPoolExecutor(2)
         self.answers: Mailbox[Callable[[], None]] = Mailbox()
         self.kept = KeptFiles()
@@ -62,7 +63,7 @@ class Hub:
         """Goes on until a signal comes; `EOFError` if mgr ends before."""
         while self.signals.first is None:
             self._step()
-        for peer in self.peers.values():
+        for peer in self.peers:
             peer.link.close()
 
     def _step(self) -> None:
@@ -70,30 +71,27 @@ class Hub:
 
         A block is read of each peer once mgr has answered all blocks before.
         """
-        heard = [number for number, peer in self.peers.items() if peer.is_heard and self.editor.is_answered]
+        heard = [peer for peer in self.peers if peer.is_heard and self.editor.is_answered]
         reading = [self.signals.woken, self.editor.written, self.answers.woken, *self.listeners, *heard]
-        writing = [number for number, peer in self.peers.items() if peer.has_more]
-        writing += [self.editor.keys] * bool(self.editor.waiting)
+        writing = [*[peer for peer in self.peers if peer.waiting], *[self.editor.keys] * bool(self.editor.waiting)]
         ready, free, _ = select.select(reading, writing, [], REST_AFTER if self.unsaved or self.peers else ALIVE)
         if self.editor.keys in free:
             self.editor.write()
-        if self.editor.written in ready:
-            for status in self.editor.read():
-                self._note(status)
-        for answer in self.answers.take() if self.answers.woken in ready else ():
+        for status in self.editor.read() if self.editor.written in ready else ():
+            self._note(status)
+        for answer in self.answers.take():
             answer()
         for listener in self.listeners:
             if listener in ready:
-                self._accept(listener)
-        for number, peer in list(self.peers.items()):
-            if self.peers.get(number) is peer:
-                self._serve(peer, number in ready, number in free)
-        self._work()
+                self._accept(listener.accept()[0])
+        for peer in [*self.peers]:
+            if peer in self.peers:
+                self._serve(peer, peer in ready, peer in free)
+        self._rest()
 
-    def _accept(self, listener: socket.socket) -> None:
-        link, _ = listener.accept()
+    def _accept(self, link: socket.socket) -> None:
         if len(self.peers) < MOST_PEERS:
-            self.peers[link.fileno()] = Peer(link)
+            self.peers.append(Peer(link))
         else:
             link.close()
 
@@ -102,55 +100,48 @@ class Hub:
         try:
             if is_free:
                 peer.write()
-            for came in peer.take() if is_ready else ():
+            for told in peer.take() if is_ready else ():
                 if not peer.is_cut:
-                    self._hear(peer, came)
-            if peer.is_behind:
-                peer.drop()
+                    self._hear(peer, told)
+            if peer.is_leaving and not any(giver is peer for _, giver, _ in self.given):
+                peer.cut("bye")
             peer.check(time.monotonic())
-            if peer.is_cut and not peer.has_more:
-                raise Broken("")
         except OSError as error:
             self._drop(peer, str(error.strerror or error))
 
     def _others(self, peer: Peer) -> list[Peer]:
-        return [other for other in self.peers.values() if other is not peer and other.is_known]
+        return [other for other in self.peers if other is not peer and other.replica]
 
     def _drop(self, peer: Peer, why: str) -> None:
         """Leaves a peer."""
-        del self.peers[peer.reading]
+        self.peers.remove(peer)
         peer.link.close()
-        for other in self._others(peer) if peer.is_known else ():
+        for other in self._others(peer) if peer.replica else ():
             other.say("leave", replica=peer.replica)
-        if peer.is_known and (peer.is_leaving or not peer.is_cut):
-            log(f"{peer.title} left" + f": {why}" * (why != "" and not peer.is_leaving))
+        if peer.replica and (peer.is_leaving or not peer.is_cut):
+            log(f"{peer.title} left" + f": {why}" * bool(why and not peer.is_leaving))
 
     def _hear(self, peer: Peer, told: dict[str, Any] | bytes) -> None:
         """Does what a peer asks for; gives mgr its operations."""
         now = time.monotonic()
-        if not peer.is_known:
+        if not peer.replica:
             self._greet(peer, told)
         elif isinstance(told, bytes):
             self.given.append((self.editor.report(told), peer, told))
-            peer.unanswered += 1
         elif (place := place_of(told)) and now > peer.moved + MOVE:
             peer.moved = now
             for other in self._others(peer):
                 other.say("place", replica=peer.replica, name=peer.name, place=place)
         elif told["op"] == "claims":
-            claims = peer.take_claims(told)
-            if claims is not None:
-                self._look(partial(self._missing, claims), partial(self._answer, peer))
+            self._look(partial(self._missing, told["claims"]), peer.answer)
         elif told["op"] == "bye":
             peer.is_leaving = True
         elif told["op"] == "refused":
-            log(f"{peer.title}: {CONFLICT if 'Conflict' in str(told.get('why')) else 'it has another note'}")
+            log(f"{peer.title}: {shown(str(told.get('why')))}")
 
     def _greet(self, peer: Peer, told: dict[str, Any] | bytes) -> None:
         """Lets a peer in, unless somebody else has its number, and gives it what is not in the log yet."""
         try:
-            if isinstance(told, bytes) or told["op"] != "hello":
-                raise Broken("no hello")
             peer.greet(told)
             for other in self._others(peer):
                 if other.replica == peer.replica and other.token == peer.token:
@@ -165,7 +156,7 @@ class Hub:
         peer.pass_on(text_of(self.unsaved))
         log(f"{peer.title} joined")
 
-    def _look(self, look: Callable[[], Any], then: Callable[[Any], None]) -> None:
+    def _look(self, look: Callable[[], bytes], then: Callable[[bytes], None]) -> None:
         """Looks at the log in a program, and does something with what comes of it: nobody waits for that."""
 
         def work() -> None:
@@ -181,59 +172,46 @@ class Hub:
         """Returns what somebody with these claims lacks of the log, and then what that has, in short."""
         return text_of(self.note.missing(claims)) + claims_said(self.note.claims())
 
-    def _answer(self, peer: Peer, lines: bytes) -> None:
-        if self.peers.get(peer.reading) is peer:
-            peer.answer(lines)
-
     def _note(self, status: Status) -> None:
         """Passes on what mgr took, and takes note of what it saved."""
         while self.given and self.given[0][0] <= status.reports:
             number, peer, line = self.given.popleft()
-            peer.unanswered -= 1
-            fault = status.refused.get(number)
-            if fault:
-                self._refuse(peer, fault)
-            else:
-                self.unsaved.append(line)
-                for other in self._others(peer):
-                    other.pass_on(line + b"\n")
+            if number in status.refused:
+                self._refuse(peer, status.refused[number])
+                continue
+            self.unsaved.append(line)
+            for other in self._others(peer):
+                other.pass_on(line + b"\n")
         if self.saving and status.reports >= self.saving[0] and not status.more:
-            fails, self.fails = self.fails, status.saved != "ok"
-            if self.fails and not fails:
-                log(f"not saved: {status.saved}")
-            if not self.fails:
+            if status.saved == "ok":
                 del self.unsaved[: self.saving[1]]
                 for said in self.kept.since(self.note.name):
                     log(f"saved, and {said}")
-            self.saving = None
+            elif not self.fails:
+                log(f"not saved: {status.saved}")
+            self.fails, self.saving = status.saved != "ok", None
 
     def _refuse(self, peer: Peer, fault: str) -> None:
         """mgr did not take something of a peer: nothing more of it is taken, and both are told."""
         if peer.is_cut:
             return
-        is_conflict = fault == "Conflict"
-        log(f"{peer.title}: {CONFLICT if is_conflict else fault}")
-        if is_conflict:
-            peer.cut("conflict", f"what {peer.title} and others wrote: {CONFLICT}")
-        else:
-            peer.cut("refused", f"the hub did not take a line: {fault}")
+        why = f"{fault}: {FAULTS.get(fault, 'the hub did not take a line')}"
+        log(f"{peer.title}: {why}")
+        peer.cut("conflict" if fault == CONFLICT else "refused", f"{peer.title}: {why}")
 
-    def _work(self) -> None:
-        """Goes on with what waits, and saves and gives signs of life from time to time."""
+    def _rest(self) -> None:
+        """Saves, and gives signs of life, from time to time."""
         now = time.monotonic()
         if self.unsaved and not self.saving and now > self.rested + REST_AFTER:
             self.rested, self.saving = now, (self.editor.report(REST), len(self.unsaved))
         if now > self.signed + ALIVE and self.peers:
             self.signed = now
             self._look(self.note.claims, self._sign)
-        for peer in self.peers.values():
-            if peer.is_leaving and not (peer.unanswered or peer.is_cut):
-                peer.cut("bye", "")
 
     def _sign(self, claims: bytes) -> None:
         """Gives a sign of life, with what the log has if all is saved."""
-        for peer in self.peers.values():
-            if peer.is_known:
+        for peer in self.peers:
+            if peer.replica:
                 peer.say("alive", digest=None if self.unsaved else digest(claims))
 
 
@@ -257,7 +235,9 @@ def serve(mgr: str, note: Note, number: int, port: int | None) -> int:
             stop(f"port {port}: {os.strerror(error.errno or 0)}", FAILED, PROGRAM)
         editor = Editor(mgr, ["--replica", str(number), "--", note.name], ROWS, said)
         try:
-            _await_note(editor)
+            # Once mgr has the note it has the lock: a socket that is there is a stale one.
+            while not editor.is_settled:
+                list(editor.read())
             listeners.append(meeting.listen(note.name))
             log(_served(note, port))
             Hub(editor, SharedNote(mgr, note, number), listeners, signals).run()
@@ -274,13 +254,6 @@ def serve(mgr: str, note: Note, number: int, port: int | None) -> int:
             said.seek(0)
             tell(explained(status, said.read().decode(), note, bool(editor.status.frame)), PROGRAM)
     return shell_status(status)
-
-
-def _await_note(editor: Editor) -> None:
-    """Waits until mgr has the note, and with it the lock: then a socket of it that is there is a stale one."""
-    while not editor.is_settled:
-        for _ in editor.read():
-            pass
 
 
 def _served(note: Note, port: int | None) -> str:

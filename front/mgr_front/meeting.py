@@ -6,7 +6,7 @@ Who may read the folder is the person alone. So is who may connect.
 import os
 import socket
 from collections.abc import Iterator
-from contextlib import contextmanager
+from contextlib import contextmanager, suppress
 
 from mgr_front.copies import digest, state_folder
 
@@ -25,11 +25,11 @@ def folder() -> str:
 
 
 @contextmanager
-def _short(path: str) -> Iterator[str]:
-    """Gives the path of a socket a short name: the system takes no long one."""
-    opened = os.open(os.path.dirname(path), os.O_RDONLY | os.O_DIRECTORY)
+def _place(path: str) -> Iterator[str]:
+    """Gives the path of a note's socket, by a short name of its folder: the system takes no long one."""
+    opened = os.open(folder(), os.O_RDONLY | os.O_DIRECTORY)
     try:
-        yield f"/proc/self/fd/{opened}/{os.path.basename(path)}" if len(os.fsencode(path)) > 100 else path
+        yield f"/proc/self/fd/{opened}/{socket_name(path)}"
     finally:
         os.close(opened)
 
@@ -37,26 +37,19 @@ def _short(path: str) -> Iterator[str]:
 def listen(path: str) -> socket.socket:
     """Returns a listener for this note, for its owner alone; whoever has the note takes the place of a stale one."""
     os.makedirs(folder(), mode=0o700, exist_ok=True)
-    place = os.path.join(folder(), socket_name(path))
+    leave(path)
     made = socket.socket(socket.AF_UNIX)
-    before = os.umask(0o177)
-    try:
-        with _short(place) as name:
-            if os.path.lexists(place):
-                os.unlink(place)
-            made.bind(name)
-    finally:
-        os.umask(before)
+    with _place(path) as place:
+        made.bind(place)
+        os.chmod(place, 0o600)
     made.listen(BACKLOG)
     return made
 
 
 def leave(path: str) -> None:
     """Removes the socket of this note."""
-    try:
+    with suppress(OSError):
         os.unlink(os.path.join(folder(), socket_name(path)))
-    except OSError:
-        pass
 
 
 def connect(path: str) -> socket.socket:
@@ -64,8 +57,8 @@ def connect(path: str) -> socket.socket:
     made = socket.socket(socket.AF_UNIX)
     made.settimeout(SECONDS)
     try:
-        with _short(os.path.join(folder(), socket_name(path))) as name:
-            made.connect(name)
+        with _place(path) as place:
+            made.connect(place)
     except OSError:
         made.close()
         raise

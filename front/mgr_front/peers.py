@@ -5,7 +5,7 @@ import time
 from typing import Any
 
 from mgr_front.channels import MOST_NAME, shown
-from mgr_front.wire import VERSION, Broken, Wire
+from mgr_front.wire import MOST_WAITING, VERSION, Broken, Wire
 
 # So many bytes may be on their way to a peer beside what waits here.
 SENT = 65536
@@ -13,8 +13,6 @@ SENT = 65536
 BURST, RATE, FLOOD = 1 << 23, 1 << 20, 1 << 27
 # Seconds for the first word, and for the last line to one that is cut off.
 FIRST, LAST = 10.0, 2.0
-# Two places of it that come within so many seconds are one.
-MOVE = 0.1
 MOST_NUMBER = 65535
 
 
@@ -22,22 +20,15 @@ class Peer(Wire):
     """One who writes at a hub, or says that it will."""
 
     def __init__(self, link: socket.socket) -> None:
-        super().__init__(link.fileno(), link.fileno())
-        self.link = link
+        super().__init__(link)
         link.setsockopt(socket.SOL_SOCKET, socket.SO_SNDBUF, SENT)
+        # It is known once it has a number.
         self.name, self.replica, self.token = "", 0, ""
-        # How many of its operations mgr has and did not answer.
-        self.unanswered = 0
         # Whether it goes, or is cut off once it has read why; and when.
-        self.is_leaving = False
-        self.end = time.monotonic() + FIRST
-        self.is_cut = False
+        self.is_leaving = self.is_cut = False
+        self.end = self.begun_at + FIRST
         # When it said last where it is.
         self.moved = 0.0
-
-    @property
-    def is_known(self) -> bool:
-        return self.replica > 0
 
     @property
     def is_heard(self) -> bool:
@@ -48,8 +39,10 @@ class Peer(Wire):
     def title(self) -> str:
         return f"{self.name or 'somebody'} ({self.replica})"
 
-    def greet(self, told: dict[str, Any]) -> None:
+    def greet(self, told: dict[str, Any] | bytes) -> None:
         """Takes note of what a peer says first."""
+        if isinstance(told, bytes) or told["op"] != "hello":
+            raise Broken("no hello")
         name, replica, token = told.get("name"), told.get("replica"), told.get("token")
         if told.get("version") != VERSION:
             raise Broken(f"this hub speaks version {VERSION}, not {told.get('version')}")
@@ -57,18 +50,27 @@ class Peer(Wire):
             raise Broken("a hello that is none")
         if not 0 < replica <= MOST_NUMBER:
             raise Broken("a number that is none")
-        self.name = shown(name, MOST_NAME)
-        self.replica, self.token = replica, token[:MOST_NAME]
+        self.name, self.replica, self.token = shown(name, MOST_NAME), replica, token[:MOST_NAME]
 
-    def cut(self, op: str, why: str) -> None:
+    def cut(self, op: str, why: str = "") -> None:
         """Says why nothing more is taken of it."""
         if not self.is_cut:
             self.is_cut, self.end = True, time.monotonic() + LAST
             self.say(op, why=why)
 
     def check(self, now: float) -> None:
+        """Leaves one that says too much, or nothing; of what one takes too slowly only a line that was begun stays.
+
+        It asks for the rest once it has taken that.
+        """
         super().check(now)
+        if len(self.waiting) - self.asked > MOST_WAITING:
+            del self.waiting[self.waiting.find(b"\n") + 1 :]
+            self.asked = 0
+            self.say("behind")
         if self.total > FLOOD + RATE // 4 * (now - self.begun_at):
             raise Broken("it says too much")
-        if now > self.end and (self.is_cut or not self.is_known):
+        if self.is_cut and not self.waiting:
+            raise Broken("")
+        if now > self.end and (self.is_cut or not self.replica):
             raise Broken("" if self.is_cut else "no hello")

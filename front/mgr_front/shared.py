@@ -6,24 +6,14 @@ import shutil
 import subprocess
 import tempfile
 from collections.abc import Iterable, Sequence
-from dataclasses import dataclass
 
-from mgr_front.channels import Apart, shown
+from mgr_front.channels import CONFLICT, FAULTS, Apart, shown
 from mgr_front.notes import Note
 
 # What mgr says of a log that is tied to nothing in a note.
 OTHER = "a log of another note"
 # More lines than so many pass as runs: they pass sooner, and are sooner taken.
 MANY = 500
-
-
-@dataclass(frozen=True)
-class Others:
-    """What others have: the lines that a note lacks, all of it in short, and what was left out."""
-
-    lines: list[bytes]
-    claims: bytes
-    remark: str = ""
 
 
 class SharedNote:
@@ -35,9 +25,8 @@ class SharedNote:
         self.name, self.log = note.name, note.log
         # Its claims, and how its log was then.
         self.known: tuple[object, bytes] = None, b""
-        # Lines that it did not accept, and what mgr said of them.
+        # Lines of another note, which it did not accept.
         self.refused: tuple[bytes, ...] = ()
-        self.refusal = ""
 
     def _run(self, *words: str, given: bytes = b"") -> bytes:
         return written(run(self.mgr, *words, given=given))
@@ -69,8 +58,11 @@ class SharedNote:
         """Has mgr merge these lines into the note, and answers whether it does."""
         return run(self.mgr, "merge", "--adopt", "--", self.name, "-", given=text_of(lines)).returncode == 0
 
-    def others(self, log: bytes, mends: bool) -> Others:
-        """Holds a log of others against the note. Where it mends, lines that are refused are left out, else a fault."""
+    def others(self, log: bytes, mends: bool) -> tuple[list[bytes], bytes, str]:
+        """Returns what the note lacks of a log of others, all of that in short, and what was left out of it.
+
+        Lines that are refused are left out where it mends, else it is a fault.
+        """
         with tempfile.TemporaryDirectory() as folder:
             name = os.path.join(folder, "log")
             with open(name + ".ops", "wb") as file:
@@ -80,39 +72,41 @@ class SharedNote:
                 said = self._run("mend", "--", name).decode("utf-8", "replace")
                 claims, remark = run(self.mgr, "claims", "--", name), "left out: " + shown(said.partition("\n")[0])
             lacked = self._run("missing", "--", name, given=self.claims()) if log else b""
-            return Others(self._fewer(lacked), written(claims), remark)
+            return self._fewer(lacked), written(claims), remark
 
-    def given(self, others: Others, asks: bool) -> list[bytes]:
-        """Returns the lines that others lack.
+    def given(self, lines: list[bytes], claims: bytes, asks: bool) -> list[bytes]:
+        """Returns what others lack, who have this in short, and lines of which the note lacks some.
 
         Where it asks, it is `Apart` if they have another note, or words under its number that its log lacks.
         """
-        if asks and not self._accepts(others):
-            self.refused = tuple(others.lines)
+        if asks and not self._accepts(lines, claims):
+            self.refused = tuple(lines)
             raise Apart("another note", "refused")
-        given = self.missing(others.claims)
-        lacked = counters(others.lines, self.replica) - counters(given, self.replica) if asks else set()
+        given = self.missing(claims)
+        lacked = counters(lines, self.replica) - counters(given, self.replica) if asks else set()
         # A hub may have saved what it had sent before it told its claims: the log has that, and it is not given.
         if lacked and lacked - counters(self.missing(self.claims_of(b"")), self.replica):
             raise Apart(f"others have words of the number {self.replica} that this log lacks", "refused")
         return given
 
-    def _accepts(self, others: Others) -> bool:
+    def _accepts(self, lines: list[bytes], claims: bytes) -> bool:
         """Whether what others have belongs to this note: if no block is the same, mgr tries that on a copy of its log.
 
         Words at the very begin alone are tied to nothing, and belong to it if both have blocks of the same place.
         """
-        own, theirs = blocks(self.claims()), blocks(others.claims)
-        if self.adopts or not others.lines or self.is_empty or own & theirs:
+        own, theirs = blocks(self.claims()), blocks(claims)
+        if self.adopts or not lines or self.is_empty or own & theirs:
             return True
         if not own:
             return False
         with tempfile.TemporaryDirectory() as folder:
             copy = os.path.join(folder, "copy")
             shutil.copyfile(self.log, copy + ".ops")
-            done = run(self.mgr, "merge", "--", copy, "-", given=text_of(others.lines))
-        self.refusal = done.stderr.decode("utf-8", "replace").strip()
-        return not done.returncode or OTHER in self.refusal and bool(places(own) & places(theirs))
+            done = run(self.mgr, "merge", "--", copy, "-", given=text_of(lines))
+        said = done.stderr.decode("utf-8", "replace")
+        if CONFLICT in said:
+            raise Apart(FAULTS[CONFLICT], "conflict")
+        return not done.returncode or OTHER in said and bool(places(own) & places(theirs))
 
 
 def run(mgr: str, *words: str, given: bytes = b"") -> "subprocess.CompletedProcess[bytes]":

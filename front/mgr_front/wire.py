@@ -4,8 +4,8 @@ A line that says something begins with its `op`, as no operation of mgr's spelli
 """
 
 import json
-import os
 import re
+import socket
 import time
 from collections.abc import Iterable, Iterator
 from typing import Any
@@ -49,12 +49,10 @@ def said(op: str, **members: Any) -> bytes:
     return json.dumps({"op": op, **members}, separators=(",", ":")).encode() + b"\n"
 
 
-def saying(line: bytes) -> dict[str, Any] | None:
-    """Returns what a line says, if it is no operation."""
-    if not line.startswith(SAYING):
-        return None
+def saying(line: bytes) -> dict[str, Any]:
+    """Returns what a line says; one that says nothing is `Broken`."""
     try:
-        made: dict[str, Any] = json.loads(line)
+        made: dict[str, Any] = json.loads(line if line.startswith(SAYING) else b"")
         return made
     except (ValueError, RecursionError):
         raise Broken("a line that is neither an operation nor anything else") from None
@@ -68,23 +66,21 @@ def claims_said(claims: bytes) -> bytes:
 
 
 class Wire:
-    """Two descriptors that never block, and what waits to be written."""
+    """A connection that never blocks, and what waits to be written."""
 
-    def __init__(self, reading: int, writing: int) -> None:
-        self.reading, self.writing = reading, writing
-        os.set_blocking(reading, False)
-        os.set_blocking(writing, False)
-        self.begun = b""
-        self.claims = ""
+    def __init__(self, link: socket.socket) -> None:
+        self.link = link
+        link.setblocking(False)
+        # A line that was begun, and claims.
+        self.begun, self.claims = b"", ""
         # What waits, and how many of its bytes were asked for, and may be many.
         self.waiting, self.asked = bytearray(), 0
         # When something was read, and when something was written or nothing waited; how many bytes were read.
         self.heard = self.written = self.begun_at = time.monotonic()
         self.total = 0
 
-    @property
-    def has_more(self) -> bool:
-        return bool(self.waiting)
+    def fileno(self) -> int:
+        return self.link.fileno()
 
     def say(self, op: str, **members: Any) -> None:
         self.pass_on(said(op, **members))
@@ -100,10 +96,20 @@ class Wire:
         self.pass_on(lines)
         self.asked += len(lines)
 
-    def read(self) -> list[bytes]:
-        """Returns the lines that came, without newlines; the end is `Broken`."""
+    def take(self) -> Iterator[dict[str, Any] | bytes]:
+        """Reads what came, and yields what is said, claims once they are whole, and operations.
+
+        Anything else is `Broken`, and so is the end.
+        """
+        for line in self._lines():
+            told = line if is_operation(line) else self._whole(saying(line))
+            if told:
+                yield told
+
+    def _lines(self) -> list[bytes]:
+        """Returns the lines that came, without newlines."""
         try:
-            block = os.read(self.reading, BLOCK)
+            block = self.link.recv(BLOCK)
         except BlockingIOError:
             return []
         if not block:
@@ -115,44 +121,10 @@ class Wire:
             raise Broken("a line that is too long")
         return lines
 
-    def take(self) -> Iterator[dict[str, Any] | bytes]:
-        """Reads what came, and yields what is said, and operations; anything else is `Broken`."""
-        for line in self.read():
-            told = saying(line)
-            if told is None and not is_operation(line):
-                raise Broken("a line that is no operation")
-            yield line if told is None else told
-
-    def write(self) -> None:
-        """Writes as much as is taken now. What was asked for counts as written first."""
-        try:
-            count = os.write(self.writing, self.waiting[:BLOCK])
-        except BlockingIOError:
-            return
-        del self.waiting[:count]
-        self.asked = max(0, self.asked - count)
-        self.written = time.monotonic()
-
-    @property
-    def is_behind(self) -> bool:
-        """Whether more waits than is kept for one that takes it slowly."""
-        return len(self.waiting) - self.asked > MOST_WAITING
-
-    def drop(self) -> None:
-        """Forgets what waits, but for a line that was begun: the other end asks for it once it has taken that."""
-        del self.waiting[self.waiting.find(b"\n") + 1 :]
-        self.asked = 0
-        self.say("behind")
-
-    def check(self, now: float) -> None:
-        """A peer that says or takes nothing for too long is `Broken`."""
-        if now > self.heard + SILENCE:
-            raise Broken("nothing was heard")
-        if self.waiting and now > self.written + STUCK:
-            raise Broken("nothing is taken")
-
-    def take_claims(self, told: dict[str, Any]) -> bytes | None:
-        """Takes a piece of claims, and returns all once they are whole."""
+    def _whole(self, told: dict[str, Any]) -> dict[str, Any] | None:
+        """Returns what is said, claims once all pieces of them have come."""
+        if told["op"] != "claims":
+            return told
         text = told.get("text")
         if not isinstance(text, str) or len(self.claims) + len(text) > MOST_CLAIMS:
             raise Broken("claims that are none")
@@ -160,4 +132,21 @@ class Wire:
         if told.get("more"):
             return None
         claims, self.claims = self.claims, ""
-        return claims.encode("ascii", "replace")
+        return {"op": "claims", "claims": claims.encode("ascii", "replace")}
+
+    def write(self) -> None:
+        """Writes as much as is taken now. What was asked for counts as written first."""
+        try:
+            count = self.link.send(self.waiting[:BLOCK])
+        except BlockingIOError:
+            return
+        del self.waiting[:count]
+        self.asked = max(0, self.asked - count)
+        self.written = time.monotonic()
+
+    def check(self, now: float) -> None:
+        """A peer that says or takes nothing for too long is `Broken`."""
+        if now > self.heard + SILENCE:
+            raise Broken("nothing was heard")
+        if self.waiting and now > self.written + STUCK:
+            raise Broken("nothing is taken")

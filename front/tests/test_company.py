@@ -20,7 +20,7 @@ RUN = b'{"id":[1,9],"op":"run","parent":[1,7],"text":"x"}'
 
 class TestCompany(unittest.TestCase):
     def setUp(self) -> None:
-        self.note = mock.Mock(refusal="", replica=7)
+        self.note = mock.Mock(replica=7)
         self.company = Company(self.note, lambda post: mock.Mock())
         self.channel: Any = self.company.channel
         self.now = 100.0
@@ -125,11 +125,6 @@ class TestCompany(unittest.TestCase):
             self.company.fresh = {(1, 9): 103.0}
             self.company.press()
             self.assertEqual(marked(), [])
-
-    def test_a_note_that_is_refused_for_a_conflict(self) -> None:
-        self.note.refusal = "-: line 3: Conflict"
-        self.come(State("refused", "another note"))
-        self.assertEqual(self.company.shown(), "conflict")
 
 
 if __name__ == "__main__":

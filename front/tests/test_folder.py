@@ -42,9 +42,7 @@ class TestFolder(WithWriters):
         one.type("c")
         self.wait("abc", other.signs)
         self.assertEqual(len(os.listdir(self.shared)), 2)
-        for writer in (one, other):
-            self.assertEqual([state.word for state in writer.states], ["joining", "live"])
-            self.close(writer)
+        self.expect_well(one, other)
 
     def test_one_who_comes_back_goes_on_in_its_file(self) -> None:
         one, other = self.pair()
@@ -129,13 +127,11 @@ class TestFolder(WithWriters):
         (self.shared / "note.ops").write_bytes(LINE + b"\n")
         os.mkfifo(self.shared / ("2" * 32 + ".ops"))
         (self.shared / ("3" * 32 + ".ops")).symlink_to(self.shared / "note.ops")
-        one = self.begin(1, self.make, "a")
-        self.wait("live", one.word)
+        one = self.first()
         self.assertEqual(one.signs(), "a")
 
     def test_another_note_is_refused_or_adopted(self) -> None:
-        one = self.begin(1, self.make, "a")
-        self.wait("live", one.word)
+        one = self.first()
         self.close(one)
         other = self.begin(2, self.make, "b")
         self.wait("refused", other.word)
@@ -164,9 +160,7 @@ class TestFolder(WithWriters):
 
     def test_an_absent_folder(self) -> None:
         self.shared.rmdir()
-        one = self.begin(1, self.make, "a")
-        self.wait("alone", one.word)
-        self.assertEqual(one.states[-1].why, f"{self.shared}: No such file or directory")
+        one = self.expect_apart("alone", f"{self.shared}: No such file or directory")
         assert one.channel
         self.assertTrue(one.channel.close(5))
         self.shared.mkdir()
@@ -174,8 +168,7 @@ class TestFolder(WithWriters):
         self.wait("live", one.word)
 
     def test_it_polls_slower_where_nothing_happens(self) -> None:
-        one = self.begin(1, self.make, "a")
-        self.wait("live", one.word)
+        one = self.first()
         assert isinstance(one.channel, Folder)
         channel = one.channel
         self.wait(True, lambda: channel.poll > 0.2)

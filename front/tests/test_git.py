@@ -10,9 +10,9 @@ from unittest import mock
 from writers import WithWriters, Writer
 
 from mgr_front.channels import State, git
-from mgr_front.channels.git import GitBranch, Pace, fault_of
+from mgr_front.channels.git import GitBranch, fault_of
 
-QUICK = Pace(commits=0.3, soon=0.1, later=0.2, lively=60)
+QUICK = {"COMMITS": 0.3, "SOON": 0.1, "LATER": 0.2, "AGAIN": (0.01, 0.2)}
 IDENTITY = {"GIT_CONFIG_GLOBAL": os.devnull, "GIT_CONFIG_NOSYSTEM": "1"}
 
 
@@ -38,7 +38,7 @@ class TestGit(WithWriters):
         settings = mock.patch.dict(os.environ, IDENTITY)
         settings.start()
         self.addCleanup(settings.stop)
-        sooner = mock.patch.object(git, "AGAIN", (0.01, 0.2))
+        sooner = mock.patch.multiple(git, **QUICK)
         sooner.start()
         self.addCleanup(sooner.stop)
         self.shared = self.folder / "shared.git"
@@ -51,9 +51,8 @@ class TestGit(WithWriters):
         author = ["-c", "user.name=Else", "-c", "user.email=else@example.org"]
         return subprocess.run(["git", *where, *author, *words], check=True, capture_output=True, text=True).stdout.strip()
 
-    def make(self, writer: Writer, pace: Pace = QUICK) -> GitBranch:
-        name = f"Writer {writer.replica}"
-        return GitBranch(writer, writer.post, f"{self.shared}#{self.branch}", name, pace)
+    def make(self, writer: Writer) -> GitBranch:
+        return GitBranch(writer, writer.post, f"{self.shared}#{self.branch}", f"Writer {writer.replica}")
 
     def tip(self) -> str:
         return self.git("show", f"{self.branch}:note.ops")
@@ -67,20 +66,19 @@ class TestGit(WithWriters):
         self.wait("abc", other.signs)
         self.assertEqual(self.authors(), ["Writer 1|Writer 1", "Writer 2|Writer 2", "Writer 1|Writer 1"])
         self.assertEqual(self.git("rev-list", "--merges", self.branch), "")
-        for writer in (one, other):
-            self.assertEqual([state.word for state in writer.states], ["joining", "live"])
-            self.close(writer)
+        self.expect_well(one, other)
 
     def test_commits_are_apart_but_the_last_one(self) -> None:
-        one = self.begin(1, lambda writer: self.make(writer, Pace(commits=600, soon=0.1)), "a")
-        self.wait("live", one.word)
-        for sign in "bcd":
-            one.type(sign)
-        other = self.begin(2, self.make)
-        self.wait("a", other.signs)
-        self.assertEqual(len(self.authors()), 1)
-        self.close(one)
-        self.wait("abcd", other.signs)
+        with mock.patch.object(git, "COMMITS", 600):
+            one = self.begin(1, self.make, "a")
+            self.wait("live", one.word)
+            for sign in "bcd":
+                one.type(sign)
+            other = self.begin(2, self.make)
+            self.wait("a", other.signs)
+            self.assertEqual(len(self.authors()), 1)
+            self.close(one)
+            self.wait("abcd", other.signs)
         self.assertEqual(len(self.authors()), 2)
 
     def test_many_who_push_at_once(self) -> None:
@@ -126,16 +124,14 @@ class TestGit(WithWriters):
         self.git("add", ".", folder=clone)
         self.git("commit", "-qm", "else", folder=clone)
         self.git("push", "-q", "origin", "HEAD:notes", folder=clone)
-        one = self.begin(1, self.make, "a")
-        self.wait("live", one.word)
+        self.first()
         self.wait(["below/note.ops", "note.ops", "text"], lambda: self.git("ls-tree", "-r", "--name-only", "notes").split())
         self.assertEqual(self.git("show", "notes:below/note.ops"), "below")
         self.assertFalse((clone / "note.ops").exists())
 
     def test_the_branch_that_is_the_head(self) -> None:
         self.branch = ""
-        one = self.begin(1, self.make, "a")
-        self.wait("live", one.word)
+        one = self.first()
         # A repository without a commit names no head.
         self.assertEqual(self.git("branch", "--format=%(refname:short)"), "main")
         self.close(one)
@@ -154,8 +150,7 @@ class TestGit(WithWriters):
         self.git("add", ".", folder=own)
         self.git("commit", "-qm", "else", folder=own)
         self.shared = own
-        one = self.begin(1, self.make, "a")
-        self.wait("live", one.word)
+        self.first()
         self.assertEqual(self.git("status", "--porcelain"), "")
         self.assertEqual(self.git("ls-tree", "--name-only", "notes"), "note.ops")
         self.branch = "main"
@@ -166,9 +161,7 @@ class TestGit(WithWriters):
 
     def test_a_repository_that_is_not_there(self) -> None:
         self.shared = self.folder / "absent"
-        one = self.begin(1, self.make, "a")
-        self.wait("alone", one.word)
-        self.assertEqual(one.states[-1].why, f"fatal: '{self.shared}' does not appear to be a git repository")
+        self.expect_apart("alone", f"fatal: '{self.shared}' does not appear to be a git repository")
 
     def test_a_log_that_is_spoiled_is_said_and_stays(self) -> None:
         one, other = self.pair()

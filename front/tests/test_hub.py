@@ -48,7 +48,8 @@ class Hubs(InFolder):
     def begin(self) -> None:
         said = self.open.enter_context(tempfile.TemporaryFile())
         editor = Editor(self.mgr, ["--", self.path], 3, said)
-        hub._await_note(editor)
+        while not editor.is_settled:
+            list(editor.read())
         tcp = socket.create_server((meeting.HOST, 0))
         self.port = tcp.getsockname()[1]
         self.listeners = [tcp, meeting.listen(self.path)]
@@ -198,7 +199,7 @@ class TestWriters(Hubs):
         alice.write(line(1, 13))
         self.expect(alice.state, "conflict")
         self.assertIn("alice (1)", alice.why())
-        self.expect(lambda: any("conflict" in each and "alice" in each for each in self.printed), True)
+        self.expect(lambda: any("Conflict" in each and "alice" in each for each in self.printed), True)
 
     def test_another_note_gives_nothing_away(self) -> None:
         alice = self.join("alice", 1)
@@ -208,7 +209,7 @@ class TestWriters(Hubs):
         self.expect(other.state, "refused")
         self.assertEqual((self.log(), other.lines()), ([line(1, 99)], {line(7, 2)}))
         self.assertEqual(set(other.note.refused), {line(1, 99)})
-        self.expect(lambda: "other (2): it has another note" in self.printed, True)
+        self.expect(lambda: "other (2): another note" in self.printed, True)
 
 
 class TestStrangers(Hubs):
@@ -244,6 +245,7 @@ class TestStrangers(Hubs):
         self.assertEqual(self.hub.editor.status.frame[0].replace("a", ""), "")
 
     def test_others_do_not_wait_for_one_that_takes_nothing(self) -> None:
+        self.open.enter_context(mock.patch("mgr_front.wire.STUCK", 600))
         slow = self.stranger(self.hello())
         # Else the system takes more and more for it.
         slow.setsockopt(socket.SOL_SOCKET, socket.SO_RCVBUF, 65536)
@@ -256,7 +258,8 @@ class TestStrangers(Hubs):
         self.expect(lambda: len(bob.lines()), 600)
         came = b""
         while b'{"op":"behind"}\n' not in came:
-            came += slow.recv(1 << 20)
+            came += (block := slow.recv(1 << 20))
+            self.assertTrue(block)
         self.assertLess(len(came), 2_000_000)
         for i in range(600, 1200):
             alice.write(text % (1 + 4000 * i))

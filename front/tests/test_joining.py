@@ -22,7 +22,7 @@ from mgr_front.notes import Note, Refused
 from mgr_front.opening import Opening
 from mgr_front.options import HERE, read
 from mgr_front.saving import SAVE
-from mgr_front.shared import Others, SharedNote
+from mgr_front.shared import SharedNote
 
 HEAD = b'{"op":"claims","version":1}\n'
 LINE = '{"char":"a","id":[1,%d],"op":"ins","parent":[0,0]}'
@@ -32,13 +32,13 @@ class TestShared(InFolder):
     def shared(self, name: str = "note", adopts: bool = False) -> SharedNote:
         return SharedNote(self.mgr, Note(str(self.folder / name)), 7, adopts)
 
-    def others(self, replica: int, claims: bytes = HEAD) -> Others:
-        return Others([(LINE % replica).encode()], claims)
+    def others(self, replica: int, claims: bytes = HEAD) -> tuple[list[bytes], bytes]:
+        return [(LINE % replica).encode()], claims
 
     def test_without_a_log_there_is_nothing(self) -> None:
         note = self.shared()
         self.assertEqual((note.claims(), note.missing(b""), note.is_empty), (HEAD, [], True))
-        self.assertEqual(note.given(self.others(99), True), [])
+        self.assertEqual(note.given(*self.others(99), True), [])
 
     def test_what_is_missing(self) -> None:
         self.put(note_ops=f"{LINE % 1}\n{LINE % 2}\n")
@@ -49,9 +49,9 @@ class TestShared(InFolder):
     def test_own_words_that_a_hub_sent_and_then_saved(self) -> None:
         self.put(note_ops=f"{LINE % 7}\n")
         note = self.shared()
-        self.assertEqual(note.given(self.others(7, note.claims()), True), [])
+        self.assertEqual(note.given(*self.others(7, note.claims()), True), [])
         with self.assertRaises(Apart) as caught:
-            note.given(Others([(LINE % 7).replace("[1", "[2").encode()], note.claims()), True)
+            note.given([(LINE % 7).replace("[1", "[2").encode()], note.claims(), True)
         self.assertIn("words of the number 7", caught.exception.state.why)
 
     def test_another_note_is_not_accepted(self) -> None:
@@ -61,13 +61,13 @@ class TestShared(InFolder):
             (self.shared(adopts=True), self.others(99)),
             (self.shared(), self.others(99, self.shared().claims())),
         ):
-            note.given(others, True)
+            note.given(*others, True)
         for name in ("note", "text"):
             note, others = self.shared(name), self.others(99)
             with self.assertRaises(Apart) as caught:
-                note.given(others, True)
-            self.assertEqual((caught.exception.state.word, note.refused), ("refused", tuple(others.lines)))
-            note.given(others, False)
+                note.given(*others, True)
+            self.assertEqual((caught.exception.state.word, note.refused), ("refused", tuple(others[0])))
+            note.given(*others, False)
 
 
 class TestMeeting(InFolder):

@@ -71,9 +71,7 @@ class TestStream(TestRedis):
         one.type("c")
         self.wait("abc", other.signs)
         self.assertLess(time.monotonic() - begun, 2)
-        for writer in (one, other):
-            self.assertEqual([state.word for state in writer.states], ["joining", "live"])
-            self.close(writer)
+        self.expect_well(one, other)
 
     def test_it_was_emptied(self) -> None:
         for empty in (lambda client: client.flushall(), lambda client: client.delete("a/note")):
@@ -188,21 +186,16 @@ class TestStream(TestRedis):
 
     def test_another_version(self) -> None:
         self.client().set("a/note:generation", "2 x")
-        one = self.begin(1, self.make, "a")
-        self.wait("refused", one.word)
+        self.expect_apart("refused")
         self.assertEqual(self.client().xlen("a/note"), 0)
 
     def test_a_key_that_is_no_stream(self) -> None:
         self.client().set("a/note", "x")
-        one = self.begin(1, self.make, "a")
-        self.wait("alone", one.word)
-        self.assertIn("WRONGTYPE", one.states[-1].why)
+        self.expect_apart("alone", "WRONGTYPE")
 
     def test_no_server(self) -> None:
         self.end_server()
-        one = self.begin(1, self.make, "a")
-        self.wait("alone", one.word)
-        self.assertIn("refused", one.states[-1].why)
+        one = self.expect_apart("alone", "refused")
         with self.assertRaises(Apart):
             trim(self.url, self.program)
         self.begin_server()
@@ -222,9 +215,7 @@ class TestPassword(TestRedis):
         self.pair()
 
     def test_none(self) -> None:
-        one = self.begin(1, self.make, "a")
-        self.wait("alone", one.word)
-        self.assertIn("Authentication", one.states[-1].why)
+        self.expect_apart("alone", "Authentication")
 
     def test_one_of_the_environment(self) -> None:
         with mock.patch.dict(os.environ, REDISCLI_AUTH=SECRET):
@@ -251,9 +242,7 @@ class TestEncryption(TestRedis):
 
     def test_one_that_is_not_known(self) -> None:
         self.url = f"rediss://localhost:{self.secure}/note"
-        one = self.begin(1, self.make, "a")
-        self.wait("alone", one.word)
-        self.assertIn("certificate verify failed", one.states[-1].why)
+        self.expect_apart("alone", "certificate verify failed")
 
     def test_another_machine(self) -> None:
         self.url = f"rediss://{HOST}:{self.secure}/note"

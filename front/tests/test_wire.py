@@ -7,6 +7,7 @@ import unittest
 
 import context  # noqa: F401
 
+from mgr_front.peers import Peer
 from mgr_front.wire import BLOCK, LONGEST, MOST_WAITING, SILENCE, STUCK, Broken, Wire, claims_said, is_operation, said, saying
 
 INSERTION = '{"char":"%s","id":[3,2],"op":"ins","parent":[1,1]}'
@@ -24,7 +25,6 @@ class TestLines(unittest.TestCase):
             '{"count":4096,"id":[1,2],"op":"dels"}',
         ):
             self.assertTrue(is_operation(line.encode()), line)
-            self.assertIsNone(saying(line.encode()))
 
     def test_what_is_none(self) -> None:
         run = '{"id":[1,2],"op":"run","parent":[0,0],"text":"%s"}'
@@ -35,7 +35,7 @@ class TestLines(unittest.TestCase):
         line = said("hello", name="漢\n").rstrip(b"\n")
         self.assertNotIn(b"\n", line)
         self.assertEqual(saying(line), {"op": "hello", "name": "漢\n"})
-        for broken in (b'{"op":"x', b'{"op":"x","y":' + b"[" * 60000):
+        for broken in (b"", b"x", b'{"op":"x', b'{"op":"x","y":' + b"[" * 60000):
             with self.assertRaises(Broken):
                 saying(broken)
 
@@ -45,38 +45,37 @@ class TestWire(unittest.TestCase):
         self.near, self.far = socket.socketpair()
         self.addCleanup(self.near.close)
         self.addCleanup(self.far.close)
-        self.wire = Wire(self.near.fileno(), self.near.fileno())
+        self.wire = Wire(self.near)
 
     def test_lines_whatever_the_sizes_of_the_reads(self) -> None:
         read: list[bytes] = []
         for byte in b"ab\n\nc\n":
             self.far.send(bytes([byte]))
-            read += self.wire.read()
+            read += self.wire._lines()
         self.assertEqual(read, [b"ab", b"", b"c"])
-        self.assertEqual(self.wire.read(), [])
+        self.assertEqual(self.wire._lines(), [])
 
     def test_a_line_that_never_ends_and_an_end(self) -> None:
         self.far.send(b"x" * LONGEST)
         for _ in range(LONGEST // BLOCK):
-            self.assertEqual(self.wire.read(), [])
+            self.assertEqual(self.wire._lines(), [])
         self.far.send(b"x")
         with self.assertRaises(Broken):
-            self.wire.read()
+            self.wire._lines()
         self.far.close()
         with self.assertRaises(Broken):
-            self.wire.read()
+            self.wire._lines()
 
     def test_claims_come_whole(self) -> None:
         for size in (0, 1, 16384, 100000):
             claims = os.urandom(size).hex().encode()
-            told = [saying(line) or {} for line in claims_said(claims).splitlines()]
-            came = [self.wire.take_claims(each) for each in told]
-            self.assertEqual(came, [*[None] * (len(told) - 1), claims])
+            came = [self.wire._whole(saying(line)) for line in claims_said(claims).splitlines()]
+            self.assertEqual(came, [*[None] * (len(came) - 1), {"op": "claims", "claims": claims}])
 
     def test_claims_without_an_end(self) -> None:
         with self.assertRaises(Broken):
             for _ in range(10000):
-                self.wire.take_claims({"text": "x" * 16384, "more": True})
+                self.wire._whole({"op": "claims", "text": "x" * 16384, "more": True})
 
     def test_who_takes_nothing_is_left(self) -> None:
         now = time.monotonic()
@@ -85,27 +84,24 @@ class TestWire(unittest.TestCase):
         with self.assertRaises(Broken):
             self.wire.check(now + STUCK + 1)
         with self.assertRaises(Broken):
-            Wire(self.near.fileno(), self.near.fileno()).check(now + SILENCE + 1)
+            Wire(self.near).check(now + SILENCE + 1)
 
     def test_who_takes_it_slowly_is_told_to_ask_again(self) -> None:
-        lines = (b"x" * 1023 + b"\n") * (MOST_WAITING // 1024 + 1)
-        self.wire.answer(lines)
-        self.wire.write()
-        self.assertFalse(self.wire.is_behind)
-        self.wire.pass_on(lines)
-        self.assertTrue(self.wire.is_behind)
-        self.wire.drop()
-        self.assertEqual(self.wire.waiting, b"x" * 1023 + b'\n{"op":"behind"}\n')
-        self.wire.pass_on(lines)
-        del self.wire.waiting[:-2000]
-        self.wire.drop()
-        self.assertEqual(self.wire.waiting, b"x" * 975 + b'\n{"op":"behind"}\n')
+        peer, lines, said = Peer(self.near), (b"x" * 1023 + b"\n") * (MOST_WAITING // 1024 + 1), b'\n{"op":"behind"}\n'
+        peer.answer(lines)
+        peer.write()
+        peer.check(peer.begun_at)
+        self.assertGreater(len(peer.waiting), MOST_WAITING - BLOCK)
+        for given, left in ((lines, 1023), (lines, 1023)):
+            peer.pass_on(given)
+            peer.check(peer.begun_at)
+            self.assertEqual(peer.waiting, b"x" * left + said)
 
     def test_all_is_written_in_order(self) -> None:
         self.wire.answer(b"".join(b"%d\n" % i for i in range(50000)))
         self.wire.pass_on(b"last\n")
         came = b""
-        while self.wire.has_more:
+        while self.wire.waiting:
             self.wire.write()
             came += self.far.recv(1 << 20)
         self.assertEqual(came, b"".join(b"%d\n" % i for i in range(50000)) + b"last\n")

@@ -125,17 +125,34 @@ class WithWriters(InFolder):
         """Returns a writer's channel."""
         raise NotImplementedError
 
+    def first(self, text: str = "a") -> Writer:
+        """Returns one who has typed this text before, and has joined."""
+        one = self.begin(1, self.make, text)
+        self.wait("live", one.word)
+        return one
+
     def pair(self) -> tuple[Writer, Writer]:
         """Returns two who have joined and written `ab`."""
-        one = self.begin(1, self.make, "a")
-        self.wait("live", one.word)
-        other = self.begin(2, self.make)
+        one, other = self.first(), self.begin(2, self.make)
         self.wait("a", other.signs)
         self.wait("live", other.word)
         other.type("b")
         for writer in (one, other):
             self.wait("ab", writer.signs)
         return one, other
+
+    def expect_apart(self, word: str, why: str = "") -> Writer:
+        """Returns one who has typed `a`, and stands apart in this way, which is said with these words."""
+        one = self.begin(1, self.make, "a")
+        self.wait(word, one.word)
+        self.assertIn(why, one.states[-1].why)
+        return one
+
+    def expect_well(self, *writers: Writer) -> None:
+        """All was well with these up to now, and they leave."""
+        for writer in writers:
+            self.assertEqual([state.word for state in writer.states], ["joining", "live"])
+            self.close(writer)
 
     def wait(self, wanted: object, of: Callable[[], object]) -> None:
         """Waits until something is as it has to be."""

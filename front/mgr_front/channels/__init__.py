@@ -9,6 +9,12 @@ from dataclasses import dataclass
 
 # So many characters of a sentence are shown, and of a name.
 SHOWN, MOST_NAME = 100, 32
+# What is said of faults of mgr that end or spoil writing together.
+CONFLICT = "Conflict"
+FAULTS = {
+    CONFLICT: "two characters have one name: these copies do not become one any more",
+    "Far": "a counter too far ahead was not taken",
+}
 
 # Counter and replica of the identifier that point stands after, and its line.
 Place = tuple[int, int, int]

@@ -9,15 +9,16 @@ import signal
 import socket
 import subprocess
 import time
-from dataclasses import dataclass
 
 from mgr_front.channels import Apart, Post, shown
 from mgr_front.channels.worker import Worker
 from mgr_front.copies import digest, user
 from mgr_front.shared import SharedNote, joined, text_of
 
+# Seconds between two commits, and between two looks at the branch: soon after a change, and later; how long soon is.
+COMMITS, SOON, LATER, LIVELY = 30.0, 2.0, 60.0, 600.0
 # Seconds before another push where others pushed, and how often it is tried; those that a command may take.
-AGAIN, TRIES, LONGEST = (0.1, 1.0), 10, 60.0
+AGAIN, TRIES, LONGEST = (0.1, 1.0), 10, 60
 # Git's own variables, as within a hook, name another repository.
 FOREIGN = ("GIT_DIR", "GIT_WORK_TREE", "GIT_INDEX_FILE", "GIT_OBJECT_DIRECTORY", "GIT_COMMON_DIR", "GIT_NAMESPACE")
 # What git adds to why it could not reach a repository.
@@ -25,17 +26,6 @@ ADVICE = ("fatal: Could not read from remote", "Please make sure you have", "and
 # How a line begins that tells of a branch that was not pushed.
 NOT_PUSHED = "!\t"
 UNBORN = "main"
-
-
-@dataclass(frozen=True)
-class Pace:
-    """Seconds between two commits, and between two looks at the branch: soon after a change, and later."""
-
-    commits: float = 30.0
-    soon: float = 2.0
-    later: float = 60.0
-    # How long soon is.
-    lively: float = 600.0
 
 
 class Outrun(Apart):
@@ -55,7 +45,7 @@ def fault_of(said: bytes) -> Apart:
 class GitBranch(Worker):
     """A note that is carried by the tip of a branch."""
 
-    def __init__(self, note: SharedNote, post: Post, place: str, person: str = "", pace: Pace = Pace()) -> None:
+    def __init__(self, note: SharedNote, post: Post, place: str, person: str = "") -> None:
         """`place` is a path or a URL, and after a `#` a branch, else the one that the repository calls its head.
 
         `person` is the writer in commits; else it is that of git's settings, or of the login.
@@ -64,8 +54,7 @@ class GitBranch(Worker):
         place, _, self.branch = place.partition("#")
         path = os.path.expanduser(place)
         self.url = os.path.abspath(path) if os.path.exists(path) else place
-        self.person, self.pace = person, pace
-        self.file = os.path.basename(note.log)
+        self.person, self.file = person, os.path.basename(note.log)
         cache = os.environ.get("XDG_CACHE_HOME", "")
         cache = cache if os.path.isabs(cache) else os.path.expanduser("~/.cache")
         self.clone = os.path.join(cache, "mgr", "git", digest(self.url.encode()))
@@ -76,30 +65,25 @@ class GitBranch(Worker):
         self.is_ahead = False
         self.changed = self.next_look = self.next_commit = 0.0
 
-    def join(self) -> str:
+    def join(self) -> None:
         self.tip = None
         self._open()
         self._look()
-        if self.is_ahead and self._may_commit():
+        if self.is_ahead:
             self._commit()
-        return ""
 
     def turn(self) -> float:
         if time.monotonic() >= self.next_look:
             self._look()
-        if (self.is_ahead or self.told) and self._may_commit():
+        self.is_ahead = self.is_ahead or bool(self.told)
+        if self.is_ahead:
             self._commit()
-        next_turn = min(self.next_look, self.next_commit) if self.is_ahead or self.told else self.next_look
-        return next_turn - time.monotonic()
-
-    def _may_commit(self) -> bool:
-        """Whether the last commit is long ago; who leaves does not wait for that."""
-        return time.monotonic() >= self.next_commit or self.is_leaving
+        return min(self.next_look, self.next_commit if self.is_ahead else self.next_look) - time.monotonic()
 
     def _look(self) -> None:
         """Takes what the tip has, where it is another one, also one that was forced back."""
         ref = f"refs/heads/{self.branch}"
-        found = self._git("ls-remote", "--", self.url, ref).decode().splitlines()
+        found = self._word("ls-remote", "--", self.url, ref).splitlines()
         tip = next((line.split("\t")[0] for line in found if line.endswith(f"\t{ref}")), "")
         if tip != self.tip:
             self.tip = tip
@@ -107,16 +91,21 @@ class GitBranch(Worker):
                 fetch = ("fetch", "--quiet", "--no-tags", "--no-write-fetch-head", "--")
                 self._git(*fetch, self.url, f"+{ref}:{self.ref}")
                 self.tip = self._word("rev-parse", "--verify", self.ref)
-            entry = self._entries().get(self.file)
-            self.tip_log = self._git("cat-file", "blob", entry.split()[2].decode()) if entry else b""
-            given, others = self.compare(self.tip_log)
-            self.claims, self.is_ahead = others.claims, bool(given)
+            entry = self._word("ls-tree", self.tip, "--", self.file) if tip else ""
+            self.tip_log = self._git("cat-file", "blob", entry.split()[2]) if entry else b""
+            given, self.claims = self.compare(self.tip_log)
+            self.is_ahead = bool(given)
             self.changed = time.monotonic()
-        is_lively = time.monotonic() < self.changed + self.pace.lively
-        self.next_look = time.monotonic() + (self.pace.soon if is_lively else self.pace.later)
+        is_lively = time.monotonic() < self.changed + LIVELY
+        self.next_look = time.monotonic() + (SOON if is_lively else LATER)
 
     def _commit(self) -> None:
-        """Has the branch have all that the note has; again where others were quicker."""
+        """Has the branch have all that the note has, unless the last commit is not long ago: who leaves does not wait.
+
+        Where others were quicker, it is done again.
+        """
+        if time.monotonic() < self.next_commit and not self.is_leaving:
+            return
         count = len(self.told)
         for tries in range(TRIES, 0, -1):
             lines = self.note.missing(self.claims)
@@ -134,22 +123,24 @@ class GitBranch(Worker):
 
     def _push(self, log: bytes) -> None:
         """Has the branch have a commit on the tip, with this log beside all else that stands there, never by force."""
-        blob = self._git("hash-object", "-w", "--stdin", given=log).strip()
-        entries = self._entries() | {self.file: b"100644 blob " + blob + b"\t" + os.fsencode(self.file)}
-        tree = self._word("mktree", "-z", given=b"".join(entry + b"\0" for entry in entries.values()))
-        message = f"{self.file}: what {self.person} wrote"
-        commit = self._word("commit-tree", tree, *(["-p", self.tip] if self.tip else []), "-m", message)
-        self._git("push", "--quiet", "--porcelain", "--", self.url, f"{commit}:refs/heads/{self.branch}")
-        self._git("update-ref", self.ref, commit)
+        file = os.fsencode(self.file)
+        message = b"%b: what %b wrote" % (file, os.fsencode(self.person))
+        quoted = file.replace(b"\\", rb"\\").replace(b'"', rb"\"").replace(b"\n", rb"\n")
+        commit = [
+            b"commit " + self.ref.encode(),
+            b"committer " + self._git("var", "GIT_COMMITTER_IDENT").strip(),
+            b"data %d\n%b" % (len(message), message),
+            *[b"from %b" % (self.tip or "").encode()] * bool(self.tip),
+            b'M 100644 inline "%b"' % quoted,
+            b"data %d\n%b" % (len(log), log),
+        ]
+        self._git("fast-import", "--quiet", "--force", given=b"\n".join(commit))
+        self._git("push", "--quiet", "--porcelain", "--", self.url, f"{self.ref}:refs/heads/{self.branch}")
         self._git("gc", "--auto", "--quiet")
-        self.tip, self.tip_log, self.claims = commit, log, self.note.claims_of(log)
+        self.tip, self.tip_log = self._word("rev-parse", "--verify", self.ref), log
+        self.claims = self.note.claims_of(log)
         self.changed = time.monotonic()
-        self.next_commit = self.changed + self.pace.commits
-
-    def _entries(self) -> dict[str, bytes]:
-        """Returns what stands in the folder of the tip, as git has it, by its name."""
-        entries = self._git("ls-tree", "-z", self.tip).split(b"\0")[:-1] if self.tip else []
-        return {os.fsdecode(entry.partition(b"\t")[2]): entry for entry in entries}
+        self.next_commit = self.changed + COMMITS
 
     # ---- git
 
@@ -161,31 +152,27 @@ class GitBranch(Worker):
         if not self.person:
             self.person = self._word("config", "--default", user(), "user.name")
         if not self.branch:
-            head = self._git("ls-remote", "--symref", "--", self.url, "HEAD").decode()
+            head = self._word("ls-remote", "--symref", "--", self.url, "HEAD")
             self.branch = head.partition("ref: refs/heads/")[2].partition("\t")[0] or UNBORN
 
     def _git(self, *words: str, given: bytes = b"") -> bytes:
         """Runs git apart from the terminal, on which it asks nothing, and returns what it writes."""
         kept = {name: value for name, value in os.environ.items() if name not in FOREIGN}
         kept.setdefault("EMAIL", f"{user()}@{socket.gethostname()}")
-        author = {f"GIT_{who}_NAME": self.person for who in ("AUTHOR", "COMMITTER") if self.person}
-        git = subprocess.Popen(
-            ["git", f"--git-dir={self.clone}", *words],
-            env=kept | author | {"GIT_TERMINAL_PROMPT": "0", "LC_ALL": "C"},
+        kept |= {"GIT_COMMITTER_NAME": self.person} if self.person else {}
+        done = subprocess.run(
+            # It ends what git began, too.
+            ["timeout", "--signal=KILL", str(LONGEST), "git", f"--git-dir={self.clone}", *words],
+            input=given,
+            env=kept | {"GIT_TERMINAL_PROMPT": "0", "LC_ALL": "C"},
             start_new_session=True,
-            stdin=subprocess.PIPE,
-            stdout=subprocess.PIPE,
-            stderr=subprocess.PIPE,
+            capture_output=True,
         )
-        try:
-            written, said = git.communicate(given, LONGEST)
-        except subprocess.TimeoutExpired:
-            os.killpg(git.pid, signal.SIGKILL)
-            git.communicate()
-            raise Apart(f"git {words[0]} took more than {LONGEST:.0f} seconds") from None
-        if git.returncode:
-            raise fault_of(written + said)
-        return written
+        if done.returncode == -signal.SIGKILL:
+            raise Apart(f"git {words[0]} took more than {LONGEST} seconds")
+        if done.returncode:
+            raise fault_of(done.stdout + done.stderr)
+        return done.stdout
 
-    def _word(self, *words: str, given: bytes = b"") -> str:
-        return self._git(*words, given=given).decode().strip()
+    def _word(self, *words: str) -> str:
+        return self._git(*words).decode().strip()

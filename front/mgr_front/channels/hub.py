@@ -13,9 +13,9 @@ from typing import Any
 from mgr_front import meeting
 from mgr_front.channels import Apart, Post, State
 from mgr_front.channels.presence import Presence
-from mgr_front.channels.worker import Worker
+from mgr_front.channels.worker import Descriptors, Worker
 from mgr_front.copies import digest
-from mgr_front.shared import Others, SharedNote, text_of
+from mgr_front.shared import SharedNote, text_of
 from mgr_front.signals import held_back
 from mgr_front.wire import VERSION, Broken, Wire, claims_said
 
@@ -26,56 +26,41 @@ SETTINGS = ("ConnectTimeout=5", "ServerAliveInterval=5", "ServerAliveCountMax=2"
 SILENT = "BatchMode=yes"
 
 # Opens a connection; the first one may ask the person for a word.
-Way = Callable[[bool], AbstractContextManager[Wire]]
-
-
-def _by_socket(connect: Callable[[], socket.socket]) -> Way:
-    @contextmanager
-    def way(_: bool) -> Iterator[Wire]:
-        with connect() as made:
-            yield Wire(made.fileno(), made.fileno())
-
-    return way
+Way = Callable[[bool], AbstractContextManager[socket.socket]]
 
 
 def by_note(path: str) -> Way:
     """The way to the hub that has this note on this machine."""
-    return _by_socket(lambda: meeting.connect(path))
+    return lambda _: meeting.connect(path)
 
 
 def by_port(port: int) -> Way:
     """The way to a port of this machine."""
-    return _by_socket(lambda: socket.create_connection((meeting.HOST, port), meeting.SECONDS))
+    return lambda _: socket.create_connection((meeting.HOST, port), meeting.SECONDS)
 
 
 def by_ssh(host: str, path: str) -> Way:
     """The way to the hub that has this note on another machine."""
 
     @contextmanager
-    def way(is_first: bool) -> Iterator[Wire]:
+    def way(is_first: bool) -> Iterator[socket.socket]:
         settings = [*SETTINGS, *[SILENT] * (not is_first)]
         words = [word for setting in settings for word in ("-o", setting)]
         command = ["ssh", "-T", *words, "--", host, f"mgr-hub --join {shlex.quote(path)}"]
-        with tempfile.TemporaryFile() as told:
-            with held_back():
-                process = subprocess.Popen(
-                    command,
-                    bufsize=0,
-                    stdin=subprocess.PIPE,
-                    stdout=subprocess.PIPE,
-                    stderr=told,
-                    start_new_session=not is_first,
-                )
-            assert process.stdin is not None and process.stdout is not None
+        near, far = socket.socketpair()
+        with near, tempfile.TemporaryFile() as told:
+            with far, held_back():
+                end = far.fileno()
+                process = subprocess.Popen(command, stdin=end, stdout=end, stderr=told, start_new_session=not is_first)
             try:
-                yield Wire(process.stdout.fileno(), process.stdin.fileno())
+                yield near
             except OSError as error:
                 told.seek(0)
                 lines = told.read().decode("utf-8", "replace").strip().splitlines()
                 raise Broken(lines[-1] if lines else str(error)) from None
             finally:
                 process.kill()
-                process.communicate()
+                process.wait()
 
     return way
 
@@ -99,20 +84,20 @@ class Hub(Worker):
     @contextmanager
     def connected(self) -> Iterator[None]:
         is_first, self.is_first = self.is_first, False
-        with self.way(is_first) as wire:
-            self.wire, self.is_joined, self.came = wire, False, []
+        with self.way(is_first) as link:
+            self.wire, self.is_joined, self.came = Wire(link), False, []
             try:
                 yield
             finally:
                 self.wire = None
 
-    def descriptors(self) -> tuple[list[int], list[int]]:
-        return ([self.wire.reading], [self.wire.writing] * self.wire.has_more) if self.wire else ([], [])
+    def descriptors(self) -> Descriptors:
+        return ([self.wire], [self.wire] * bool(self.wire.waiting)) if self.wire else ([], [])
 
     def close(self, seconds: float) -> bool:
         return super().close(seconds) and self.is_taken
 
-    def join(self) -> str:
+    def join(self) -> None:
         """Says hello and what the note has; what it lacks comes, and then what the hub has, in short."""
         self._say("hello", version=VERSION, replica=self.note.replica, name=self.presence.name, token=self.token)
         until = time.monotonic() + FIRST
@@ -121,7 +106,6 @@ class Hub(Worker):
                 raise Broken("no answer")
             self._talk()
             self.wait(0.0 if self.is_joined else 1.0)
-        return ""
 
     def turn(self) -> float:
         assert self.wire
@@ -146,13 +130,13 @@ class Hub(Worker):
     def _talk(self) -> None:
         """Writes and reads what can be now. Operations are taken once it is clear that they are of this note."""
         assert self.wire
-        if self.wire.has_more:
+        if self.wire.waiting:
             self.wire.write()
-        for came in self.wire.take():
-            if isinstance(came, bytes):
-                self.came.append(came)
+        for told in self.wire.take():
+            if isinstance(told, bytes):
+                self.came.append(told)
             else:
-                self._hear(self.wire, came)
+                self._hear(self.wire, told)
         self.wire.check(time.monotonic())
         if self.is_joined:
             self.take(self.came)
@@ -167,8 +151,8 @@ class Hub(Worker):
             self.post(State("joining", "the hub is there"))
         if op in ("hello", "behind") or op == "alive" and told.get("digest") not in (None, digest(self.note.claims())):
             wire.answer(claims_said(self.note.claims()))
-        elif op == "claims" and (claims := wire.take_claims(told)) is not None:
-            self._give(wire, claims)
+        elif op == "claims":
+            wire.answer(text_of(self._lacked(wire, told["claims"])))
         elif op in ("refused", "conflict"):
             raise Apart(str(told.get("why")), op)
         elif op == "bye":
@@ -176,16 +160,15 @@ class Hub(Worker):
         elif op in ("place", "leave"):
             self.presence.take(told)
 
-    def _give(self, wire: Wire, claims: bytes) -> None:
-        """Gives the hub, which has this, what it lacks. At first all that the note lacked has come before."""
+    def _lacked(self, wire: Wire, claims: bytes) -> list[bytes]:
+        """Returns what the hub, which has this, lacks. At first all that the note lacked has come before."""
         if self.is_joined:
-            wire.answer(text_of(self.note.missing(claims)))
-            return
+            return self.note.missing(claims)
         try:
-            given = self.accept(Others(self.came, claims))
-        except Apart:
-            wire.say("refused", why=self.note.refusal)
+            lacked = self.accept(self.came, claims)
+        except Apart as apart:
+            wire.say("refused", why=apart.state.why)
             wire.write()
             raise
-        wire.answer(text_of(given))
         self.is_joined, self.came = True, []
+        return lacked

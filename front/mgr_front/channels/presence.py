@@ -31,12 +31,19 @@ class Presence:
 
     def begin(self) -> None:
         """Nobody is known to be there, and nobody was told of this writer."""
+        # Of each who is there the name and the place, when that was heard, and what was posted of all.
         self.who: dict[int, tuple[str, Place]] = {}
         self.times: dict[int, float] = {}
         self.told: dict[int, tuple[str, Place]] = {}
+        # What was said of this writer, and when; when a sign of life was given.
         self.said: Place | None = None
         self.moved, self.signed = 0.0, time.monotonic()
         self.post(Present({}))
+
+    def move(self, place: Place) -> bool:
+        """Takes note of this writer's place; answers whether a turn is needed, if none is due already."""
+        before, self.place = self.place, place
+        return place != before == self.said
 
     def take(self, told: dict[str, Any]) -> None:
         """Takes what somebody says of themselves. To one who is new it is said where this writer is."""
@@ -46,19 +53,18 @@ class Presence:
         if told.get("op") == "leave":
             self.times.pop(replica, None)
         elif isinstance(name, str) and place:
-            if replica not in self.times:
-                self.said = None
+            self.said = self.said if replica in self.times else None
             self.who[replica], self.times[replica] = (shown(name, MOST_NAME), place), time.monotonic()
 
     def turn(self, say: Callable[..., None], claims: Callable[[], bytes]) -> float:
         """Says what is due, and posts who is there, where that is news; returns seconds until the next turn."""
-        now = time.monotonic()
-        what = {"replica": self.replica, "name": self.name, "place": self.place}
+        now, place = time.monotonic(), self.place
+        what = {"replica": self.replica, "name": self.name, "place": place}
         if now >= self.signed + ALIVE:
             self.signed = now
             say("alive", **what, digest=digest(claims()))
-        if self.place != self.said and now >= self.moved + MOVE:
-            self.moved, self.said = now, self.place
+        if place != self.said and now >= self.moved + MOVE:
+            self.moved, self.said = now, place
             say("place", **what)
         self.times = {who: heard for who, heard in self.times.items() if heard > now - GONE}
         self.who = {who: place for who, place in self.who.items() if who in self.times}

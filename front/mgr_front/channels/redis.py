@@ -2,22 +2,20 @@
 
 import json
 import time
-from collections import deque
 from collections.abc import Iterator
 from contextlib import contextmanager, suppress
 from typing import Any
 
 from mgr_front.channels import Apart, Post
 from mgr_front.channels.presence import Presence
-from mgr_front.channels.stream import ANSWER, FIRST, News, Stream
-from mgr_front.channels.worker import Worker
+from mgr_front.channels.stream import ANSWER, BY, FIRST, LINES, Stream, lines_of
+from mgr_front.channels.worker import Descriptors, Worker
 from mgr_front.copies import digest
-from mgr_front.shared import SharedNote
+from mgr_front.shared import SharedNote, text_of
 from mgr_front.wire import operations
 
-# Seconds: for one writer to give what the stream lacks, for which claims may differ since something is under way, and
-# after which who listens looks whether it is to end.
-GIVING, UNDER_WAY, LISTENING = 10.0, 10.0, 1.0
+# Seconds: for one writer to give what the stream lacks, and for which claims may differ since something is under way.
+GIVING, UNDER_WAY = 10.0, 10.0
 
 
 class RedisStream(Worker):
@@ -27,75 +25,62 @@ class RedisStream(Worker):
         super().__init__(note, post)
         self.stream = Stream(url)
         self.presence: Presence = Presence(note.replica, person, post)
-        # What was read of the stream: its generation, how many entries, and the last one.
-        self.generation, self.count, self.last = b"", 0, FIRST
-        # What was said on the channel, and what ended that.
-        self.sayings: deque[dict[str, Any]] = deque()
-        self.fault: BaseException | None = None
-        # When the own voice was heard last, and when something came or was told.
-        self.heard = self.changed = 0.0
+        # What hears the channel, and when it heard this writer last.
+        self.ear: Any = None
+        self.heard = 0.0
+        # How many entries of the stream were read, and the last one; when something came or was told.
+        self.count, self.last, self.changed = 0, FIRST, 0.0
+        # What was heard on the channel before its entry was read.
+        self.early: set[bytes] = set()
 
     @contextmanager
     def connected(self) -> Iterator[None]:
-        """Hears the channel from now on. That is done by a thread of python3-redis."""
-        self.fault, self.sayings = None, deque()
-        heard = self.stream.link.pubsub()
-        heard.subscribe(**{self.stream.channel: self._hear})
-        heard.get_message(timeout=ANSWER)
-        thread = heard.run_in_thread(LISTENING, daemon=True, exception_handler=self._end)
-        self.heard = self.presence.signed
+        """Hears the channel from now on."""
+        ear = self.stream.link.pubsub()
+        ear.subscribe(self.stream.channel)
+        ear.get_message(timeout=ANSWER)
+        self.ear, self.heard = ear, self.presence.signed
         try:
             yield
         finally:
-            thread.stop()
+            self.ear = None
+            ear.close()
             with suppress(Exception):  # If the connection is gone, others find out that this writer is.
                 self.stream.say("leave", replica=self.note.replica)
-            self.stream.link.connection_pool.disconnect(inuse_connections=False)
+            self.stream.link.connection_pool.disconnect()
 
-    def _hear(self, message: dict[str, Any]) -> None:
-        try:
-            told = json.loads(message["data"])
-        except (ValueError, RecursionError):
-            return
-        if isinstance(told, dict):
-            self.sayings.append(told)
-            self.wake()
+    def descriptors(self) -> Descriptors:
+        return [self.ear.connection._sock] if self.ear else [], []
 
-    def _end(self, fault: BaseException, _: object, thread: Any) -> None:
-        self.fault = fault
-        thread.stop()
-        self.wake()
-
-    def join(self) -> str:
+    def join(self) -> None:
         """Takes all of the stream, and gives what it lacks: one at a time does, after what others gave."""
-        given, remark, read = self._compare_all()
+        self.stream.check()
+        given = self._compare_all()
         if given:
             with self.stream.link.lock(self.stream.giver, timeout=GIVING):
-                if self.stream.news(FIRST) != read:
-                    given, remark, _ = self._compare_all()
-                self.stream.add(given)
-        return remark
+                if self.stream.after(self.last) != ([], self.count):
+                    given = self._compare_all()
+                if given:
+                    self.stream.add(text_of(given))
 
-    def _compare_all(self) -> tuple[list[bytes], str, News]:
-        """Takes all of the stream that the note lacks; returns what the stream lacks, what was left out, and what was read."""
-        news = self.stream.news(FIRST)
-        self.generation, self.count, self.last = news.generation, news.size, news.last
-        given, others = self.compare(news.log, mends=True)
+    def _compare_all(self) -> list[bytes]:
+        """Takes all of the stream that the note lacks, and returns what the stream lacks."""
+        entries = self.stream.after(FIRST)
+        self.last, self.count = entries[0][-1][0] if entries[0] else FIRST, entries[1]
+        self.early.clear()
+        given, _ = self.compare(lines_of(entries), mends=True)
         self.changed = time.monotonic()
-        return given, others.remark, news
+        return given
 
     def turn(self) -> float:
-        said = [self.sayings.popleft() for _ in range(len(self.sayings))]
-        for told in said:
-            self.presence.take(told)
-            if told.get("by") == self.stream.by:
-                self.heard = time.monotonic()
-        is_heard = self.heard >= self.presence.signed
-        if self.fault or not is_heard and time.monotonic() > self.presence.signed + ANSWER:
+        said = self._said()
+        if self.heard < self.presence.signed < time.monotonic() - ANSWER:
             raise Apart("the connection is gone")
         if self.told:
-            count = len(self.told)
-            self.stream.add(self.told)
+            lines, count = text_of(self.told), len(self.told)
+            # So others have it while the server writes the entry to its disk.
+            self.stream.say("lines", lines=lines.decode())
+            self.stream.add(lines)
             self.passed(count)
             self.changed = time.monotonic()
         digests = {told.get("digest") for told in said if told.get("op") == "alive"}
@@ -106,14 +91,31 @@ class RedisStream(Worker):
             self.join_all()
         return min(self.presence.turn(self.stream.say, self.note.claims), ANSWER)
 
+    def _said(self) -> list[dict[str, Any]]:
+        """Returns what was said on the channel. Lines, and who is where, are taken."""
+        said = []
+        while message := self.ear.get_message():
+            with suppress(ValueError, RecursionError, TypeError):
+                if isinstance(told := json.loads(message["data"]), dict):
+                    said.append(told)
+        for told in said:
+            self.presence.take(told)
+            if told.get("by") == self.stream.by:
+                self.heard = time.monotonic()
+            elif told.get("op") == "lines":
+                lines = str(told.get("lines")).encode("utf-8", "replace")
+                self.early.add(lines)
+                self.take(operations(lines.splitlines()))
+        return said
+
     def _look(self) -> None:
         """Takes what is new. A stream that was emptied, trimmed or begun anew is read from its beginning."""
-        news = self.stream.news(self.last)
-        if news.generation != self.generation or news.size != self.count + len(news.entries):
+        entries, size = self.stream.after(self.last)
+        if size != self.count + len(entries):
             self.join_all()
-            return
-        self.count, self.last = news.size, news.last
-        others = [lines for by, lines in news.entries if by != self.stream.by.encode()]
-        self.take(operations(b"\n".join(others).splitlines()))
-        if news.entries:
-            self.changed = time.monotonic()
+        elif entries:
+            self.last, self.count, self.changed = entries[-1][0], size, time.monotonic()
+            others = [members.get(LINES, b"") for _, members in entries if members.get(BY) != self.stream.by.encode()]
+            news = [lines for lines in others if lines not in self.early]
+            self.take(operations(b"\n".join(news).splitlines()))
+            self.early.difference_update(others)

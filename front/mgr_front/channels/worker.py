@@ -2,20 +2,27 @@
 
 import contextlib
 import select
+import sys
 import threading
 import time
 from abc import ABC, abstractmethod
 from collections.abc import Iterable, Sequence
 from contextlib import AbstractContextManager
+from typing import Any
 
 from mgr_front.channels import Apart, Place, Post, State, Took
 from mgr_front.channels.presence import Presence
 from mgr_front.mailbox import Mailbox
-from mgr_front.shared import Others, SharedNote
+from mgr_front.shared import SharedNote
 
-# Seconds before it is tried again after a break: the first ones, and the most.
+# Seconds before it is tried again after a break: at first, and at most.
 FIRST_PAUSE, MOST_PAUSE = 1.0, 30.0
 FINAL = "refused", "conflict"
+# Seconds that keys may wait for the thread of a channel each time, while much comes there.
+SWITCH = 0.0005
+
+# What is to be read and written, as select has it.
+Descriptors = tuple[Sequence[Any], Sequence[Any]]
 
 
 class Worker(ABC):
@@ -31,10 +38,13 @@ class Worker(ABC):
         self.is_accepted = False
         # Who is where, if the channel carries that.
         self.presence: Presence | None = None
-        # What was told and is not passed on.
+        # What was told and is not passed on, and what is to be said of others' lines.
         self.told: list[bytes] = []
+        self.remark = ""
         self._given: Mailbox[Sequence[bytes]] = Mailbox()
         self._state = State("")
+        # Seconds until it is tried again after a break.
+        self.pause = FIRST_PAUSE
         self._thread = threading.Thread(target=self._run, daemon=True)
 
     def connected(self) -> AbstractContextManager[object]:
@@ -42,8 +52,8 @@ class Worker(ABC):
         return contextlib.nullcontext()
 
     @abstractmethod
-    def join(self) -> str:
-        """Takes what the note lacks and gives what others lack; returns a remark on that, or nothing."""
+    def join(self) -> None:
+        """Takes what the note lacks, and gives what others lack."""
 
     @abstractmethod
     def turn(self) -> float:
@@ -52,7 +62,7 @@ class Worker(ABC):
     def leave(self) -> None:
         """Waits until what was passed on last has been taken."""
 
-    def descriptors(self) -> tuple[list[int], list[int]]:
+    def descriptors(self) -> Descriptors:
         """Returns what is to be read and written: its waits end once that can be."""
         return [], []
 
@@ -60,6 +70,7 @@ class Worker(ABC):
 
     def start(self) -> None:
         """Begins to join. What comes is posted."""
+        sys.setswitchinterval(SWITCH)
         self._thread.start()
 
     def tell(self, lines: Sequence[bytes]) -> None:
@@ -68,8 +79,7 @@ class Worker(ABC):
 
     def show_place(self, place: Place) -> None:
         """Says where point stands, if the channel carries that."""
-        if self.presence and place != self.presence.place:
-            self.presence.place = place
+        if self.presence and self.presence.move(place):
             self.wake()
 
     def close(self, seconds: float) -> bool:
@@ -97,16 +107,16 @@ class Worker(ABC):
         """Takes note that so many lines of what was told are passed on."""
         del self.told[:count]
 
-    def compare(self, log: bytes, mends: bool = False) -> tuple[list[bytes], Others]:
-        """Takes what the note lacks of a log of others; returns what that lacks, and what they have."""
-        others = self.note.others(log, mends)
-        return self.accept(others), others
+    def compare(self, log: bytes, mends: bool = False) -> tuple[list[bytes], bytes]:
+        """Takes what the note lacks of a log of others; returns what that lacks, and what they have, in short."""
+        lines, claims, self.remark = self.note.others(log, mends)
+        return self.accept(lines, claims), claims
 
-    def accept(self, others: Others) -> list[bytes]:
-        """Takes what others have, and returns what they lack; `Apart` if it belongs to another note."""
-        given = self.note.given(others, not self.is_accepted)
+    def accept(self, lines: list[bytes], claims: bytes) -> list[bytes]:
+        """Takes lines of others, and returns what they lack; `Apart` if they have another note."""
+        given = self.note.given(lines, claims, not self.is_accepted)
         self.is_accepted = True
-        self.take(others.lines)
+        self.take(lines)
         return given
 
     def take(self, lines: Iterable[bytes]) -> None:
@@ -122,30 +132,25 @@ class Worker(ABC):
     def join_all(self) -> None:
         """Joins, with which all that was told before is passed on too: the note's log has it."""
         count = len(self.told)
-        remark = self.join()
+        self.join()
         self.passed(count)
-        self.say(State("live", remark))
+        self.say(State("live", self.remark))
 
     def _run(self) -> None:
         self.say(State("joining"))
-        pause = FIRST_PAUSE
-        while not self._work():
-            if self.is_leaving or self._state.word in FINAL:
-                return
-            # One that was live joins again soon.
-            pause = FIRST_PAUSE if self._was_live else pause
-            until = time.monotonic() + pause
+        while not (self._has_worked() or self.is_leaving or self._state.word in FINAL):
+            until = time.monotonic() + self.pause
             while not self.is_leaving and time.monotonic() < until:
                 self.wait(until - time.monotonic())
-            pause = min(2 * pause, MOST_PAUSE)
+            self.pause = min(2 * self.pause, MOST_PAUSE)
 
-    def _work(self) -> bool:
+    def _has_worked(self) -> bool:
         """Joins and has turns; answers whether that went well up to the end."""
-        self._was_live = False
         try:
             with self.connected():
                 self.join_all()
-                self._was_live = True
+                # One that was live joins again soon.
+                self.pause = FIRST_PAUSE
                 self._stay()
             return True
         except Apart as apart:
