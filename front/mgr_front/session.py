@@ -9,7 +9,6 @@ from collections.abc import Callable, Generator, Sequence
 from dataclasses import replace
 
 from mgr_front import who
-from mgr_front.apart import place_apart
 from mgr_front.cells import cells
 from mgr_front.company import Company
 from mgr_front.completion import ANSWERED, KILL_EMACS, NAMED, accept, complete
