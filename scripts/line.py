@@ -34,9 +34,13 @@ class Line:
         """Nothing arrives any more, and nobody is told."""
         self.loop.call_soon_threadsafe(self._heard.clear)
 
+    def slow(self, delay):
+        """What comes arrives so many seconds later."""
+        self.delay = delay
+
     def mend(self):
-        """What was under way in silence arrives; whoever comes is let in."""
-        self.is_cut = False
+        """It is as at first: what was under way in silence arrives, and whoever comes is let in."""
+        self.is_cut, self.delay = False, 0.0
         self.loop.call_soon_threadsafe(self._heard.set)
 
     def bytes(self):
