@@ -27,7 +27,7 @@ import time
 
 from engines import ENGINES, await_that, fail, stop_all
 from live_writer import INSERTED, operations_of
-from terminal import ROOT, Server, Terminal, environment, is_gone
+from terminal import BEHIND, ROOT, Server, Terminal, environment, is_gone
 
 FOLDER = ROOT / "build" / "try-engines"
 NAME = "note"
@@ -182,13 +182,15 @@ class Person:
 
     def doze(self):
         """is stopped, as a laptop that is closed, and goes on"""
-        # The shell, which would take the terminal, is stopped first, and goes on last.
-        programs = int(self.terminal.ask("#{pane_pid}")), *self.terminal.programs()
-        for program in programs:
+        live, mgr = self.terminal.programs()
+        for program in (live, mgr):
             os.kill(program, signal.SIGSTOP)
         time.sleep(4 * self.engine.seconds)
-        for program in reversed(programs):
-            os.kill(program, signal.SIGCONT)
+        os.kill(mgr, signal.SIGCONT)
+        # The shell has the terminal, as it was left: the end of a line is C-j there.
+        self.terminal.write(f"fg; {BEHIND}")
+        self.terminal.press("C-j")
+        self.terminal.expect("an edit", self._is_begun, True, seconds=PATIENCE)
 
     ENDS = kill, kill_mgr, terminate, hang_up, leave, write_alone
 
