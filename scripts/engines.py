@@ -399,7 +399,7 @@ class SharedFolder(Engine):
 # Both ways, the newer file over the older one. A log that is on its way stands there in part.
 SYNC = """
 while sleep 1; do
-    for way in "$1/ $2/" "$2/ $1/"; do rsync -a --update --inplace --whole-file --bwlimit=16 $way; done
+    for way in "$1/ $2/" "$2/ $1/"; do rsync -a --update --inplace --whole-file --bwlimit=64 $way; done
 done
 """
 
