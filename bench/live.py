@@ -398,7 +398,7 @@ def paste(asked):
     screens = served.join(2)
     lines = "".join(f"{i:6} pasted line of the text\n" for i in range(50_000 // 32))
     took, back = [], []
-    for i in range(5):
+    for i in range(min(5, asked.keys)):
         sign = chr(0x6E00 + i)
         for screen in screens:
             screen.shown = b""
