@@ -26,8 +26,8 @@ MINE, THEIRS = "mine, of Bob", "theirs, of the hub\n"
 LOCAL, BY_PORT, OTHER = 1, 2, 5
 SAVE = b"\x18\x13"
 COLOUR, REVERSE = re.compile(r"\x1b\[[0-9;]*[34][0-7]m"), re.compile(r"\x1b\[7m\S")
-# A thousand of these make a log of more than 1 MB, which is soon read.
-DELETION = '{"id":[1,7],"op":"del"' + " " * 1050 + "}\n"
+# A thousand times this line make a log of more than 1 MB, which is soon read.
+LINE = '{"char":"x","id":[1,7],"op":"ins","parent":[0,0]' + " " * 1000 + "}\n"
 
 
 def begin(server, mgr, part, text=TEXT, engine=SharedHub):
@@ -157,7 +157,7 @@ def compacted(server, mgr):
     bob.leave()
     log, kept = bob.folder / "note.ops", bob.folder / "note.ops~"
     with open(log, "a") as lines:
-        lines.write('{"char":"x","id":[1,7],"op":"ins","parent":[0,0]}\n' + DELETION * 1000)
+        lines.write(LINE * 1000)
     size = log.stat().st_size
     bob.begin()
     bob.live()
