@@ -55,7 +55,8 @@ class Line:
                 raise ConnectionError
             answers, target = await asyncio.open_connection(HOST, self.target)
             self.links |= {writer, target}
-            await asyncio.gather(self._pass(reader, target, self.sent, number), self._pass(answers, writer, self.came, number))
+            going, coming = (reader, target, self.sent), (answers, writer, self.came)
+            await asyncio.gather(*(self._pass(*way, number) for way in (going, coming)))
         except OSError:
             pass
         writer.transport.abort()
