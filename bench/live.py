@@ -1,17 +1,17 @@
 #!/usr/bin/env python3
 """Measures what writing together is like, with mgr-live in pseudo terminals, and beside it what else there is.
 
-usage: live.py [--mgr MGR] [--keys N] [--idle N] [--largest N] [PART..]. Prints a row a figure, with what is wanted of it. From a key to a screen it is
-the time until the screen is sent what the key typed, a character that stands nowhere else. `turns` is four who type ten keys
-a second in turn; `no pause` is one who types as soon as the own screen has the last one, and `flood` the own keys of one while
-a peer sends as much as it can. Beside these stand crdt.el of Debian's package elpa-crdt, four emacsclients of one Emacs,
-four clients of one tmux with mg, and mg, Emacs and mgr-live alone. What is not installed is said, and left out. All figures
-are by the clock: what else the processors did is told at each part's end.
+usage: live.py [--mgr MGR] [--keys N] [--idle N] [--size N] [PART..]. Prints a row a figure, with what is wanted of it.
+From a key to a screen it is the time until the screen is sent what the key typed, a character that stands nowhere else.
+`turns` is four who type ten keys a second in turn; `no pause` is one who types as soon as the own screen has the last
+one, and `flood` the own keys of one while a peer sends as much as it can. Beside these stand crdt.el of Debian's
+package elpa-crdt, four emacsclients of one Emacs, four clients of one tmux with mg, and mg, Emacs and mgr-live alone.
+What is not installed is said, and left out. All figures are by the clock: what else the processors did is told at each
+part's end.
 """
 
 import argparse
 import fcntl
-import importlib.util
 import json
 import os
 import pathlib
@@ -32,13 +32,15 @@ import time
 ROOT = pathlib.Path(__file__).resolve().parent.parent
 sys.path.insert(0, str(ROOT / "scripts"))
 
-from engines import start, stop_all  # noqa: E402
+import engines  # noqa: E402
 from line import Line  # noqa: E402
 from play.peers import HOST, free_port  # noqa: E402
+from terminal import children  # noqa: E402
 
 FOLDER = ROOT / "build" / "bench" / "live"
 LIVE = [sys.executable, ROOT / "front" / "mgr-live"]
-SIZES = (1_000, 100_000, 900_000)
+# The sizes of notes, and what is wanted of the median to the others.
+SIZES, USUAL = {1_000: 30, 100_000: 50, 900_000: 100}, 100_000
 WRITERS, KEYS, EACH, IDLE = 4, 300, 0.1, 60.0
 ROWS, COLUMNS = 30, 100
 FIRST_LINE = b"a line of the note"
@@ -54,6 +56,15 @@ WIDE, NARROW = [chr(0x4E00 + i) for i in range(5000)], list("QZXJKVWY") * 1000
 def text_of(size):
     lines = (FIRST_LINE.decode() + "\n") * WRITERS
     return lines + "".join(f"{i:7} the quick brown fox\n" for i in range(size // 28))
+
+
+def note_of(size, name="1"):
+    """Returns the path of a note of this size, in a folder of this name, which is all that there is."""
+    shutil.rmtree(FOLDER, ignore_errors=True)
+    folder = FOLDER / name
+    folder.mkdir(parents=True)
+    (folder / "note").write_text(text_of(size))
+    return folder / "note"
 
 
 # ---- screens
@@ -95,6 +106,9 @@ class Screen:
             watch([self], 0.1)
             if os.waitpid(self.pid, os.WNOHANG)[0]:
                 return
+        self.kill()
+
+    def kill(self):
         os.kill(self.pid, signal.SIGKILL)
         os.waitpid(self.pid, 0)
 
@@ -134,7 +148,8 @@ def row(name, figures, *wanted):
     """Prints the median, the 99th of 100 and the worst of milliseconds, beside what is wanted of them."""
     figures = sorted(figures)
     seen = statistics.median(figures), figures[min(len(figures) - 1, len(figures) * 99 // 100)], figures[-1]
-    parts = [f"{what} {figure:7.1f}{aim(figure, want)}" for what, figure, want in zip(("median", "99 of 100", "worst"), seen, (*wanted, None, None, None))]
+    said = zip(("median", "99 of 100", "worst"), seen, (*wanted, None, None, None))
+    parts = [f"{what} {figure:7.1f}{aim(figure, want)}" for what, figure, want in said]
     print(f"    {name:34} {'  '.join(parts)} ms, of {len(figures)}", flush=True)
 
 
@@ -148,17 +163,10 @@ def figure_row(name, figure, unit, wanted=None):
     print(f"    {name:34} {figure:9.2f} {unit}{aim(figure, wanted)}", flush=True)
 
 
-def stat(pid):
-    return pathlib.Path(f"/proc/{pid}/stat").read_text().rsplit(")", 1)[1].split()
-
-
-def children(pid):
-    return [int(word) for word in pathlib.Path(f"/proc/{pid}/task/{pid}/children").read_text().split()]
-
-
 def processor(pid):
-    """Returns the seconds of processor that a process took so far."""
-    return sum(map(int, stat(pid)[11:13])) / os.sysconf("SC_CLK_TCK")
+    """Returns the seconds of processor that a process took so far, with the programs that it ran and that ended."""
+    words = pathlib.Path(f"/proc/{pid}/stat").read_text().rsplit(")", 1)[1].split()
+    return sum(map(int, words[11:15])) / os.sysconf("SC_CLK_TCK")
 
 
 def machine():
@@ -201,7 +209,7 @@ def in_turn(screens, signs, count, end=LINE_BEGIN):
 
 
 def without_pause(screens, signs, count):
-    """One types as soon as the own screen has the last character; returns the milliseconds to the last of the others."""
+    """One types as soon as the own screen has the last one; returns the milliseconds to that, and to all others."""
     writer, *others = screens
     for screen in screens:
         screen.shown = b""
@@ -243,15 +251,9 @@ class Hub:
 
     def __init__(self, mgr, size, by_line=False):
         self.mgr, self.by_line = mgr, by_line
-        shutil.rmtree(FOLDER, ignore_errors=True)
-        self.folder = FOLDER / "hub"
-        self.folder.mkdir(parents=True)
-        (self.folder / "note").write_text(text_of(size))
-        self.port = free_port()
-        words = {"MGR": mgr, "XDG_STATE_HOME": str(self.folder / "state")}
-        command = [sys.executable, ROOT / "front" / "mgr-hub", "note", "--port", str(self.port), "--replica", "9"]
-        self.process = start(command, cwd=self.folder, env=os.environ | words, stdout=subprocess.PIPE)
-        self.process.stdout.readline()
+        self.note = note_of(size, "hub")
+        self.hub = engines.Hub(mgr, self.note.parent, free_port())
+        self.port = self.hub.port
         self.screens, self.lines, self.joined = [], [], []
 
     def join(self, count=WRITERS):
@@ -267,17 +269,19 @@ class Hub:
         return self.screens
 
     def end(self):
+        """Has all leave; returns the text that all have then."""
         end_all(self.screens)
-        self.process.terminate()
-        self.process.wait()
-        texts = {(FOLDER / name / "note").read_text() for name in ("hub", *(str(i + 1) for i in range(len(self.screens))))}
+        self.hub.end()
+        notes = [self.note, *(FOLDER / str(i + 1) / "note" for i in range(len(self.screens)))]
+        texts = {note.read_text() for note in notes}
         if len(texts) != 1:
             sys.exit(f"the texts differ: {list(map(len, texts))}")
+        return texts.pop()
 
-    def programs(self):
-        """Returns the processes of the hub and of the fronts, each with its mgr."""
-        named = {"hub": self.process.pid, **{f"front {i + 1}": screen.pid for i, screen in enumerate(self.screens)}}
-        return {name: [pid, *children(pid)] for name, pid in named.items()}
+    def programs(self, kind):
+        """Returns the processes of the hub or of the fronts, each with its mgr."""
+        pids = [self.hub.process.pid] if kind == "hub" else [screen.pid for screen in self.screens]
+        return [each for pid in pids for each in (pid, *children(pid))]
 
 
 def front(mgr, number, address):
@@ -304,21 +308,23 @@ def together(screens, signs, median, count):
 
 def usual(asked):
     """Returns the size of a note where one is enough."""
-    return min(SIZES[1], asked.largest)
+    return asked.size or USUAL
 
 
 def sizes(asked):
-    """Returns sizes of notes, and what is wanted of the median."""
-    return [(size, median) for size, median in zip(SIZES, (30, 50, 100)) if size <= asked.largest]
+    """Yields sizes of notes, and what is wanted of the median."""
+    for size, median in SIZES.items():
+        if asked.size in (None, size):
+            print(f"  {size:,} characters")
+            yield size, median
 
 
 def hub(asked):
     """four at a hub"""
     for size, median in sizes(asked):
-        print(f"  {size:,} characters")
         served = Hub(asked.mgr, size)
         screens = served.join()
-        row("joining", served.joined, 500 if size == 100_000 else None)
+        row("joining", served.joined, 500 if size == USUAL else None)
         together(screens, WIDE, median, asked.keys)
         served.end()
 
@@ -373,14 +379,14 @@ def quiet(asked):
 
 def _spent(served, name, act, part, front_bytes, hub_bytes):
     """Tells what it cost to do something: of each process the part of a processor, and the bytes of the lines."""
-    programs = served.programs()
+    programs = {kind: served.programs(kind) for kind in ("hub", "front")}
     before = {pid: processor(pid) for pids in programs.values() for pid in pids}
     bytes_before, begun = [sum(line.bytes()) for line in served.lines], time.monotonic()
     act()
     seconds = time.monotonic() - begun
-    for kind in ("hub", "front"):
-        parts = [100 * (processor(pid) - before[pid]) / seconds for who, pids in programs.items() if who.startswith(kind) for pid in pids]
-        figure_row(f"{name}: a process of a {kind}", max(parts), "% of a processor at most", part)
+    for kind, pids in programs.items():
+        spent = max(processor(pid) - before[pid] for pid in pids)
+        figure_row(f"{name}: a process of a {kind}", 100 * spent / seconds, "% of a processor at most", part)
     passed = [(sum(line.bytes()) - old) / seconds for line, old in zip(served.lines, bytes_before)]
     figure_row(f"{name}: a front", max(passed) / 1000, "KB/s at most", front_bytes)
     figure_row(f"{name}: the hub", sum(passed) / 1000, "KB/s", hub_bytes)
@@ -392,7 +398,7 @@ def paste(asked):
     screens = served.join(2)
     lines = "".join(f"{i:6} pasted line of the text\n" for i in range(50_000 // 32))
     took, back = [], []
-    for i in range(5):
+    for i in range(min(5, asked.keys)):
         sign = chr(0x6E00 + i)
         for screen in screens:
             screen.shown = b""
@@ -406,49 +412,44 @@ def paste(asked):
         rest(screens, 1)
     row("a paste of 50 KB", took, 200)
     row("one C-_ takes it back", back)
-    served.end()
+    if served.end() != text_of(usual(asked)):
+        sys.exit("one C-_ does not take it back")
 
 
 def redis(asked):
     """four by a stream of Redis"""
-    if lacks("redis-server"):
+    if lacking := engines.SharedStream.lacks():
+        print(f"    left out: {lacking}")
         return
-    if not importlib.util.find_spec("redis"):
-        print("    left out: python3-redis is not installed")
-        return
-    shutil.rmtree(FOLDER, ignore_errors=True)
-    (FOLDER / "redis").mkdir(parents=True)
-    port = free_port()
-    words = ["--port", str(port), "--bind", HOST, "--dir", FOLDER / "redis", "--save", "", "--appendonly", "yes", "--appendfsync", "always"]
-    server = start(["redis-server", *words], stdout=subprocess.DEVNULL)
-    screens = begin_all(asked, f"redis://{HOST}:{port}/note")
+    note_of(usual(asked))
+    stream = engines.SharedStream(asked.mgr, FOLDER / "redis", None, 0.0)
+    screens = begin_all(asked, stream.url(stream.port))
     together(screens, WIDE, 50, asked.keys)
     end_all(screens)
-    server.terminate()
-    server.wait()
+    stream.stop()
 
 
 def git(asked):
     """four by a branch of git on this machine"""
-    shutil.rmtree(FOLDER, ignore_errors=True)
-    FOLDER.mkdir(parents=True)
+    if lacks("git"):
+        return
+    note_of(usual(asked))
     subprocess.run(["git", "init", "--quiet", "--bare", FOLDER / "note.git"], check=True)
     screens = begin_all(asked, f"git:{FOLDER / 'note.git'}#notes")
+    # What the first ones gave is committed.
     rest(screens, 31)
     took = []
-    for i in range(4):
+    for writer, sign in zip(screens, WIDE):
         for screen in screens:
             screen.shown = b""
-        screens[i].press(WIDE[i].encode() + LINE_BEGIN)
-        took.append(max(await_all(screens, WIDE[i].encode())))
+        writer.press(sign.encode() + LINE_BEGIN)
+        took.append(max(await_all(screens, sign.encode())))
     row("to the three others", took, 32_000)
     end_all(screens)
 
 
 def begin_all(asked, address):
     """Begins four; the first one brings the note, by a key: a plain text is nobody's before."""
-    (FOLDER / "1").mkdir()
-    (FOLDER / "1" / "note").write_text(text_of(usual(asked)))
     screens = []
     for number in range(1, WRITERS + 1):
         screens.append(front(asked.mgr, number, address))
@@ -492,12 +493,10 @@ def crdt(asked):
         print("    left out: elpa-crdt is not installed")
         return
     folder = next(pathlib.Path(CRDT).glob("crdt-*"))
-    loads = f'(add-to-list \'load-path "{folder}") (require \'crdt) (setq crdt-ask-for-name nil crdt-ask-for-password nil)'
+    loads = f"(add-to-list 'load-path \"{folder}\") (require 'crdt)"
+    loads += " (setq crdt-ask-for-name nil crdt-ask-for-password nil)"
     for size, median in sizes(asked):
-        print(f"  {size:,} characters")
-        shutil.rmtree(FOLDER, ignore_errors=True)
-        (FOLDER / "1").mkdir(parents=True)
-        (FOLDER / "1" / "note").write_text(text_of(size))
+        note_of(size)
         port, joined = free_port(), []
         screens = [emacs(1, loads, f'(find-file "note") (crdt-share-buffer "all" {port})')]
         await_all(screens, FIRST_LINE)
@@ -506,13 +505,12 @@ def crdt(asked):
             await_all(screens[-1:], b"all is loaded", all_screens=screens)
             rest(screens, 1)
             joined.append(connect(screens, f'(crdt-connect (url-generic-parse-url "tcp://{HOST}:{port}") "w{number}")'))
-        row("joining", joined, 500 if size == 100_000 else None)
+        row("joining", joined, 500 if size == USUAL else None)
         screens[0].press(b"\x1b<")
         at_lines(screens)
         together(screens, WIDE, median, asked.keys)
         for screen in screens:
-            os.kill(screen.pid, signal.SIGKILL)
-            os.waitpid(screen.pid, 0)
+            screen.kill()
 
 
 def connect(screens, form):
@@ -530,44 +528,43 @@ def connect(screens, form):
     return took
 
 
+def clients(command):
+    """Returns four screens with a client each of one program that has the note."""
+    screens = [Screen(command, FOLDER / str(number)) for number in range(1, WRITERS + 1)]
+    await_all(screens, FIRST_LINE)
+    return screens
+
+
 def one_emacs(asked):
     """four emacsclients of one Emacs"""
     if lacks("emacs", "emacsclient"):
         return
-    shutil.rmtree(FOLDER, ignore_errors=True)
-    (FOLDER / "1").mkdir(parents=True)
-    (FOLDER / "1" / "note").write_text(text_of(usual(asked)))
-    place = FOLDER / "socket"
+    note, place = note_of(usual(asked)), FOLDER / "socket"
     subprocess.run(["emacs", "-Q", f"--daemon={place}", "--eval", f"(progn {QUIET})"], check=True, capture_output=True)
-    screens = [Screen(["emacsclient", "-nw", "-s", place, FOLDER / "1" / "note"], FOLDER / str(number)) for number in range(1, WRITERS + 1)]
-    await_all(screens, FIRST_LINE)
+    screens = clients(["emacsclient", "-nw", "-s", place, note])
     at_lines(screens)
     together(screens, WIDE, 50, asked.keys)
-    subprocess.run(["emacsclient", "-s", place, "--eval", "(let (kill-emacs-hook) (kill-emacs))"], capture_output=True)
+    end = "(let (kill-emacs-hook) (kill-emacs))"
+    subprocess.run(["emacsclient", "-s", place, "--eval", end], capture_output=True)
 
 
 def one_tmux(asked):
     """four clients of one tmux, in which mg runs"""
     if lacks("tmux", "mg"):
         return
-    shutil.rmtree(FOLDER, ignore_errors=True)
-    (FOLDER / "1").mkdir(parents=True)
-    (FOLDER / "1" / "note").write_text(text_of(usual(asked)))
-    name = ["tmux", "-u", "-L", f"bench-{os.getpid()}", "-f", "/dev/null"]
-    size = ["-x", str(COLUMNS), "-y", str(ROWS)]
-    subprocess.run([*name, "new-session", "-d", *size, "mg", FOLDER / "1" / "note"], check=True)
-    screens = [Screen([*name, "attach"], FOLDER / str(number)) for number in range(1, WRITERS + 1)]
-    await_all(screens, FIRST_LINE)
+    note = note_of(usual(asked))
+    tmux = ["tmux", "-u", "-L", f"bench-{os.getpid()}", "-f", "/dev/null"]
+    subprocess.run([*tmux, "new-session", "-d", "-x", str(COLUMNS), "-y", str(ROWS), "mg", note], check=True)
+    screens = clients([*tmux, "attach"])
     rest(screens, 1)
     own, others = in_turn(screens, NARROW, asked.keys, b"")
     row("turns, to the own screen", own, 2, None, 50)
     row("turns, to the three others", others, 50, 150)
-    subprocess.run([*name, "kill-server"])
+    subprocess.run([*tmux, "kill-server"])
 
 
 def alone(asked):
     """own keys of one who writes alone"""
-    text = text_of(usual(asked))
     for name, command, signs in (
         ("mgr-live", [*LIVE, "note", "--replica", "1"], WIDE),
         ("mg", ["mg", "note"], NARROW),
@@ -575,15 +572,11 @@ def alone(asked):
     ):
         if lacks(str(command[0])):
             continue
-        shutil.rmtree(FOLDER, ignore_errors=True)
-        (FOLDER / "1").mkdir(parents=True)
-        (FOLDER / "1" / "note").write_text(text)
-        screen = Screen(command, FOLDER / "1", MGR=asked.mgr)
+        screen = Screen(command, note_of(usual(asked)).parent, MGR=asked.mgr)
         await_all([screen], FIRST_LINE)
         rest([screen], 1)
         row(name, own_keys(screen, signs, asked.keys), 2, None, 50)
-        os.kill(screen.pid, signal.SIGKILL)
-        os.waitpid(screen.pid, 0)
+        screen.kill()
 
 
 PARTS = {part.__name__: part for part in (alone, hub, flood, quiet, paste, redis, git, crdt, one_emacs, one_tmux)}
@@ -594,7 +587,7 @@ def main():
     parser.add_argument("--mgr", metavar="PATH", default=str(ROOT / "build" / "mgr"), help="another mgr")
     parser.add_argument("--keys", metavar="N", type=int, default=KEYS, help="how many keys a row is measured with")
     parser.add_argument("--idle", metavar="N", type=float, default=IDLE, help="for how many seconds nothing is done")
-    parser.add_argument("--largest", metavar="N", type=int, default=max(SIZES), help="leave out notes of more characters")
+    parser.add_argument("--size", metavar="N", type=int, choices=SIZES, help="only notes of so many characters")
     parser.add_argument("parts", metavar="PART", nargs="*", help=f"of {', '.join(PARTS)}; else all")
     asked = parser.parse_args()
     if not set(asked.parts) <= set(PARTS):
@@ -607,7 +600,7 @@ def main():
             PARTS[name](asked)
             load.tell()
     finally:
-        stop_all()
+        engines.stop_all()
 
 
 if __name__ == "__main__":

@@ -14,7 +14,6 @@ call by hand may name another mgr, and fewer characters and measurements.
 import argparse
 import json
 import os
-import pathlib
 import random
 import re
 import shutil

@@ -21,8 +21,8 @@ from mgr_front.notes import Refused  # noqa: E402
 
 HUB = ROOT / "front" / "mgr-hub"
 SSHD = "/usr/sbin/sshd"
-# The delay of a line that is slow.
-SLOW = 0.3
+# The delay of a line that is slow, and for how long a line is cut once.
+SLOW, LONG = 0.3, 60.0
 # So many MB a program of a hub may have at most.
 MOST_MEMORY = 300
 SECONDS = 120
@@ -32,13 +32,13 @@ def fail(what):
     sys.exit(f"NOT AS IT SHOULD BE: {what}")
 
 
-def await_that(what, is_so, seconds=SECONDS):
-    """Waits until something is so."""
+def await_that(what, is_so, seconds=SECONDS, pause=0.02):
+    """Waits until something is so, and looks again after each pause."""
     end = time.monotonic() + seconds
     while not is_so():
         if time.monotonic() > end:
             fail(what)
-        time.sleep(0.02)
+        time.sleep(pause)
 
 
 # ---- servers of this machine
@@ -146,6 +146,11 @@ class Sshd:
         return os.path.exists(SSHD)
 
 
+# What a request's headers are to git's http-backend.
+HEADERS = {"CONTENT_TYPE": "Content-Type"}
+HEADERS |= {f"HTTP_{name.upper().replace('-', '_')}": name for name in ("Content-Encoding", "Git-Protocol")}
+
+
 class GitOverHttp(http.server.BaseHTTPRequestHandler):
     """Repositories of a folder over http, by git's own http-backend."""
 
@@ -153,10 +158,12 @@ class GitOverHttp(http.server.BaseHTTPRequestHandler):
 
     def do_GET(self):
         path, _, query = self.path.partition("?")
-        given = self.rfile.read(int(self.headers.get("Content-Length") or 0))
-        words = {"PATH_INFO": path, "QUERY_STRING": query, "REQUEST_METHOD": self.command, "CONTENT_LENGTH": str(len(given))}
-        words |= {"GIT_PROJECT_ROOT": str(self.server.root), "GIT_HTTP_EXPORT_ALL": "1", "CONTENT_TYPE": self.headers["Content-Type"] or ""}
-        words |= {f"HTTP_{name.upper().replace('-', '_')}": self.headers[name] or "" for name in ("Content-Encoding", "Git-Protocol")}
+        size = self.headers.get("Content-Length") or "0"
+        given = self.rfile.read(int(size))
+        words = {"GIT_PROJECT_ROOT": str(self.server.root), "GIT_HTTP_EXPORT_ALL": "1", "PATH_INFO": path}
+        words |= {"QUERY_STRING": query, "REQUEST_METHOD": self.command, "CONTENT_LENGTH": size}
+        for variable, name in HEADERS.items():
+            words[variable] = self.headers[name] or ""
         done = subprocess.run(["git", "http-backend"], env=os.environ | words, input=given, capture_output=True)
         head, _, body = done.stdout.partition(b"\r\n\r\n")
         members = [line.partition(": ") for line in head.decode().split("\r\n")]
@@ -185,7 +192,7 @@ class Engine:
         self.lines, self.tools = [], ""
         folder.mkdir(parents=True)
         self.open()
-        self.disturbances += (self.cut_off, self.silence, self.slow) if self.lines else ()
+        self.disturbances += (self.cut_off, self.cut_for_long, self.silence, self.slow) if self.lines else ()
 
     lacks = staticmethod(lambda: "")
 
@@ -222,29 +229,29 @@ class Engine:
         time.sleep(self.seconds)
         away.rename(self.path)
 
-    def cut_off(self):
-        """the lines are cut"""
+    def hinder(self, hindrance, seconds):
+        """Does something to all lines, for so long."""
         for line in self.lines:
-            line.cut()
-        time.sleep(self.seconds)
+            hindrance(line)
+        time.sleep(seconds)
         for line in self.lines:
             line.mend()
+
+    def cut_off(self):
+        """the lines are cut"""
+        self.hinder(Line.cut, self.seconds)
+
+    def cut_for_long(self):
+        """the lines are cut for a minute"""
+        self.hinder(Line.cut, LONG)
 
     def silence(self):
         """nothing arrives by the lines"""
-        for line in self.lines:
-            line.silence()
-        time.sleep(self.seconds)
-        for line in self.lines:
-            line.mend()
+        self.hinder(Line.silence, self.seconds)
 
     def slow(self):
         """the lines are slow"""
-        for line in self.lines:
-            line.delay = SLOW
-        time.sleep(2 * self.seconds)
-        for line in self.lines:
-            line.delay = 0.0
+        self.hinder(lambda line: line.slow(SLOW), 2 * self.seconds)
 
 
 class SharedHub(Engine):
@@ -259,7 +266,7 @@ class SharedHub(Engine):
         if Sshd.is_there():
             words = "".join(f"{key}={self.hub.words[key]} " for key in ("MGR", "PATH", "XDG_STATE_HOME"))
             self.ssh(f"{words}{HUB} --join {self.hub.folder / 'note'}")
-        self.disturbances = (self.kill, self.empty, self.keep, self.restore, self.compact, self.strangers)
+        self.disturbances = self.kill, self.empty, self.keep, self.restore, self.compact, self.strangers
 
     def address(self, number):
         by_ssh = "--with hub.example:note" if Sshd.is_there() else f"--with {self.port}"
@@ -310,7 +317,6 @@ class SharedHub(Engine):
         subprocess.run([self.mgr, "compact", "note"], cwd=self.hub.folder, check=True, stdout=subprocess.DEVNULL)
         self.hub.begin()
 
-
     def strangers(self):
         """one floods, one drips, one says nothing, and one is far ahead"""
         hello = b'{"op":"hello","version":1,"replica":%d,"name":"eve","token":"%d"}\n'
@@ -344,7 +350,7 @@ class SharedFolder(Engine):
     def open(self):
         self.path, self.kept = self.folder / "shared", self.folder / "kept"
         self.path.mkdir()
-        self.disturbances = (self.away, self.empty, self.keep, self.restore, self.cut, self.spoil, self.touch)
+        self.disturbances = self.away, self.empty, self.keep, self.restore, self.cut, self.spoil, self.touch
 
     def address(self, _):
         return f"--with dir:{self.path}"
@@ -390,6 +396,53 @@ class SharedFolder(Engine):
             os.replace(self.path / "new", log)
 
 
+# Both ways, the newer file over the older one. A log that is on its way stands there in part.
+SYNC = """
+while sleep 1; do
+    for way in "$1/ $2/" "$2/ $1/"; do rsync -a --update --inplace --whole-file --bwlimit=64 $way; done
+done
+"""
+
+
+class SyncedFolder(SharedFolder):
+    """a folder on each of two machines, which a sync tool keeps alike: two write by each"""
+
+    def open(self):
+        super().open()
+        self.other = self.folder / "other"
+        self.other.mkdir()
+        self.sync()
+        self.disturbances = (*(each for each in self.disturbances if each != self.away), self.kill, self.turn_back)
+
+    @staticmethod
+    def lacks():
+        return "" if shutil.which("rsync") else "rsync is not installed"
+
+    def address(self, number):
+        return f"--with dir:{(self.other, self.path)[number % 2]}"
+
+    def sync(self):
+        """Begins the sync tool. What vanishes while it looks is no fault."""
+        words = ["sh", "-c", SYNC, "sync", self.path, self.other]
+        self.tool = start(words, stderr=open(self.folder / "said", "a"))
+
+    def stop(self):
+        os.killpg(self.tool.pid, signal.SIGKILL)
+        self.tool.wait()
+
+    def kill(self):
+        """the sync tool is killed, and begun again"""
+        self.stop()
+        time.sleep(self.seconds)
+        self.sync()
+
+    def turn_back(self):
+        """the sync tool puts older logs over newer ones"""
+        self.stop()
+        subprocess.run(["rsync", "-a", f"{self.path}/", f"{self.other}/"], check=False)
+        self.sync()
+
+
 class SharedBranch(Engine):
     """a branch of git: by its path, by git's own daemon, over http and over ssh"""
 
@@ -403,11 +456,12 @@ class SharedBranch(Engine):
         server = http.server.ThreadingHTTPServer((HOST, 0), GitOverHttp)
         server.root = self.folder
         threading.Thread(target=server.serve_forever, daemon=True).start()
-        self.places = [self.path, f"git://{HOST}:{self.line(port)}/shared.git", f"http://{HOST}:{self.line(server.server_port)}/shared.git"]
+        ports = {"git": self.line(port), "http": self.line(server.server_port)}
+        self.places = [self.path, *(f"{kind}://{HOST}:{ports[kind]}/shared.git" for kind in ports)]
         if Sshd.is_there():
             self.ssh('git shell -c \\"$SSH_ORIGINAL_COMMAND\\"')
             self.places.append(f"ssh://hub.example{self.path}")
-        self.disturbances = (self.away, self.empty, self.force_back, self.force_back, self.force_else, self.add, self.collect)
+        self.disturbances = self.away, self.empty, self.force_back, self.force_else, self.add, self.collect
 
     @staticmethod
     def lacks():
@@ -461,7 +515,7 @@ class SharedStream(Engine):
         self.data.mkdir()
         self.begin()
         self.far = self.line(self.port)
-        self.disturbances = (self.kill, self.lose, self.empty, self.remove, self.keep, self.restore, self.cut, self.trim)
+        self.disturbances = self.kill, self.lose, self.empty, self.remove, self.keep, self.restore, self.cut, self.trim
 
     @staticmethod
     def lacks():
@@ -536,4 +590,4 @@ class SharedStream(Engine):
             fail(f"the stream is not trimmed: {fault}")
 
 
-ENGINES = {"hub": SharedHub, "dir": SharedFolder, "git": SharedBranch, "redis": SharedStream}
+ENGINES = {"hub": SharedHub, "dir": SharedFolder, "sync": SyncedFolder, "git": SharedBranch, "redis": SharedStream}

@@ -34,9 +34,13 @@ class Line:
         """Nothing arrives any more, and nobody is told."""
         self.loop.call_soon_threadsafe(self._heard.clear)
 
+    def slow(self, delay):
+        """What comes arrives so many seconds later."""
+        self.delay = delay
+
     def mend(self):
-        """What was under way in silence arrives; whoever comes is let in."""
-        self.is_cut = False
+        """It is as at first: what was under way in silence arrives, and whoever comes is let in."""
+        self.is_cut, self.delay = False, 0.0
         self.loop.call_soon_threadsafe(self._heard.set)
 
     def bytes(self):
@@ -51,7 +55,8 @@ class Line:
                 raise ConnectionError
             answers, target = await asyncio.open_connection(HOST, self.target)
             self.links |= {writer, target}
-            await asyncio.gather(self._pass(reader, target, self.sent, number), self._pass(answers, writer, self.came, number))
+            going, coming = (reader, target, self.sent), (answers, writer, self.came)
+            await asyncio.gather(*(self._pass(*way, number) for way in (going, coming)))
         except OSError:
             pass
         writer.transport.abort()

@@ -157,7 +157,8 @@ def a_refused_log(terminal):
             said = f"mgr-live: notes.ops: line {lines}: Json: see `mgr mend notes`"
             terminal.expect("q", lambda: said in terminal.shown() and "status 1" in terminal.shown(), True)
             terminal.expect_file("notes.ops", damaged)
-    terminal.see("m", {0: "one", 8: mode_line("--", "L1 C0"), 9: "notes.ops.refused has what was left out; notes.ops~ has wha$"}, (0, 0))
+    said = "notes.ops.refused has what was left out; notes.ops~ has wha$"
+    terminal.see("m", {0: "one", 8: mode_line("--", "L1 C0"), 9: said}, (0, 0))
     terminal.write("!")
     terminal.press("C-x", "C-s", "C-x", "C-c")
     terminal.expect("left", lambda: any(row.endswith("status 0") for row in terminal.shown()), True)
@@ -165,6 +166,30 @@ def a_refused_log(terminal):
     terminal.expect_file("notes.ops~", damaged)
     terminal.expect_file("notes.ops.refused", "no operation\n")
     terminal.expect("another number", lambda: len(_numbers_in(log)), 2)
+
+
+def an_absent_folder(terminal):
+    """a note in a folder that is not there: what was written is kept apart, and the folder gets it once it is there"""
+    folder = terminal.folder / "absent"
+    terminal.begin("absent/notes")
+    said = "Nothing can be saved: absent is not there"
+    terminal.see("start", {8: mode_line("--", "L1 C0", "absent/notes"), 9: said}, (0, 0))
+    terminal.write("words ")
+    terminal.press("C-x", "C-c")
+    asked = "Not saved: s tries again, d leaves and keeps it apart?"
+    terminal.see("C-x C-c", {9: asked})
+    terminal.press("s")
+    terminal.see("s", {9: asked})
+    terminal.press("d")
+    terminal.expect("left", lambda: "status 0" in terminal.shown(), True)
+    terminal.picture()
+    folder.mkdir()
+    terminal.begin("absent/notes")
+    terminal.see("what was kept is there", {0: "words"}, (0, 0))
+    terminal.write("more ")
+    terminal.leave()
+    terminal.expect("left", lambda: "status 0" in terminal.shown(), True)
+    terminal.expect_file("absent/notes", "more words ")
 
 
 def refusals(terminal):
@@ -211,6 +236,7 @@ PARTS = (
     a_missing_part,
     numbers,
     a_refused_log,
+    an_absent_folder,
     refusals,
     open_twice,
 )

@@ -1,12 +1,13 @@
 #!/usr/bin/env python3
-"""Tries what carries a note: a hub, a folder, a branch of git, a stream of Redis. Four write in it by each, in terminals.
+"""Tries what carries a note between four: a hub, a folder, one behind a sync tool, a branch of git, a stream of Redis.
 
-usage: try_engines.py MGR [ENGINE..] [--seconds N] [--away N] [--seed S]. Each writes by mgr-live in a terminal of tmux, words
-of their own at lines of the text; the clocks of two are wrong. Meanwhile they are killed, hung up, ended by TERM, leave and
-come back; and the engine is away, is killed, emptied, put back to an older state or trimmed, and its lines are cut, silent or
-slow. At the end all have one text with each word that was typed, nothing waits, nothing was put aside, and nobody saw a
-conflict, a refusal or a traceback; then one who has nothing joins, and gets that text. What is not installed is said, and
-left out. `make try-engines` calls it; it takes some eight minutes.
+usage: try_engines.py MGR [ENGINE..] [--seconds N] [--away N] [--seed S]. Each writes by mgr-live in a terminal of tmux,
+words of their own at lines of the text; the clocks of two are wrong. Meanwhile they are killed, hung up, ended by TERM,
+stopped, leave and come back, one a day later; and the engine is away, is killed, emptied, put back to an older state or
+trimmed, and its lines are cut, one time for a minute, silent or slow. At the end all have one text with each word that
+was typed, nothing waits, nothing was put aside, and nobody saw a conflict, a refusal or a traceback; then one who has
+nothing joins, and gets that text. What is not installed is said, and left out. `make try-engines` calls it; it takes
+some fifteen minutes.
 """
 
 import argparse
@@ -26,7 +27,7 @@ import time
 
 from engines import ENGINES, await_that, fail, stop_all
 from live_writer import INSERTED, operations_of
-from terminal import ROOT, Server, Terminal, environment, is_gone
+from terminal import BEHIND, ROOT, Server, Terminal, environment, is_gone
 
 FOLDER = ROOT / "build" / "try-engines"
 NAME = "note"
@@ -40,7 +41,7 @@ HOME, DOWN, LINE_END, ENTER = b"\x1b<", b"\x0e", b"\x05", b"\r"
 # By the number of a writer, what is wrong with the clock; a day has passed for one who comes back.
 CLOCKS, DAY = {3: 3600, 4: -7200}, 86400
 CLOCK = "".join(glob.glob("/usr/lib/*/faketime/libfaketime.so.1")[:1])
-# libfaketime refuses the call by which Python sleeps, also where it waits for a program: there it sleeps by another one.
+# libfaketime refuses the call by which Python sleeps, and waits for a program: there it sleeps by another one.
 SLEEP = "import select, time\ntime.sleep = lambda seconds: select.select([], [], [], seconds)\n"
 
 
@@ -59,6 +60,8 @@ class Person:
         self.folder.mkdir(exist_ok=True)
         self.variables = environment(engine.mgr, self.folder) | {"XDG_CACHE_HOME": str(self.folder / "cache")}
         self.clock, self.seen = CLOCKS.get(number, 0), collections.Counter()
+        # Variables that the next edit has, as a shell takes them.
+        self.before = ""
         # Whoever holds it does something to the writer, or types.
         self.lock = threading.Lock()
         self.open()
@@ -76,7 +79,7 @@ class Person:
 
     def start(self, words=None):
         words = self.engine.address(self.number) if words is None else words
-        before = f"PATH={self.engine.tools}$PATH"
+        before = f"{self.before} PATH={self.engine.tools}$PATH"
         if CLOCK and self.clock:
             home = self.variables["HOME"]
             pathlib.Path(home, "sitecustomize.py").write_text(SLEEP)
@@ -112,7 +115,8 @@ class Person:
 
     def left(self):
         """Waits until the shell is back, and looks for what must not be said."""
-        self.terminal.expect("the shell", lambda: any(row.startswith("status ") for row in self.terminal.shown()), True, seconds=PATIENCE)
+        said = lambda: any(row.startswith("status ") for row in self.terminal.shown())  # noqa: E731
+        self.terminal.expect("the shell", said, True, seconds=PATIENCE)
         self.expect_no_traceback()
 
     def expect_no_traceback(self):
@@ -136,7 +140,8 @@ class Person:
         """Waits until the last word is shown, and then until it is in the log, which comes after that."""
         word = self.words[-1]
         self.terminal.expect("its word", lambda: word in " ".join(self.terminal.shown()), True, seconds=PATIENCE)
-        await_that(f"{word} is in the log", lambda: word in words_in(typed(operations_in(self.engine.log(self.number)))), PATIENCE)
+        logged = lambda: words_in(typed(operations_in(self.engine.log(self.number))))  # noqa: E731
+        await_that(f"{word} is in the log", lambda: word in logged(), PATIENCE)
 
     def kill(self):
         """is killed, as for want of memory"""
@@ -175,7 +180,19 @@ class Person:
         self.clock += DAY
         time.sleep(2 * self.engine.seconds)
 
-    ENDS = (kill, kill_mgr, terminate, hang_up, leave, write_alone)
+    def doze(self):
+        """is stopped, as a laptop that is closed, and goes on"""
+        live, mgr = self.terminal.programs()
+        for program in (live, mgr):
+            os.kill(program, signal.SIGSTOP)
+        time.sleep(4 * self.engine.seconds)
+        os.kill(mgr, signal.SIGCONT)
+        # The shell has the terminal, as it was left: the end of a line is C-j there.
+        self.terminal.write(f"fg; {BEHIND}")
+        self.terminal.press("C-j")
+        self.terminal.expect("an edit", self._is_begun, True, seconds=PATIENCE)
+
+    ENDS = kill, kill_mgr, terminate, hang_up, leave, write_alone
 
     def ask(self, *words):
         """Returns what mgr says of the note's log."""
@@ -193,7 +210,7 @@ def operations_in(log):
 
 
 def typed(made):
-    """Returns what each wrote in these operations: another one may write in the middle of a word of which a half has come."""
+    """Returns what each wrote in these operations: another one may write within a word of which a half has come."""
     texts = collections.defaultdict(str)
     for (kind, _, replica), value in sorted(made.items()):
         texts[replica] += value[0] if kind == INSERTED else ""
@@ -259,28 +276,29 @@ class Trial:
         time.sleep(2)
         while time.monotonic() < end or waits:
             if not waits:
-                waits = [*self.engine.disturbances, *Person.ENDS]
+                waits = [*self.engine.disturbances, *Person.ENDS, Person.doze]
                 self.chance.shuffle(waits)
             disturbance = waits.pop()
             counts[disturbance.__doc__] += 1
             self.note(disturbance.__doc__)
-            if disturbance in Person.ENDS:
-                self.end_one(disturbance)
-            else:
+            if disturbance in self.engine.disturbances:
                 disturbance()
+            else:
+                self.disturb_one(disturbance)
             time.sleep(self.chance.uniform(*DISTURBANCES))
         return counts
 
-    def end_one(self, disturbance):
-        """A writer ends so, and begins again."""
+    def disturb_one(self, disturbance):
+        """Does it to a writer, who begins again if it is an end."""
         person = self.chance.choice(self.people)
         self.note(f"    that is {person.number}")
         with person.lock:
             person.type()
             disturbance(person)
-            self.note("    it ended")
-            person.begin()
-            self.note("    it began again")
+            self.note("    it is done")
+            if disturbance in Person.ENDS:
+                person.begin()
+                self.note("    it began again")
 
     def note(self, what):
         """Takes note of what is done, and when."""
@@ -290,10 +308,13 @@ class Trial:
     def logs(self):
         return [self.engine.log(person.number) for person in self.people] + self.engine.others()
 
+    def _is_one(self):
+        return len({ask(self.mgr, log, "claims") for log in self.logs()}) == 1
+
     def come_together(self, people=None):
         """Waits until all logs have the same; returns how many seconds that took."""
         begun = time.monotonic()
-        await_that(f"one text: {self.engine.folder}", lambda: len({ask(self.mgr, log, "claims") for log in self.logs()}) == 1, TOGETHER)
+        await_that(f"one text: {self.engine.folder}", self._is_one, TOGETHER, pause=0.5)
         for person in people or self.people:
             person.live()
         return time.monotonic() - begun
@@ -313,7 +334,8 @@ class Trial:
         text = ask(self.mgr, self.logs()[0], "show").decode()
         texts = typed(operations_in(self.logs()[0]))
         expect("how many characters there are", sum(map(len, texts)), len(text))
-        expect("the words that are lost", [], sorted({word for person in self.people for word in person.words} - words_in(texts)))
+        words = {word for person in self.people for word in person.words}
+        expect("the words that are lost", [], sorted(words - words_in(texts)))
         for log in self.logs():
             expect(f"the text of {log}", text, ask(self.mgr, log, "show").decode())
             expect(f"what waits in {log}", 0, json.loads(ask(self.mgr, log, "log", "--json"))["waiting"])

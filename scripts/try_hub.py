@@ -1,20 +1,22 @@
 #!/usr/bin/env python3
-"""Tries what `try_engines.py` does not of a hub: one who is alone at first, other notes, copies under one number.
+"""Tries what `try_engines.py` does not: one who is alone at first, other notes, copies under one number, mended notes.
 
-The argument is a built mgr. A writer types in a terminal of tmux, at a hub that has a note. At the end the notes are compared:
-one text, with every word. Further words name the parts that are tried; without them all are. `make try-hub` calls it, and no
-test waits for it.
+The argument is a built mgr. A writer types in a terminal of tmux, at a hub that has a note, or by a stream of Redis. At
+the end the notes are compared: one text, with every word. Further words name the parts that are tried; without them all
+are. `make try-hub` calls it, and no test waits for it.
 """
 
+import concurrent.futures
 import os
 import random
+import re
 import shutil
 import signal
 import subprocess
 import sys
 import time
 
-from engines import HUB, SharedHub, await_that, fail, stop_all
+from engines import HUB, SharedHub, SharedStream, await_that, fail, stop_all
 from terminal import ROOT, Server, text_of
 from try_engines import Trial, state_of
 
@@ -23,15 +25,36 @@ TEXT = "the text of the hub\n"
 MINE, THEIRS = "mine, of Bob", "theirs, of the hub\n"
 LOCAL, BY_PORT, OTHER = 1, 2, 5
 SAVE = b"\x18\x13"
+COLOUR, REVERSE = re.compile(r"\x1b\[[0-9;]*[34][0-7]m"), re.compile(r"\x1b\[7m\S")
+# A thousand times this line make a log of more than 1 MB, which is soon read.
+LINE = '{"char":"x","id":[1,7],"op":"ins","parent":[0,0]' + " " * 1000 + "}\n"
 
 
-def begin(server, mgr, part, text=TEXT):
-    """Returns a trial at a hub whose note has this text, without a writer."""
-    return Trial(server, SharedHub(mgr, FOLDER / part, random.Random(part), 0.5, text))
+def begin(server, mgr, part, text=TEXT, engine=SharedHub):
+    """Returns a trial at a hub whose note has this text, without a writer; by another engine nothing is there."""
+    return Trial(server, engine(mgr, FOLDER / part, random.Random(part), 0.5, text))
+
+
+def at_each(server, mgr, part, text=TEXT):
+    """Yields a trial at a hub and one by Redis; what each carries has this text."""
+    yield begin(server, mgr, f"{part}-hub", text)
+    if lacks := SharedStream.lacks():
+        print(f"    left out: {lacks}")
+        return
+    trial = begin(server, mgr, f"{part}-redis", engine=SharedStream)
+    alice = trial.writer(LOCAL)
+    (alice.folder / "note").write_text(text)
+    alice.begin()
+    alice.live()
+    yield trial
 
 
 def alone(person):
     person.terminal.expect("alone", lambda: state_of(person.terminal).startswith("alone since"), True, seconds=30)
+
+
+def await_passed_on(trial, word):
+    await_that("it is passed on", lambda: word in (trial.engine.hub.folder / "note").read_text())
 
 
 def edited(trial, folder, number, text):
@@ -75,21 +98,116 @@ def taken_back(server, mgr):
 
 
 def a_plain_text(server, mgr):
-    """who joins with a plain text is asked, too"""
-    trial = begin(server, mgr, "plain", "theirs\n")
-    bob = trial.writer(BY_PORT)
-    (bob.folder / "note").write_text("mine\n")
-    asked(bob)
-    answer(bob, "f")
-    bob.write("x")
-    bob.terminal.expect("both", lambda: sorted(row for row in bob.terminal.shown()[:-2] if row), ["theirs", "xmine"])
-    print(f"fused: {trial.settle()!r}")
+    """who joins with a plain text is asked, too, at a hub and by Redis"""
+    for trial in at_each(server, mgr, "plain", "theirs\n"):
+        bob = trial.writer(BY_PORT)
+        (bob.folder / "note").write_text("mine\n")
+        asked(bob, "t, f or q?")
+        answer(bob, "f")
+        bob.write("x")
+        rows = lambda: sorted(row for row in bob.terminal.shown()[:-2] if row)  # noqa: E731
+        bob.terminal.expect("both", rows, ["theirs", "xmine"])
+        print(f"fused: {trial.settle()!r}")
 
 
-def asked(person):
-    """Has one join who is asked what becomes of a note."""
+def mended(server, mgr):
+    """a log gets a line that is none, and then another program rewrites the text, at a hub and by Redis"""
+    for trial in at_each(server, mgr, "mended"):
+        bob = trial.person(BY_PORT)
+        bob.live()
+        bob.write("one ")
+        bob.leave()
+        with open(bob.folder / "note.ops", "a") as log:
+            log.write("no operation\n")
+        asked(bob, "m or q?")
+        answer(bob, "m")
+        bob.write("two ")
+        bob.leave()
+        with open(bob.folder / "note", "a") as note:
+            note.write("three\n")
+        asked(bob, "f or l?")
+        answer(bob, "f")
+        bob.words.append("three")
+        print(f"mended: {trial.settle()!r}")
+
+
+def rewritten(server, mgr):
+    """another program rewrites the text of a hub's note, while the hub is away"""
+    trial = begin(server, mgr, "rewritten")
+    hub, bob = trial.engine.hub, trial.person(BY_PORT)
+    bob.write("one ")
+    await_passed_on(trial, "one")
+    hub.end()
+    (hub.folder / "note").write_text("rewritten\n")
+    bob.write("two ")
+    hub.begin()
+    print("\n".join(f"    | {line}" for line in hub.lines() if "note~" in line))
+    bob.live()
+    if (hub.folder / "note~").read_text() != "rewritten\n":
+        fail("what another program wrote is in no file")
+    (hub.folder / "note~").unlink()
+    print(f"the log's text: {trial.settle()!r}")
+
+
+def compacted(server, mgr):
+    """a log of more than 1 MB is compacted as one leaves, while another one writes"""
+    trial = begin(server, mgr, "compacted")
+    alice, bob = trial.person(LOCAL), trial.person(BY_PORT)
+    bob.write("one ")
+    bob.leave()
+    log, kept = bob.folder / "note.ops", bob.folder / "note.ops~"
+    with open(log, "a") as lines:
+        lines.write(LINE * 1000)
+    size = log.stat().st_size
+    bob.begin()
+    bob.live()
+    bob.write("two ")
+    with concurrent.futures.ThreadPoolExecutor(1) as pool:
+        leaving = pool.submit(bob.leave)
+        while not leaving.done():
+            alice.type()
+            time.sleep(0.5)
+    leaving.result()
+    print(f"a log of {size:,} bytes has {log.stat().st_size:,}")
+    if not kept.exists() or log.stat().st_size > size // 10:
+        fail("it is not compacted")
+    # The text as well: its log grew by another program.
+    for path in bob.folder.glob("note*~"):
+        path.unlink()
+    bob.begin()
+    bob.type()
+    print(f"the note: {trial.settle()!r}")
+
+
+def colours(server, mgr):
+    """others are shown in colours, and by NO_COLOR in reverse"""
+    trial = begin(server, mgr, "colours")
+    alice, bob = trial.person(LOCAL), trial.writer(BY_PORT)
+    bob.before = "NO_COLOR=1"
+    bob.begin()
+    alice.write("a ")
+    for person, wanted in ((alice, (True, False)), (bob, (False, True))):
+        look = _looks(person.terminal)
+        person.terminal.expect("colour, and reverse", look, wanted)
+        print(f"{person.number}: colour {wanted[0]}, reverse {wanted[1]}")
+    trial.settle()
+
+
+def _looks(terminal):
+    """Returns what looks whether a colour stands in the text, and whether something stands there in reverse."""
+
+    def look():
+        text = "\n".join(terminal.tmux("capture-pane", "-p", "-e").split("\n")[: terminal.rows - 2])
+        return bool(COLOUR.search(text)), bool(REVERSE.search(text))
+
+    return look
+
+
+def asked(person, question):
+    """Has one begin who is asked something, so that something may be put aside."""
+    person.counts["asked"] += 1
     person.start()
-    person.terminal.expect("the question", lambda: "t, f or q?" in person.terminal.shown(), True, seconds=60)
+    person.terminal.expect("the question", lambda: question in person.terminal.shown(), True, seconds=60)
 
 
 def answer(person, letter):
@@ -106,7 +224,7 @@ def another_note(server, mgr):
     home = bob.folder
     edited(trial, home, 7, MINE)
     for letter, texts in (("q", {"note": MINE}), ("t", {"note": THEIRS, "note~": MINE})):
-        asked(bob)
+        asked(bob, "t, f or q?")
         print("\n".join("    | " + row for row in bob.terminal.shown()[:8] if row))
         answer(bob, letter)
         if letter == "t":
@@ -125,10 +243,10 @@ def restored(server, mgr):
         hub, bob = trial.engine.hub, trial.person(BY_PORT)
         bob.live()
         bob.write("one ")
-        await_that("it is passed on", lambda: "one" in (hub.folder / "note").read_text())
+        await_passed_on(trial, "one")
         shutil.copy(bob.folder / "note.ops", bob.folder / "older")
         bob.write("two ")
-        await_that("it is passed on", lambda: "two" in (hub.folder / "note").read_text())
+        await_passed_on(trial, "two")
         bob.kill()
         if is_away:
             hub.end()
@@ -149,7 +267,7 @@ def conflict(server, mgr):
     bob, other = trial.person(BY_PORT), trial.engine.home(OTHER)
     bob.write("both ")
     bob.live()
-    await_that("what was typed is passed on", lambda: "both" in (trial.engine.hub.folder / "note").read_text())
+    await_passed_on(trial, "both")
     number = [line.split()[-2].strip("()") for line in trial.engine.hub.lines() if "joined" in line][0]
     bob.leave()
     other.mkdir()
@@ -160,7 +278,7 @@ def conflict(server, mgr):
     words = f"--replica {number} {trial.engine.address(BY_PORT)}"
     first.begin(words)
     first.live()
-    await_that("the first is passed on", lambda: "one" in (trial.engine.hub.folder / "note").read_text())
+    await_passed_on(trial, "one")
     first.leave()
     bob.begin(words)
     bob.terminal.expect("a conflict", lambda: state_of(bob.terminal), "conflict", seconds=60)
@@ -173,7 +291,21 @@ def conflict(server, mgr):
         fail("what was typed after the conflict is not in the note")
 
 
-PARTS = {part.__name__: part for part in (away_at_the_start, taken_back, a_plain_text, another_note, restored, conflict)}
+PARTS = {
+    part.__name__: part
+    for part in (
+        away_at_the_start,
+        taken_back,
+        a_plain_text,
+        mended,
+        rewritten,
+        compacted,
+        colours,
+        another_note,
+        restored,
+        conflict,
+    )
+}
 
 
 def main():
