@@ -19,7 +19,7 @@ use Rattle.mg_minibuffer.specs.PromptStep.{prompt_step}
 use Rattle.mg_minibuffer.specs.Scenes.{Scene}
 use Rattle.mg_minibuffer.specs.SearchStep.{command, failed, from_match, goes_to, sought, with_match, with_pattern}
 use Rattle.mg_minibuffer.specs.Typing.{longest_answer, typed}
-use Rattle.mg_dialogue.specs.Dialogues.{Dialogue, prompt_after, takes_text}
+use Rattle.mg_minibuffer.specs.Dialogues.{Dialogue, prompt_after, takes_text}
 use Rattle.mg_workspace.specs.Workspaces.{scene_of}
 use Rattle.mg_editor.specs.Editors.{Editor}
 use Rattle.mg_editor.specs.Pasting.{PasteAnswer, PastedAt, Inserts, IsBusy, Types, first_line}

@@ -4,7 +4,7 @@
 //! runs in the current buffer, buffers and windows change, or the open prompt goes on. There is no
 //! file, no socket and no terminal in sight: what is asked of the files and of peers is answered as
 //! a `Request`, which `carry` takes to any port. The crate stands on mg_workspace for buffers and
-//! windows, on mg_dialogue for keys, prompts and messages, on mg_minibuffer for what steps lead to,
+//! windows, on mg_minibuffer for keys, prompts and messages, on mg_minibuffer for what steps lead to,
 //! on mg_files for ports, on mg_sync for peers, and is generic over any `TextStore`. The layer
 //! above may rest on `Pressed`: which step the keys gave, and what that left of the buffers, the
 //! windows, the prompt, the message and the keys. A press that answers `Memory` changed nothing but

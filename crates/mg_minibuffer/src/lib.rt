@@ -11,6 +11,8 @@
 #![tactic(auto)]
 
 mod answers;
+mod dialogue;
+mod echo;
 mod ending;
 pub mod laws;
 mod lines;
@@ -23,6 +25,7 @@ mod searching;
 mod steps;
 
 pub use answers::MAX_ANSWER;
+pub use dialogue::Dialogue;
 pub use ending::{Action, Arrangement, Ending, Next, Reaction, Request};
 pub use message::Message;
 pub use plain::plain_step;

@@ -9,7 +9,7 @@ use crate::edit::{edit, edit_once};
 use crate::outcome::{Notice, Plan};
 use crate::view::View;
 use crate::words::{has_word_character, word_end};
-use mg_text::splice;
+use crate::splice;
 use rga_ops::Splice;
 use std::alloc::{AllocError, Global};
 

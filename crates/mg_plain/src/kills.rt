@@ -8,7 +8,7 @@ use crate::edit::change;
 use crate::outcome::{Notice, Plan};
 use crate::view::{Kind, View};
 use crate::words::word_end;
-use mg_text::line_end;
+use crate::line_end;
 use std::alloc::Global;
 
 fn delete(alloc: Global, view: &View<'_>, lo: usize, hi: usize) -> Result<Plan, Notice>

@@ -7,7 +7,7 @@ use crate::edit::{carry_over, change, edit, edit_once};
 use crate::matching::{first_match, stands_at};
 use crate::outcome::{Notice, Plan};
 use crate::view::View;
-use mg_text::splice;
+use crate::splice;
 use rga_ops::Splice;
 use std::alloc::{AllocError, Global};
 

@@ -11,6 +11,7 @@
 //! stop of the machine leaves the old log or the mended one.
 #![tactic(auto)]
 
+mod compaction;
 mod fate;
 mod judging;
 pub mod laws;
@@ -20,5 +21,6 @@ mod reading;
 #[cfg(test)]
 mod tests;
 
+pub use compaction::compact_note;
 pub use mended::{LeftOut, Mended, mend_log};
 pub use note::mend_note;

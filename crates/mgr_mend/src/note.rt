@@ -4,7 +4,7 @@ ghost use Rattle.std.specs.Io.KnownBytes.{Appends};
 ghost use Rattle.mg_files.specs.Calls.{failures_after};
 ghost use Rattle.mgr_port.specs.Disk.{whole_steps};
 ghost use Rattle.mgr_port.specs.Logs.{SameElsewhere, StaysSame, StopsEarly, renamed};
-ghost use Rattle.mgr_compact.specs.Ends.{failures_after_compaction};
+ghost use Rattle.mgr_mend.specs.CompactionEnds.{failures_after_compaction};
 ghost use Rattle.mgr_mend.specs.Mending.{mended, refused_of, left_out_of};
 ghost use Rattle.mgr_mend.specs.Ends.{MendsInPart, mended_standing};
 
@@ -12,7 +12,7 @@ use crate::mended::{LeftOut, Mended, mend_log};
 use mg_files::PortFault;
 use mgr_port::Logs;
 use mgr_show::ShowFault;
-use rga_devices::Counted;
+use rga_exchange::Counted;
 use std::alloc::Global;
 use std::io::Write;
 
@@ -66,7 +66,7 @@ pub fn mend_note<L: Logs>(alloc: Global, logs: &mut L, name: &str) -> Result<Lef
 }
 
 /// The log of a name, open, and its bytes.
-#[tactic(auto, using(mgr_port::proofs::LogsLaws::elsewhere, crate::proofs::NoteLaws::read_whole))]
+#[tactic(auto, using(mgr_port::proofs::LogsLaws::elsewhere, mgr_mend::proofs::NoteLaws::read_whole))]
 fn open_whole<L: Logs>(logs: &mut L, name: &str) -> Result<(L::Log, Vec<u8>), PortFault>
     ensures bytes { IfOk result (λ opened. IfSome (L.standing logs.old name.now)
         (λ s. opened.1.items ≡ s.log)) }
@@ -113,7 +113,7 @@ fn put_mended<L: Logs>(
 }
 
 /// Writes bytes beside a log, and gives that its name.
-#[tactic(auto, using(mgr_port::proofs::LogsLaws::elsewhere, crate::proofs::NoteLaws::raised_by))]
+#[tactic(auto, using(mgr_port::proofs::LogsLaws::elsewhere, mgr_mend::proofs::NoteLaws::raised_by))]
 fn write_anew<L: Logs>(logs: &mut L, name: &str, log: L::Log, bytes: &[u8]) -> Result<(), PortFault>
     ensures named { OnOk result (IfSome (L.standing logs.old name.now)
         (λ _. L.standing logs.new name.now ≡ Some (renamed whole_steps bytes.now))) }

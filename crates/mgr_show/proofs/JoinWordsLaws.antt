@@ -20,7 +20,7 @@ use Rattle.rga_exchange.specs.DeletionRuns.{has_deletion_runs}
 use Rattle.rga_exchange.specs.Sending.{StandsFor}
 use Rattle.rga_exchange.proofs.LogLaws.{log_only_operations, log_without_fault}
 use Rattle.rga_exchange.proofs.MeetingLaws.{first_fits}
-use Rattle.rga_compaction.specs.Compacting.{compact_text}
+use Rattle.rga_exchange.specs.Compacting.{compact_text}
 use Rattle.mgr_show.specs.declared.fault.JoinFault.{JoinFault}
 use Rattle.mgr_show.specs.declared.fault.JoinFault.TheVariants as join
 use Rattle.mgr_show.specs.Log.{ShowOutcome, shown_from}

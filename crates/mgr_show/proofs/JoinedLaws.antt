@@ -6,12 +6,12 @@ use Rattle.rga_ops.specs.Content.{Content, nothing, content_of}
 use Rattle.rga_ops.specs.Answer.{taken_one_by_one}
 use Rattle.rga_ops.proofs.TakenLaws.{taken_from_nothing, taken_list_agrees, one_by_one-append}
 use Rattle.rga_store.specs.declared.text_store.TheConstants.{MAX_LIMIT}
-use Rattle.rga_devices.specs.Counting.{Calls, Writes, WritesFront, WritesNothing}
+use Rattle.rga_exchange.specs.Counting.{Calls, Writes, WritesFront, WritesNothing}
 use Rattle.rga_lines.specs.Log.{log_operations}
 use Rattle.rga_lines.specs.Stream.{rest_of}
 use Rattle.rga_exchange.specs.DeletionRuns.{has_deletion_runs}
 use Rattle.rga_exchange.specs.Sending.{StandsFor}
-use Rattle.rga_compaction.specs.Compacting.{compact_text}
+use Rattle.rga_exchange.specs.Compacting.{compact_text}
 use Rattle.mgr_show.specs.declared.fault.JoinFault.{JoinFault}
 use Rattle.mgr_show.specs.declared.fault.JoinFault.TheVariants as join
 use Rattle.mgr_show.specs.Log.{ShowOutcome, shown_from}

@@ -3,7 +3,7 @@ use Rattle.std.specs.Prelude.{◌≡◌, ◌↔◌, ℕ, ◌+◌, ◌<◌, ◌�
 use Rattle.std.specs.List.{flat_map, list_any}
 use Rattle.rga_ops.specs.Content.{Content, content_of, known_count, nothing, IsAgreed}
 use Rattle.rga_ops.specs.declared.op.Op.{Op}
-use Rattle.rga_devices.specs.Counting.{Calls, Writes, WritesFront}
+use Rattle.rga_exchange.specs.Counting.{Calls, Writes, WritesFront}
 use Rattle.rga_lines.specs.Log.{log_operations, HasOnlyOperations}
 use Rattle.rga_lines.specs.Stream.{rest_of}
 use Rattle.rga_store.specs.declared.text_store.TheConstants.{MAX_LIMIT}
@@ -11,7 +11,7 @@ use Rattle.rga_exchange.specs.DeletionRuns.{has_deletion_runs}
 use Rattle.rga_exchange.specs.Sending.{StandsFor}
 use Rattle.rga_exchange.specs.declared.fault.SendFault.{SendFault}
 use Rattle.rga_exchange.specs.declared.fault.SendFault.TheVariants as send
-use Rattle.rga_compaction.specs.Compacting.{compact_text}
+use Rattle.rga_exchange.specs.Compacting.{compact_text}
 use Rattle.mgr_show.specs.Log.{ShowOutcome, shown_from}
 use Rattle.mgr_show.specs.Shown.{IsOfInput}
 use Rattle.mgr_show.specs.Sources.{failures_after}

@@ -2,7 +2,7 @@
 ghost use Rattle.std.specs.Prelude.{◌≡◌, ◌≢◌, ◌⊎◌, ◌||◌, ℕ, List, [], length, map, string_bytes, true, Ok, Err, OnOk, OnErr, IfErr, IfSome};
 ghost use Rattle.std.specs.List.{list_any};
 ghost use Rattle.rga_store.specs.declared.text_store.TheConstants.{MAX_LIMIT};
-ghost use Rattle.rga_devices.specs.Counting.{CountsAs, WritesNothing};
+ghost use Rattle.rga_exchange.specs.Counting.{CountsAs, WritesNothing};
 ghost use Rattle.rga_exchange.specs.DeletionRuns.{has_deletion_runs};
 ghost use Rattle.rga_exchange.specs.Taking.{intake};
 ghost use Rattle.mgr_show.specs.Log.{HasFollowed, shown_from};
@@ -14,7 +14,7 @@ use crate::compact::compact_records;
 use crate::fault::{JoinFault, ShowFault};
 use crate::show::take_whole_log;
 use crate::sources::Sources;
-use rga_devices::Counted;
+use rga_exchange::Counted;
 use rga_records::Records;
 use rga_store::{MAX_LIMIT, Taker};
 use std::alloc::Global;

@@ -6,7 +6,7 @@
 //! `send_lines` writes them; `hear_summary` reads what a peer writes so, and `send_missing` then
 //! writes an exchange of what the peer lacks by it. The crate stands on rga_ops, on the traits of
 //! rga_store, on rga_digest for the summaries, on serde_json for the JSON, on rga_lines for lines,
-//! on rga_devices for devices, and on rga_exchange for the exchange. The layer above may rest on
+//! on rga_exchange for devices, and on rga_exchange for the exchange. The layer above may rest on
 //! the contracts, for any store and any device that tells its bytes: a line that is written says
 //! its claim, and what any other text says is one total function of it; what is written is exactly
 //! the claims of the one summary of the store; what is heard is one total function of the bytes,

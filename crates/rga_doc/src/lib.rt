@@ -6,7 +6,7 @@
 //! inserted and deleted. A place among others' edits is kept by an `Anchor`. A document may list
 //! the characters of its visible elements, so that they are lent, and edits change them in place.
 //!
-//! The crate stands on rga_ops, on the traits of rga_store, on rga_characters for what is listed,
+//! The crate stands on rga_ops, on the traits of rga_store, on rga_doc for what is listed,
 //! and on indexmap, which no public signature names; it is generic over any `TextStore`. The layer
 //! above may rest on the contracts: the operations answered are those of the definition, the
 //! content is joined with them, and the text afterwards is the splice of the text before; by a law,
@@ -14,6 +14,7 @@
 #![tactic(auto)]
 
 mod anchor;
+mod characters;
 mod doc;
 mod draft;
 mod edit;
@@ -25,7 +26,10 @@ mod listing;
 mod places;
 mod rereading;
 mod revert;
+mod shifting;
+mod splicing;
 mod taking;
 
 pub use anchor::Anchor;
+pub use characters::Characters;
 pub use doc::Doc;

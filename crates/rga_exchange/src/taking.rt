@@ -1,7 +1,7 @@
 //! The lines of a stream, taken in turn into whatever takes operations.
 ghost use Rattle.std.specs.Prelude.{◌≡◌, ◌≢◌, ◌+◌, ◌*◌, ◌^◌, ◌<◌, ◌≤◌, ◌||◌, ℕ, List, length, [], ◌∷◌, ◌++◌, false, Ok, Err, None, IfOk, IfErr, IfSome};
 ghost use Rattle.rga_ops.specs.Prelude.{taken};
-ghost use Rattle.rga_devices.specs.Counting.{CountsAs, OnBytes};
+ghost use Rattle.rga_exchange.specs.Counting.{CountsAs, OnBytes};
 ghost use Rattle.rga_lines.specs.Log.{operations_of};
 ghost use Rattle.rga_lines.specs.Runs.{stretch_operations, run_deletions, IsRun, IsDeletionRun};
 ghost use Rattle.rga_lines.specs.Table.{any_line_at};
@@ -14,7 +14,7 @@ ghost use Rattle.rga_exchange.specs.declared.fault.LogFault.TheVariants.{Memory,
 
 use crate::block::BLOCK;
 use crate::fault::LogFault;
-use rga_devices::Counted;
+use crate::Counted;
 use rga_lines::{
     DeletionRun, Line, LineFault, Run, Splitter, read_any, read_deletion, read_insertions,
 };
