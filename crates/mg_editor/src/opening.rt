@@ -8,8 +8,8 @@ ghost use Rattle.mg_editor.specs.Finding as finding;
 ghost use Rattle.mg_editor.specs.Opening as spec;
 
 use crate::editor::Editor;
-use mg_minibuffer::{Dialogue, Message};
 use mg_files::{Found, LoadFault};
+use mg_minibuffer::{Dialogue, Message};
 use mg_screen::Settings;
 use mg_workspace::Workspace;
 use rga_exchange::LogEnd;

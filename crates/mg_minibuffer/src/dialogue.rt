@@ -6,8 +6,8 @@ ghost use Rattle.mg_minibuffer.specs.PromptStep.{prompt_step};
 ghost use Rattle.mg_minibuffer.specs.declared.prompt.Prompt.{Prompt};
 ghost use Rattle.mg_minibuffer.specs.Dialogues as spec;
 
-use mg_keys::{Keys, Mode, Step};
 use crate::{Message, Next, Prompt, Reaction, Scene, Search, prompt_step};
+use mg_keys::{Keys, Mode, Step};
 use mg_plain::Chars;
 use std::alloc::{AllocError, Global};
 use std::marker::Model;

@@ -5,8 +5,8 @@ ghost use Rattle.mg_plain.specs.Answer.{IsEffectAnswer};
 ghost use Rattle.mg_plain.specs.Effect.{one_splice, carried_place, place_after, edit_effect};
 
 use crate::outcome::{Notice, Plan};
-use crate::view::{Kind, View};
 use crate::splice;
+use crate::view::{Kind, View};
 use rga_ops::Splice;
 use std::alloc::{AllocError, Global};
 

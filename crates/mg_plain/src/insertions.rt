@@ -6,9 +6,9 @@ ghost use Rattle.mg_plain.specs.Insertions as spec;
 
 use crate::characters::is_blank;
 use crate::edit::change;
+use crate::line_begin;
 use crate::outcome::{Notice, Plan};
 use crate::view::View;
-use crate::line_begin;
 use std::alloc::{AllocError, Global};
 
 /// Characters at point, which goes behind them.

@@ -17,4 +17,6 @@ pub use examples::{
 pub use filling::filling_touches_no_word;
 pub use places::places_in_words;
 pub use searches::searches_in_words;
-pub use text::{filling_makes_the_layout, scans_find_the_least_and_the_greatest, words_are_the_greatest_runs};
+pub use text::{
+    filling_makes_the_layout, scans_find_the_least_and_the_greatest, words_are_the_greatest_runs,
+};

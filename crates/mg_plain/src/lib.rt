@@ -2,12 +2,12 @@
 //!
 //! `plan` says what each command of mg(1) does to a text: which splices it makes, where point and
 //! mark go, what the kill buffer becomes; or the notice that is given instead. There is no replica,
-//! no key and no screen in sight, and nothing is changed: a plan is a value. The crate stands on
-//! mg_plain for lines and the filling of a paragraph, and on rga_ops for the splices alone. The
+//! no key and no screen in sight, and nothing is changed: a plan is a value. Lines, paragraphs and
+//! the splices that fill one are here too. The crate stands on rga_ops, for the splices alone. The
 //! layer above may rest on one equation: what `plan` answers is the `effect` of the command, a
-//! total function with one line a command, want of memory aside, which comes last. The laws say in
-//! words what that function is: least and greatest places, filling that touches no word, splices
-//! that fall within the text.
+//! total function with one line a command, want of memory aside, which comes last. Lines and
+//! paragraphs begin and end where the scans of `specs/` say. The laws say in words what that comes
+//! to: least and greatest places, filling that touches no word, splices that fall within the text.
 #![tactic(auto)]
 
 mod cases;

@@ -1,7 +1,7 @@
 //! Frames that are not flushed.
 use crate::sending::device;
-use mg_session::{SessionFault, run_keys};
 use mg_screen::{Settings, Values};
+use mg_session::{SessionFault, run_keys};
 use rga_exchange::Counted;
 use rga_tree::TreeStore;
 use std::alloc::{AllocError, Global};

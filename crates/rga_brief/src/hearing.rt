@@ -14,8 +14,8 @@ ghost use Rattle.rga_brief.specs.declared.claim_line.ClaimLine.TheVariants.{One,
 use crate::claim::Claim;
 use crate::claim_line::{ClaimLine, read_claim_line};
 use crate::claims::summary_from;
-use rga_exchange::{BLOCK, Counted, ReceiveFault};
 use rga_digest::Summary;
+use rga_exchange::{BLOCK, Counted, ReceiveFault};
 use rga_lines::{LineFault, Splitter};
 use std::alloc::Global;
 use std::io::Read;

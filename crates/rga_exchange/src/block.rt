@@ -1,8 +1,8 @@
 //! Lines on their way to a device.
 ghost use Rattle.std.specs.Prelude.{◌≡◌, ℕ, ◌≤◌, ◌+◌, length, take, drop, IsOk, OnOk};
 
-use crate::fault::SendFault;
 use crate::Counted;
+use crate::fault::SendFault;
 use rga_lines::Speller;
 use rga_lines::bytes::put;
 use rga_ops::Op;

@@ -8,9 +8,9 @@ ghost use Rattle.rga_exchange.specs.DeletionRuns.{is_deletion_run, has_deletion_
 ghost use Rattle.rga_exchange.specs.Taking.{intake};
 ghost use Rattle.rga_exchange.specs.Log.{TakesLog, log_end, bare_answer, TakesRest};
 
+use crate::Counted;
 use crate::fault::{LogFault, ReceiveFault};
 use crate::taking::{Form, LineTaken, Stream, StreamEnd, take_other, take_stream};
-use crate::Counted;
 use rga_lines::LineFault;
 use rga_store::Taker;
 use std::alloc::Global;

@@ -8,9 +8,9 @@ ghost use Rattle.rga_exchange.specs.Taking.{intake, HasTakenLines, HasTakenWhole
 ghost use Rattle.rga_exchange.specs.Receiving.{exchange_outcome, EndsWithLastRead};
 ghost use Rattle.rga_exchange.specs.declared.taking.Form.TheVariants.{Exchange};
 
+use crate::Counted;
 use crate::fault::ReceiveFault;
 use crate::taking::{Form, Stream, StreamEnd, take_stream};
-use crate::Counted;
 use rga_store::Taker;
 use std::alloc::Global;
 use std::io::Read;

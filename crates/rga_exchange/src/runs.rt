@@ -11,9 +11,9 @@ ghost use Rattle.rga_exchange.specs.RunLines.{stretch_line, going_behind, front_
 ghost use Rattle.rga_exchange.specs.RunLines.{front_line, front_count, runs_text};
 ghost use Rattle.rga_exchange.specs.Sending.{AppendsFirst, AreWritable, StandsFor};
 
+use crate::Counted;
 use crate::block::Block;
 use crate::fault::SendFault;
-use crate::Counted;
 use rga_lines::{LineFault, MAX_RUN, Run, write_line, write_run};
 use rga_ops::{Id, Op};
 use std::alloc::{AllocError, Global};

@@ -9,9 +9,9 @@ ghost use Rattle.rga_exchange.specs.Sending.{log_text, exchange_text, stream_tex
 ghost use Rattle.rga_exchange.specs.Sending.{AppendsFirst, WritesFirst};
 ghost use Rattle.rga_exchange.specs.Receiving.{exchange_outcome};
 
+use crate::Counted;
 use crate::block::Block;
 use crate::fault::SendFault;
-use crate::Counted;
 use rga_lines::{write_end, write_head};
 use rga_ops::Op;
 use rga_store::TextStore;

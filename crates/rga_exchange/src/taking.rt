@@ -12,9 +12,9 @@ ghost use Rattle.rga_exchange.specs.Parts.{stage, left_at, line_outcome, head_an
 ghost use Rattle.rga_exchange.specs.Parts.{LeadsTo, EndsAs, HasTakenAllBut, StopsReading};
 ghost use Rattle.rga_exchange.specs.declared.fault.LogFault.TheVariants.{Memory, Read as ReadFailed};
 
+use crate::Counted;
 use crate::block::BLOCK;
 use crate::fault::LogFault;
-use crate::Counted;
 use rga_lines::{
     DeletionRun, Line, LineFault, Run, Splitter, read_any, read_deletion, read_insertions,
 };
