@@ -58,6 +58,7 @@ fn asked_text(alloc: Global, prompt: &Prompt) -> Result<String, AllocError>
         ++ encode_utf8_all (typed_answer prompt.now)) }
 {
     let mut text = String::from_str(alloc, prompt.label())?;
-    text.extend(prompt.answer().iter().copied())?;
+    let answer: String = prompt.answer().iter().copied().collect(alloc)?;
+    text.push_str(&answer)?;
     Ok(text)
 }
