@@ -255,6 +255,10 @@ fn told_of_logs<T: Tell>(errors: &mut T, names: &[String], fault: JoinFault) -> 
         JoinFault::Log(index, fault) => {
             told_of_log(errors, names.get(index), Report::of_show(&fault))
         }
+        JoinFault::Far => told(
+            errors,
+            Report::of_note("counter far above the number of identifiers"),
+        ),
         JoinFault::Write => told(errors, Report::device()),
         JoinFault::Memory => told(errors, Report::memory()),
     }
