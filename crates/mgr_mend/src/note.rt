@@ -66,7 +66,7 @@ pub fn mend_note<L: Logs>(alloc: Global, logs: &mut L, name: &str) -> Result<Lef
 }
 
 /// The log of a name, open, and its bytes.
-#[tactic(auto, using(mgr_port::proofs::LogsLaws::elsewhere, mgr_mend::proofs::NoteLaws::read_whole))]
+#[tactic(auto, using(mgr_port::proofs::LogsLaws::elsewhere, crate::proofs::NoteLaws::read_whole))]
 fn open_whole<L: Logs>(logs: &mut L, name: &str) -> Result<(L::Log, Vec<u8>), PortFault>
     ensures bytes { IfOk result (λ opened. IfSome (L.standing logs.old name.now)
         (λ s. opened.1.items ≡ s.log)) }
@@ -113,7 +113,7 @@ fn put_mended<L: Logs>(
 }
 
 /// Writes bytes beside a log, and gives that its name.
-#[tactic(auto, using(mgr_port::proofs::LogsLaws::elsewhere, mgr_mend::proofs::NoteLaws::raised_by))]
+#[tactic(auto, using(mgr_port::proofs::LogsLaws::elsewhere, crate::proofs::NoteLaws::raised_by))]
 fn write_anew<L: Logs>(logs: &mut L, name: &str, log: L::Log, bytes: &[u8]) -> Result<(), PortFault>
     ensures named { OnOk result (IfSome (L.standing logs.old name.now)
         (λ _. L.standing logs.new name.now ≡ Some (renamed whole_steps bytes.now))) }
