@@ -7,8 +7,7 @@
 //! many times to standard output, as a log; `send` sends the store so many times.
 use crate::fault::Fault;
 use crate::text::{named, number_at};
-use rga_devices::{Counted, MAX_CALLS};
-use rga_exchange::{append_log, read_log, receive, send};
+use rga_exchange::{Counted, MAX_CALLS, append_log, read_log, receive, send};
 use rga_ops::Op;
 use rga_store::{MAX_LIMIT, TextStore};
 use std::alloc::Global;

@@ -1,7 +1,7 @@
 -- The line of a place, by that of another place, and what splices leave alone.
 use Rattle.mg_buffer.proofs.Prelude.{◌≡◌, ℕ, ◌+◌, ◌-◌, ◌≤◌, List, [], ◌∷◌, ◌++◌, length, take, drop, min, count_by, cond, arith, refl, sym, subst, ap, ◌∙◌, drop-drop, take-take, append_assoc, length-take, take-append-le, min-le_left, min-le_right, min-eq_left, Splice, spliced, text_after, KnownLine, IsLineOfPlace, line_of, least_begin}
 use Rattle.std.proofs.lemmas.List.Sums.{sum_by-take-drop}
-use Rattle.mg_text.specs.Characters.{is_newline}
+use Rattle.mg_plain.specs.Characters.{is_newline}
 
 -- of two places the one behind has the newlines between both more
 pub lines_between : (text : List ℕ) (from to : ℕ) → from ≤ to → line_of text from + count_by is_newline (take (to - from) (drop from text)) ≡ line_of text to

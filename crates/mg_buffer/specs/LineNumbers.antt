@@ -1,7 +1,7 @@
 -- The line of a place, and what splices leave of a text before a place.
 use Rattle.std.specs.Prelude.{ℕ, List, [], ◌∷◌, min, take, count_by}
 use Rattle.rga_ops.specs.Splice.{Splice}
-use Rattle.mg_text.specs.Characters.{is_newline}
+use Rattle.mg_plain.specs.Characters.{is_newline}
 
 -- the line in which a place stands, from 0: how many newlines stand before it
 abbrev pub line_of : List ℕ → ℕ → ℕ

@@ -3,7 +3,7 @@ ghost use Rattle.std.specs.Prelude.{◌≡◌, ◌≤◌, ℕ, List, take, lengt
 ghost use Rattle.mg_buffer.specs.Kept.{IsLineOfPlace};
 ghost use Rattle.mg_buffer.specs.declared.line_numbers.TheConstants.{BLOCK};
 ghost use Rattle.mg_buffer.specs.LineNumbers as spec;
-ghost use Rattle.mg_text.specs.Characters.{is_newline};
+ghost use Rattle.mg_plain.specs.Characters.{is_newline};
 
 use rga_ops::Splice;
 

@@ -7,7 +7,7 @@ use Rattle.rga_ops.specs.Answer.{taken_one_by_one}
 use Rattle.mg_buffer.specs.Following.{TakesOperations}
 use Rattle.rga_ops.proofs.ListAnswerLaws.{one_by_one_list}
 use Rattle.rga_exchange.specs.declared.fault.ReceiveFault.{ReceiveFault}
-use Rattle.rga_devices.specs.Counting.{Calls}
+use Rattle.rga_exchange.specs.Counting.{Calls}
 use Rattle.mg_buffer.specs.OpenState.{OpenState, has_unsaved, is_changed}
 use Rattle.mg_buffer.specs.State.{State}
 use Rattle.mg_files.specs.Calls.{Call, Adds, link_call, link_refusals}

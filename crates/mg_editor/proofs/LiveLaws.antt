@@ -10,7 +10,7 @@ use Rattle.mg_buffer.specs.Carried.{carried, carried_match, element_before}
 use Rattle.mg_buffer.specs.Following.{TakesOperations, with_operations}
 use Rattle.mg_buffer.specs.OpenState.{OpenState}
 use Rattle.mg_buffer.specs.State.{State}
-use Rattle.mg_dialogue.specs.Dialogues.{Dialogue, search_of}
+use Rattle.mg_minibuffer.specs.Dialogues.{Dialogue, search_of}
 use Rattle.mg_minibuffer.specs.declared.prompt.Prompt.{Prompt}
 use Rattle.mg_minibuffer.specs.declared.prompt.Prompt.TheVariants.{Line, Replacement, Searching, Replacing, Quitting}
 use Rattle.mg_workspace.specs.AtIndex.{state_at, with_operations_at, with_state_at}

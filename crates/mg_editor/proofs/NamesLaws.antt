@@ -17,7 +17,7 @@ use Rattle.mg_minibuffer.specs.declared.ending.Reaction.{Reaction}
 use Rattle.mg_minibuffer.specs.declared.ending.Reaction.TheVariants.{Ends, Replaces, Accepts}
 use Rattle.mg_minibuffer.specs.declared.ending.Request.{Request}
 use Rattle.mg_minibuffer.specs.declared.ending.Request.TheVariants as request
-use Rattle.mg_settings.specs.Settings.{Values}
+use Rattle.mg_screen.specs.Settings.{Values}
 use Rattle.mg_workspace.specs.Actions.{ActionVerdict, Done}
 use Rattle.mg_workspace.specs.AtIndex.{RunsAt}
 use Rattle.mg_workspace.specs.Buffers.{no_buffer}

@@ -1,7 +1,7 @@
 -- What commands in a row lead to, a text that is pasted leads to.
 use Rattle.std.proofs.Common.{◌≡◌, inl, inr, ℕ, true, List, [], ◌∷◌, Option, Some, None, Ok, Err, refl, ap}
 use Rattle.mg_plain.specs.declared.command.Command.TheVariants.{InsertText}
-use Rattle.mg_dialogue.specs.Dialogues.{takes_text}
+use Rattle.mg_minibuffer.specs.Dialogues.{takes_text}
 use Rattle.mg_minibuffer.specs.declared.ending.Request.TheVariants.{Idle}
 use Rattle.mg_minibuffer.specs.declared.prompt.Prompt.{Prompt}
 use Rattle.mg_minibuffer.specs.declared.prompt.Prompt.TheVariants.{Line, Replacement, Searching, Replacing, Quitting}

@@ -1,6 +1,6 @@
 -- What holds behind each reaction holds behind a press, and what query-replace runs.
 use Rattle.std.proofs.Common.{◌≡◌, ◌⊎◌, inl, inr, ◌∙◌, ℕ, List, Option, Some, None, Ok, Err, MatchResult, refl, sym, ap, subst}
-use Rattle.mg_dialogue.specs.Dialogues.{Dialogue}
+use Rattle.mg_minibuffer.specs.Dialogues.{Dialogue}
 use Rattle.mg_plain.specs.Matches.{found_match}
 use Rattle.mg_plain.specs.declared.command.Command.TheVariants.{ReplaceOne, SearchForward}
 use Rattle.mg_plain.specs.declared.steps.Direction.TheVariants.{Forward}

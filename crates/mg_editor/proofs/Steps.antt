@@ -8,7 +8,7 @@ use Rattle.mg_minibuffer.specs.declared.prompt.Prompt.{Prompt}
 use Rattle.mg_minibuffer.specs.declared.prompt.Prompt.TheVariants.{Searching}
 use Rattle.mg_minibuffer.specs.declared.prompt.Search.{Search}
 use Rattle.mg_minibuffer.specs.SearchStep.{or_last}
-use Rattle.mg_dialogue.specs.Dialogues.{Dialogue, Fed, at_prompt, forgotten, search_of}
+use Rattle.mg_minibuffer.specs.Dialogues.{Dialogue, Fed, at_prompt, forgotten, search_of}
 use Rattle.mg_editor.specs.Editors.{Editor}
 use Rattle.mg_editor.specs.Presses.{PressAnswer, FollowsReaction, IsRead, Pressed, ran_out, StepTaken, with_search_accepted, editor_reaction, with_search}
 

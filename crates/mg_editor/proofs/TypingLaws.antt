@@ -1,5 +1,5 @@
 -- Characters that are typed at a prompt: nothing is requested, the prompt takes text still, and no more than one command runs.
-use Rattle.std.proofs.Common.{◌≡◌, ◌⊎◌, inl, inr, ◌∙◌, ℕ, suc, ◌+◌, ◌<◌, Bool, true, false, List, [], ◌∷◌, ◌++◌, length, get_or, drop, is_some, ◌≤◌, Option, Some, None, Ok, Err, refl, sym, ap, subst, true≢false, drop-cons, arith}
+use Rattle.std.proofs.Common.{◌≡◌, inl, inr, ◌∙◌, ℕ, suc, ◌+◌, ◌<◌, Bool, true, false, List, [], ◌∷◌, ◌++◌, length, get_or, drop, is_some, ◌≤◌, Option, Some, None, Ok, Err, refl, sym, ap, subst, true≢false, drop-cons, arith}
 use Rattle.std.specs.Prelude.{nat_lt, if◌then◌else◌}
 use Rattle.std.proofs.lemmas.List.{drop_all}
 use Rattle.mg_plain.specs.declared.outcome.Notice.TheVariants.{SearchFailed}
@@ -9,7 +9,6 @@ use Rattle.mg_minibuffer.specs.declared.ending.Ending.{Ending}
 use Rattle.mg_minibuffer.specs.declared.ending.Next.TheVariants.{Same, Open}
 use Rattle.mg_minibuffer.specs.declared.ending.Request.{Request}
 use Rattle.mg_minibuffer.specs.declared.ending.Request.TheVariants.{Idle}
-use Rattle.mg_minibuffer.specs.declared.message.Message.{Message}
 use Rattle.mg_minibuffer.specs.declared.message.Message.TheVariants as message
 use Rattle.mg_minibuffer.specs.declared.prompt.Prompt.{Prompt}
 use Rattle.mg_minibuffer.specs.declared.prompt.Prompt.TheVariants.{Line, Replacement, Searching, Replacing, Quitting}
@@ -19,7 +18,7 @@ use Rattle.mg_minibuffer.specs.PromptStep.{prompt_step}
 use Rattle.mg_minibuffer.specs.Scenes.{Scene}
 use Rattle.mg_minibuffer.specs.SearchStep.{command, failed, from_match, goes_to, sought, with_match, with_pattern}
 use Rattle.mg_minibuffer.specs.Typing.{longest_answer, typed}
-use Rattle.mg_dialogue.specs.Dialogues.{Dialogue, prompt_after, takes_text}
+use Rattle.mg_minibuffer.specs.Dialogues.{Dialogue, prompt_after, takes_text}
 use Rattle.mg_workspace.specs.Workspaces.{scene_of}
 use Rattle.mg_editor.specs.Editors.{Editor}
 use Rattle.mg_editor.specs.Pasting.{PasteAnswer, PastedAt, Inserts, IsBusy, Types, first_line}

@@ -1,5 +1,5 @@
 -- The editor, as its callers see it.
-use Rattle.mg_dialogue.specs.Dialogues.{Dialogue}
+use Rattle.mg_minibuffer.specs.Dialogues.{Dialogue}
 use Rattle.mg_workspace.specs.Workspaces.{Workspace}
 
 -- what is worked on, and what is talked with the user

@@ -2,9 +2,7 @@
 use Rattle.std.specs.Prelude.{Option, Some, None, Result, Ok, Err}
 use Rattle.rga_exchange.specs.declared.fault.ReceiveFault.{ReceiveFault}
 use Rattle.rga_exchange.specs.declared.fault.ReceiveFault.TheVariants as receive
-use Rattle.rga_exchange.specs.declared.fault.SendFault.{SendFault}
 use Rattle.rga_exchange.specs.declared.fault.SendFault.TheVariants as send
-use Rattle.mg_files.specs.declared.port.LinkFault.{LinkFault}
 use Rattle.mg_files.specs.declared.port.LinkFault.TheVariants as link
 use Rattle.mg_files.specs.declared.port.PortFault.{PortFault}
 use Rattle.mg_files.specs.declared.port.PortFault.TheVariants as port
@@ -19,16 +17,6 @@ abbrev pub port_failure : PortFault → Failure
 port_failure port.File = Device
 port_failure port.Memory = Memory
 
--- with nowhere to meet a peer there is no device
-abbrev pub link_failure : LinkFault → Failure
-link_failure link.Socket = Device
-link_failure link.NoPort = Device
-link_failure link.Memory = Memory
-
-abbrev pub sending_failure : SendFault → Failure
-sending_failure send.Write = Device
-sending_failure send.Memory = Memory
-
 -- a peer that ended early, or named another number of operations, failed as its device would
 abbrev pub peer_failure : ReceiveFault → Failure
 peer_failure (receive.Line line fault) = Line line fault
@@ -38,10 +26,14 @@ peer_failure receive.Count = Device
 peer_failure receive.Read = Device
 peer_failure receive.Memory = Memory
 
+-- with nowhere to meet a peer there is no device
 abbrev pub exchange_failure : ExchangeFault → Failure
 exchange_failure (exchange.Save fault) = port_failure fault
-exchange_failure (exchange.Link fault) = link_failure fault
-exchange_failure (exchange.Send fault) = sending_failure fault
+exchange_failure (exchange.Link link.Socket) = Device
+exchange_failure (exchange.Link link.NoPort) = Device
+exchange_failure (exchange.Link link.Memory) = Memory
+exchange_failure (exchange.Send send.Write) = Device
+exchange_failure (exchange.Send send.Memory) = Memory
 exchange_failure (exchange.Receive fault) = peer_failure fault
 
 -- why a save or an exchange failed; a buffer that is not opened is none of these

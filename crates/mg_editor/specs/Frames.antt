@@ -4,7 +4,7 @@ use Rattle.mg_screen.specs.declared.screen.Position.{Position}
 use Rattle.mg_screen.specs.Cursor.{cursor, echo_cursor}
 use Rattle.mg_screen.specs.Frame.{frame_rows}
 use Rattle.mg_screen.specs.Screen.{Screen}
-use Rattle.mg_dialogue.specs.Echo.{echo_text, has_cursor}
+use Rattle.mg_minibuffer.specs.Echo.{echo_text, has_cursor}
 use Rattle.mg_editor.specs.Editors.{Editor}
 use Rattle.mg_workspace.specs.Showing.{placed_work, work_panes}
 use Rattle.mg_workspace.specs.Workspaces.{workspace_buffer}

@@ -5,7 +5,7 @@ use Rattle.std.specs.Option.{option_and_then, option_map, option_map_or}
 use Rattle.rga_ops.specs.Content.{Content}
 use Rattle.rga_ops.specs.Identifier.{Identifier}
 use Rattle.rga_ops.specs.Places.{place}
-use Rattle.mg_dialogue.specs.Echo.{has_cursor}
+use Rattle.mg_minibuffer.specs.Echo.{has_cursor}
 use Rattle.mg_screen.specs.Cursor.{echo_cursor}
 use Rattle.mg_screen.specs.Screen.{Screen}
 use Rattle.mg_screen.specs.Sideways.{rows_at_point, cursor_at_point, cell_of_place}

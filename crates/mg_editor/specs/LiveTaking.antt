@@ -9,7 +9,7 @@ use Rattle.mg_minibuffer.specs.declared.prompt.Prompt.TheVariants.{Searching}
 use Rattle.mg_minibuffer.specs.declared.prompt.Search.{Search}
 use Rattle.mg_buffer.specs.Carried.{carried, carried_match, element_before, match_at_place}
 use Rattle.mg_buffer.specs.Sight.{place_of}
-use Rattle.mg_dialogue.specs.Dialogues.{Dialogue, search_of, with_places}
+use Rattle.mg_minibuffer.specs.Dialogues.{Dialogue, search_of, with_places}
 use Rattle.mg_workspace.specs.AtIndex.{state_at, with_operations_at}
 use Rattle.mg_workspace.specs.Workspaces.{Workspace}
 use Rattle.mg_editor.specs.Editors.{Editor}

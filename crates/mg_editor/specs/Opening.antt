@@ -8,9 +8,9 @@ use Rattle.mg_files.specs.Loading.{load_outcome}
 use Rattle.mg_files.specs.declared.fault.LoadFault.{LoadFault}
 use Rattle.mg_minibuffer.specs.declared.message.Message.{Message}
 use Rattle.mg_minibuffer.specs.declared.message.Message.TheVariants.{Nothing, TornLog}
-use Rattle.mg_dialogue.specs.Dialogues.{dialogue}
+use Rattle.mg_minibuffer.specs.Dialogues.{dialogue}
 use Rattle.mg_editor.specs.Editors.{Editor}
-use Rattle.mg_settings.specs.Settings.{Values}
+use Rattle.mg_screen.specs.Settings.{Values}
 use Rattle.mg_workspace.specs.Opening.{workspace}
 use Rattle.mg_workspace.specs.Workspaces.{workspace_buffer}
 

@@ -21,7 +21,7 @@ use Rattle.mg_minibuffer.specs.PlainStep.{plain_step}
 use Rattle.mg_minibuffer.specs.PromptStep.{prompt_step}
 use Rattle.mg_minibuffer.specs.ReplacementStep.{asks_at_next_match, sum}
 use Rattle.mg_minibuffer.specs.SearchStep.{or_last}
-use Rattle.mg_dialogue.specs.Dialogues.{Dialogue, Fed, shown, forgotten, search_of, accepted_search}
+use Rattle.mg_minibuffer.specs.Dialogues.{Dialogue, Fed, shown, forgotten, search_of, accepted_search}
 use Rattle.mg_workspace.specs.Actions.{Done}
 use Rattle.mg_workspace.specs.Workspaces.{scene_of}
 use Rattle.mg_workspace.specs.declared.fault.ActionFault.TheVariants.{Refused}

@@ -2,13 +2,11 @@
 use Rattle.std.specs.Prelude.{◌≡◌, Result, Ok, Err}
 use Rattle.rga_exchange.specs.declared.fault.ReceiveFault.{ReceiveFault}
 use Rattle.rga_exchange.specs.declared.fault.ReceiveFault.TheVariants as receive
-use Rattle.rga_exchange.specs.declared.fault.SendFault.{SendFault}
 use Rattle.rga_exchange.specs.declared.fault.SendFault.TheVariants as send
 use Rattle.mg_plain.specs.declared.outcome.Notice.TheVariants as notice
 use Rattle.mg_buffer.specs.OpenState.{OpenState}
 use Rattle.mg_files.specs.declared.fault.LoadFault.{LoadFault}
 use Rattle.mg_files.specs.declared.fault.LoadFault.TheVariants as load
-use Rattle.mg_files.specs.declared.port.LinkFault.{LinkFault}
 use Rattle.mg_files.specs.declared.port.LinkFault.TheVariants as link
 use Rattle.mg_files.specs.declared.port.PortFault.{PortFault}
 use Rattle.mg_files.specs.declared.port.PortFault.TheVariants as port
@@ -66,17 +64,6 @@ message_of_load load.NotText = message.NotText
 message_of_load (load.Store refusal) = message.BufferFull
 message_of_load load.Memory = message.Refused notice.Memory
 
--- of a port that is asked for a link
-abbrev pub message_of_link : LinkFault → Message
-message_of_link link.Socket = message.SocketFault
-message_of_link link.NoPort = message.NoPort
-message_of_link link.Memory = message.Refused notice.Memory
-
--- of a link on which not all was sent
-abbrev pub message_of_sending : SendFault → Message
-message_of_sending send.Write = message.SocketFault
-message_of_sending send.Memory = message.Refused notice.Memory
-
 -- of a peer that was not heard to its end
 abbrev pub message_of_peer : ReceiveFault → Message
 message_of_peer (receive.Line line fault) = message.BadLine line fault
@@ -88,8 +75,11 @@ message_of_peer receive.Memory = message.Refused notice.Memory
 
 abbrev pub message_of_exchange : ExchangeFault → Message
 message_of_exchange (exchange.Save fault) = message_of_port fault
-message_of_exchange (exchange.Link fault) = message_of_link fault
-message_of_exchange (exchange.Send fault) = message_of_sending fault
+message_of_exchange (exchange.Link link.Socket) = message.SocketFault
+message_of_exchange (exchange.Link link.NoPort) = message.NoPort
+message_of_exchange (exchange.Link link.Memory) = message.Refused notice.Memory
+message_of_exchange (exchange.Send send.Write) = message.SocketFault
+message_of_exchange (exchange.Send send.Memory) = message.Refused notice.Memory
 message_of_exchange (exchange.Receive fault) = message_of_peer fault
 
 abbrev pub message_of_fault : CarryFault → Message

@@ -5,8 +5,7 @@ ghost use Rattle.mg_screen.specs.Layout.{FillsRows};
 ghost use Rattle.mg_screen.specs.Size.{least_rows, most_rows, least_columns, most_columns};
 ghost use Rattle.mg_workspace.specs.Actions.{resized_work};
 
-use mg_dialogue::Dialogue;
-use mg_minibuffer::Message;
+use mg_minibuffer::{Dialogue, Message};
 use mg_workspace::Workspace;
 use rga_store::TextStore;
 use std::alloc::Global;

@@ -23,24 +23,6 @@ pub(crate) fn port_failure(fault: PortFault) -> Failure
     }
 }
 
-fn link_failure(fault: LinkFault) -> Failure
-    ensures { result ≡ spec.link_failure fault }
-{
-    match fault {
-        LinkFault::Socket | LinkFault::NoPort => Failure::Device,
-        LinkFault::Memory => Failure::Memory,
-    }
-}
-
-fn sending_failure(fault: SendFault) -> Failure
-    ensures { result ≡ spec.sending_failure fault }
-{
-    match fault {
-        SendFault::Write => Failure::Device,
-        SendFault::Memory => Failure::Memory,
-    }
-}
-
 fn peer_failure(fault: ReceiveFault) -> Failure
     ensures { result ≡ spec.peer_failure fault }
 {
@@ -57,8 +39,10 @@ fn exchange_failure(fault: ExchangeFault) -> Failure
 {
     match fault {
         ExchangeFault::Save(fault) => port_failure(fault),
-        ExchangeFault::Link(fault) => link_failure(fault),
-        ExchangeFault::Send(fault) => sending_failure(fault),
+        ExchangeFault::Link(LinkFault::Socket | LinkFault::NoPort) => Failure::Device,
+        ExchangeFault::Link(LinkFault::Memory) => Failure::Memory,
+        ExchangeFault::Send(SendFault::Write) => Failure::Device,
+        ExchangeFault::Send(SendFault::Memory) => Failure::Memory,
         ExchangeFault::Receive(fault) => peer_failure(fault),
     }
 }

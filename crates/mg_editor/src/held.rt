@@ -15,7 +15,7 @@ ghost use Rattle.mg_minibuffer.specs.declared.ending.Request.{Request};
 ghost use Rattle.mg_minibuffer.specs.declared.ending.Request.TheVariants.{Find};
 ghost use Rattle.mg_sync.specs.Asking.{Role};
 ghost use Rattle.mg_sync.specs.Linking.{Account, ExchangesOver};
-ghost use Rattle.mg_settings.specs.Settings.{Values};
+ghost use Rattle.mg_screen.specs.Settings.{Values};
 ghost use Rattle.mg_workspace.specs.declared.failures.Task.TheVariants.{Exchange};
 ghost use Rattle.mg_workspace.specs.Actions.{ActionVerdict};
 ghost use Rattle.mg_workspace.specs.AtIndex.{RunsAt, state_at};

@@ -1,7 +1,8 @@
 //! What a status of a live session says: of the dialogue, of buffers and of windows.
-ghost use Rattle.std.specs.Prelude.{◌≡◌, ◌<◌, [], ◌∷◌, ◌++◌, Some, length, map, slice_get};
+ghost use Rattle.std.specs.Prelude.{◌≡◌, ◌<◌, [], ◌∷◌, ◌++◌, Some, length, map, position, slice_get};
 ghost use Rattle.std.specs.Prelude.{IfOk, OnOk, IfErr, IfSome, string_bytes};
 ghost use Rattle.rga_ops.specs.Content.{clock_of};
+ghost use Rattle.rga_ops.specs.Identifier.{is_id};
 ghost use Rattle.rga_ops.specs.Order.{text};
 ghost use Rattle.rga_ops.specs.Places.{visible};
 ghost use Rattle.mg_minibuffer.specs.Messages.{message_text};
@@ -181,11 +182,13 @@ impl<S: TextStore> Editor<S> {
         self.work.at(index).buffer.store().clock()
     }
 
-    /// The index of an element in the text of the buffer at an index; `None` where the text does not
+    /// The index of an element in the text of the buffer at an index; `None` if the text does not
     /// show it. Takes no memory.
     pub fn position_at(&self, index: usize, id: Id) -> Option<usize>
         requires { index < length self.now.work.buffers.all }
-        ensures { let content = (state_at index self.now.work).content in
+        ensures exact { let content = (state_at index self.now.work).content in
+            result ≡ position (λ x. is_id x id) (visible content) }
+        ensures there { let content = (state_at index self.now.work).content in
             IfSome result (λ k. slice_get (visible content) k ≡ Some id) }
     {
         position_of(self.work.at(index).buffer.store(), id)

@@ -8,10 +8,9 @@ ghost use Rattle.mg_editor.specs.Finding as finding;
 ghost use Rattle.mg_editor.specs.Opening as spec;
 
 use crate::editor::Editor;
-use mg_dialogue::Dialogue;
 use mg_files::{Found, LoadFault};
-use mg_minibuffer::Message;
-use mg_settings::Settings;
+use mg_minibuffer::{Dialogue, Message};
+use mg_screen::Settings;
 use mg_workspace::Workspace;
 use rga_exchange::LogEnd;
 use rga_ops::Refusal;

@@ -1,7 +1,6 @@
 //! Texts that are pasted.
-ghost use Rattle.std.specs.Prelude.{◌≡◌, ◌<◌, true, false, [], Ok, Err, IfSome, OnOk, OnErr, length, position};
-ghost use Rattle.mg_dialogue.specs.Dialogues.{forgotten, takes_text};
-ghost use Rattle.mg_keys.specs.Begun.{HasBegun};
+ghost use Rattle.std.specs.Prelude.{◌≡◌, ◌<◌, true, false, Ok, Err, IfSome, OnOk, OnErr, length, position};
+ghost use Rattle.mg_minibuffer.specs.Dialogues.{forgotten, takes_text};
 ghost use Rattle.mg_editor.specs.Pasting as spec;
 ghost use Rattle.mg_editor.specs.Presses as presses;
 

@@ -1,6 +1,6 @@
 //! The editor, pressed byte by byte.
 ghost use Rattle.std.specs.Prelude.{◌≡◌, ◌≢◌, ◌⊎◌, true, is_some, None, Err, IfOk, OnErr};
-ghost use Rattle.mg_dialogue.specs.Dialogues.{Dialogue, shown};
+ghost use Rattle.mg_minibuffer.specs.Dialogues.{Dialogue, shown};
 ghost use Rattle.mg_minibuffer.specs.PlainStep as plain;
 ghost use Rattle.mg_minibuffer.specs.ReplacementStep as queries;
 ghost use Rattle.mg_minibuffer.specs.declared.ending.Action.TheVariants.{Run};

@@ -64,27 +64,6 @@ fn message_of_load(fault: LoadFault) -> Message
     }
 }
 
-/// What is said of a port that is asked for a link.
-fn message_of_link(fault: LinkFault) -> Message
-    ensures { result ≡ spec.message_of_link fault }
-{
-    match fault {
-        LinkFault::Socket => Message::SocketFault,
-        LinkFault::NoPort => Message::NoPort,
-        LinkFault::Memory => Message::Refused(Notice::Memory),
-    }
-}
-
-/// What is said of a link on which not all was sent.
-fn message_of_sending(fault: SendFault) -> Message
-    ensures { result ≡ spec.message_of_sending fault }
-{
-    match fault {
-        SendFault::Write => Message::SocketFault,
-        SendFault::Memory => Message::Refused(Notice::Memory),
-    }
-}
-
 /// What is said of a peer that was not heard to its end.
 fn message_of_peer(fault: ReceiveFault) -> Message
     ensures { result ≡ spec.message_of_peer fault }
@@ -105,8 +84,11 @@ fn message_of_exchange(fault: ExchangeFault) -> Message
 {
     match fault {
         ExchangeFault::Save(fault) => message_of_port(fault),
-        ExchangeFault::Link(fault) => message_of_link(fault),
-        ExchangeFault::Send(fault) => message_of_sending(fault),
+        ExchangeFault::Link(LinkFault::Socket) => Message::SocketFault,
+        ExchangeFault::Link(LinkFault::NoPort) => Message::NoPort,
+        ExchangeFault::Link(LinkFault::Memory) => Message::Refused(Notice::Memory),
+        ExchangeFault::Send(SendFault::Write) => Message::SocketFault,
+        ExchangeFault::Send(SendFault::Memory) => Message::Refused(Notice::Memory),
         ExchangeFault::Receive(fault) => message_of_peer(fault),
     }
 }

@@ -21,9 +21,9 @@ use Rattle.rga_doc.specs.LocalEdit.{splice_answer, counter_answer, place_answer}
 use Rattle.rga_ops.proofs.ContentLaws.{nothing_join}
 use Rattle.rga_doc.specs.Document.{Document, document}
 use Rattle.rga_doc.specs.Following.{Follows}
-use Rattle.rga_devices.specs.Counting.{Calls}
+use Rattle.rga_exchange.specs.Counting.{Calls}
 use Rattle.rga_lines.specs.Log.{log_operations}
-use Rattle.rga_devices.specs.declared.counted.TheConstants.{MAX_CALLS}
+use Rattle.rga_exchange.specs.declared.counted.TheConstants.{MAX_CALLS}
 use Rattle.rga_exchange.specs.declared.log.LogEnd.{LogEnd}
 use Rattle.rga_exchange.specs.declared.log.LogEnd.TheVariants.{Whole}
 use Rattle.rga_exchange.specs.Taking.{intake}

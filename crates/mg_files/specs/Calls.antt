@@ -1,6 +1,6 @@
 -- The calls of a port, and what it tells of them.
 use Rattle.std.specs.Prelude.{◌≡◌, ℕ, List, [], ◌∷◌, ◌++◌, Bool, true, false, Option, Some, None, Result, Ok, Err, IfSome}
-use Rattle.rga_devices.specs.Counting.{one_more}
+use Rattle.rga_exchange.specs.Counting.{one_more}
 use Rattle.mg_files.specs.Files.{Files}
 use Rattle.mg_files.specs.declared.port.CallKind.{CallKind}
 use Rattle.mg_files.specs.declared.port.CallKind.TheVariants.{Load}

@@ -1,13 +1,12 @@
 //! What is written to a log.
 ghost use Rattle.std.specs.Prelude.{◌≡◌, Err, IfOk, IfErr, OnOk};
-ghost use Rattle.rga_devices.specs.Counting.{CountsAs, Writes, WritesFront, WritesNothing};
+ghost use Rattle.rga_exchange.specs.Counting.{CountsAs, Writes, WritesFront, WritesNothing};
 ghost use Rattle.rga_exchange.specs.RunLines.{runs_text};
 ghost use Rattle.mg_files.specs.Saving.{appended_text};
 ghost use Rattle.mg_files.specs.declared.port.PortFault.TheVariants.{Memory};
 
 use crate::port::PortFault;
-use rga_devices::Counted;
-use rga_exchange::{SendFault, append_log, append_runs};
+use rga_exchange::{Counted, SendFault, append_log, append_runs};
 use rga_ops::Op;
 use std::alloc::{AllocError, Global};
 use std::io::Write;

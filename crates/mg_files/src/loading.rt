@@ -11,9 +11,8 @@ ghost use Rattle.mg_files.specs.declared.fault.LoadFault.TheVariants.{Memory, No
 use crate::fault::LoadFault;
 use crate::port::Found;
 use mg_buffer::{Buffer, VisitedBuffer};
-use rga_devices::Counted;
 use rga_doc::Doc;
-use rga_exchange::{LogEnd, read_log};
+use rga_exchange::{Counted, LogEnd, read_log};
 use rga_ops::Refusal;
 use rga_store::{MAX_LIMIT, TextStore};
 use std::alloc::Global;

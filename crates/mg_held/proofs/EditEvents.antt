@@ -20,7 +20,7 @@ use Rattle.rga_ops.specs.declared.refusal.Refusal.TheVariants.{Full, Range, Cloc
 use Rattle.rga_ops.proofs.ContentLaws.{join_assoc, join_nothing}
 use Rattle.rga_ops.proofs.OperationLaws.{Contains-first, Contains-later, content_of-append}
 use Rattle.rga_ops.proofs.VisibleLaws.{text_long}
-use Rattle.rga_characters.proofs.FallingLaws.{falls_first}
+use Rattle.rga_doc.proofs.FallingLaws.{falls_first}
 use Rattle.rga_doc.specs.LocalEdit.{left_of, chain, splice_operations, splices_operations, edit_answer, splice_answer, splices_answer, new_ids}
 use Rattle.rga_doc.proofs.EditAnswers.{counters_suffice}
 use Rattle.rga_doc.proofs.EditLaws.{allowed, allowed_counters, splices_at}

@@ -7,7 +7,7 @@ use Rattle.std.proofs.lemmas.List.{append_assoc, reverse-reverse, reverse-append
 use Rattle.std.proofs.lemmas.List.Folds.{drop_split}
 use Rattle.std.proofs.lemmas.Option.{none-some, same_Some}
 use Rattle.rga_ops.specs.Splice.{Splice, spliced}
-use Rattle.rga_devices.specs.Counting.{one_more}
+use Rattle.rga_exchange.specs.Counting.{one_more}
 use Rattle.mg_live.specs.Changes.{Changes, common_front, common_end, splice_between, change_between, noted}
 
 -- ---- what two texts have in common

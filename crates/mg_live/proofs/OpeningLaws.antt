@@ -8,7 +8,7 @@ use Rattle.mg_editor.specs.Editors.{Editor}
 use Rattle.mg_editor.specs.Opening.{opened_editor}
 use Rattle.mg_session.specs.Moments.{ToldCalls}
 use Rattle.mg_session.specs.Opening.{LoadsTo}
-use Rattle.mg_settings.specs.Settings.{Values}
+use Rattle.mg_screen.specs.Settings.{Values}
 
 -- a port that was not called
 pub adds_nothing : (calls : ToldCalls) → Adds calls calls []

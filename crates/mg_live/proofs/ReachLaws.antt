@@ -24,7 +24,7 @@ use Rattle.rga_ops.proofs.ContentLaws.{join_nothing}
 use Rattle.rga_ops.proofs.PlaceLaws.{absent_if_new, text-insertion_at, text-insertion_hidden}
 use Rattle.rga_ops.proofs.TakenLaws.{held_adds_nothing}
 use Rattle.rga_ops.proofs.VisibleLaws.{text_long}
-use Rattle.rga_characters.proofs.SplicedLists.{take-spliced, long-spliced, length-spliced}
+use Rattle.rga_doc.proofs.SplicedCharacters.{take-spliced, long-spliced, length-spliced}
 use Rattle.mg_buffer.specs.Faults.{run_answer}
 use Rattle.mg_buffer.specs.Following.{with_operations}
 use Rattle.mg_buffer.specs.OpenState.{OpenState}

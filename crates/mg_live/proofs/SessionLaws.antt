@@ -1,7 +1,7 @@
 -- A live session that ran, by its parts.
 use Rattle.std.proofs.Common.{◌≡◌, ◌≢◌, ℕ, Bool, true, Option, Ok, Err, sym, ap, subst, ◌∙◌}
-use Rattle.rga_devices.specs.Counting.{Calls, CountsAs, StaysFlushed}
-use Rattle.mg_settings.specs.Settings.{Values}
+use Rattle.rga_exchange.specs.Counting.{Calls, CountsAs, StaysFlushed}
+use Rattle.mg_screen.specs.Settings.{Values}
 use Rattle.mg_workspace.specs.Failures.{first_standing}
 use Rattle.mg_workspace.specs.declared.failures.Failure.{Failure}
 use Rattle.mg_editor.specs.Editors.{Editor}

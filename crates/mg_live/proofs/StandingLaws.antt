@@ -3,7 +3,7 @@ use Rattle.std.proofs.Common.{◌≡◌, ◌≢◌, ℕ, ◌&&◌, not, Bool, tr
 use Rattle.std.proofs.lemmas.Bool.{and_parts}
 use Rattle.std.specs.Bool.{MatchBool}
 use Rattle.std.specs.Result.{MatchResult}
-use Rattle.rga_devices.specs.Counting.{Calls, CountsAs, StaysFlushed, one_more}
+use Rattle.rga_exchange.specs.Counting.{Calls, CountsAs, StaysFlushed, one_more}
 use Rattle.mg_editor.specs.Editors.{Editor}
 use Rattle.mg_editor.specs.declared.live_saving.Writing.{Writing}
 use Rattle.rga_table.specs.declared.fault.LineFault.{LineFault}

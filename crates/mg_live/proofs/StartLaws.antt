@@ -16,7 +16,7 @@ use Rattle.mg_held.specs.Held.{Held, MayLead}
 use Rattle.mg_held.specs.Kept.{IsBuffer, IsLoggedBy}
 use Rattle.mg_held.proofs.OpenSteps.{opened_kept, opened_name}
 use Rattle.mg_held.proofs.RunSteps.{made_are}
-use Rattle.mg_settings.specs.Settings.{Values}
+use Rattle.mg_screen.specs.Settings.{Values}
 use Rattle.mg_workspace.specs.Buffers.{no_buffer}
 use Rattle.mg_workspace.specs.Opening.{workspace}
 use Rattle.mg_workspace.specs.Workspaces.{Workspace}

@@ -2,7 +2,7 @@
 use Rattle.std.proofs.Common.{◌≡◌, ◌≢◌, arith, ℕ, ◌+◌, ◌<◌, ◌||◌, Bool, true, false, List, [], ◌∷◌, length, get_or, drop, refl, sym, ap, subst, ◌∙◌, true≢false}
 use Rattle.std.proofs.lemmas.List.{drop_more}
 use Rattle.std.specs.Io.KnownBytes.{Consumes, IsAtEnd}
-use Rattle.rga_devices.specs.Counting.{Calls, one_more}
+use Rattle.rga_exchange.specs.Counting.{Calls, one_more}
 use Rattle.mg_events.specs.Reading.{Reading, fresh, step, told_by, Leaves, is_in_report}
 use Rattle.mg_events.specs.declared.reader.Event.{Event}
 use Rattle.mg_editor.specs.Editors.{Editor}

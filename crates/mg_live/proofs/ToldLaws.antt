@@ -8,7 +8,7 @@ use Rattle.std.specs.Option.{option_map}
 use Rattle.std.proofs.lemmas.Option.{none-some, same_Some}
 use Rattle.rga_ops.specs.Order.{text}
 use Rattle.rga_ops.specs.Splice.{Splice}
-use Rattle.rga_devices.specs.Counting.{one_more}
+use Rattle.rga_exchange.specs.Counting.{one_more}
 use Rattle.mg_buffer.specs.OpenState.{OpenState}
 use Rattle.mg_buffer.specs.State.{State}
 use Rattle.mg_session.specs.declared.course.Course.{Course}

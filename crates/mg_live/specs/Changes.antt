@@ -1,7 +1,7 @@
 -- Changes of the live buffer's text, as splices.
 use Rattle.std.specs.Prelude.{◌≡◌, ◌≤◌, ℕ, suc, ◌-◌, List, [], ◌∷◌, ◌++◌, length, take, drop, reverse, Option, Some, None, if◌then◌else◌, nat_eq}
 use Rattle.std.specs.List.{slice_range}
-use Rattle.rga_devices.specs.Counting.{one_more}
+use Rattle.rga_exchange.specs.Counting.{one_more}
 use Rattle.rga_ops.specs.Splice.{Splice}
 use Rattle.mg_live.specs.declared.changes.Kept.{Kept}
 

@@ -1,6 +1,6 @@
 -- What a live session keeps, and a live session at one moment.
 use Rattle.std.specs.Prelude.{◌≡◌, ℕ, Bool, true, false, List, [], Option, None, Result}
-use Rattle.rga_devices.specs.Counting.{Calls}
+use Rattle.rga_exchange.specs.Counting.{Calls}
 use Rattle.rga_ops.specs.Identifier.{Identifier}
 use Rattle.mg_files.specs.declared.port.PortFault.{PortFault}
 use Rattle.mg_editor.specs.Editors.{Editor}

@@ -4,7 +4,7 @@ use Rattle.std.specs.Bool.{MatchBool}
 use Rattle.std.specs.Borrow.{Bor}
 use Rattle.std.specs.Cmp.Lexicographic.{pointwise}
 use Rattle.mg_screen.specs.Written.{utf8}
-use Rattle.rga_devices.specs.Counting.{Calls, one_more}
+use Rattle.rga_exchange.specs.Counting.{Calls, one_more}
 use Rattle.std.specs.Io.KnownBytes.{Appends}
 use Rattle.rga_lines.specs.Stream.{bytes_of_lines, newline}
 use Rattle.rga_ops.specs.Splice.{Splice}

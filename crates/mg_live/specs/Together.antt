@@ -16,7 +16,7 @@ use Rattle.mg_editor.specs.Editors.{Editor}
 use Rattle.mg_editor.specs.Meeting.{role_of}
 use Rattle.mg_session.specs.Keys.{request_of}
 use Rattle.mg_session.specs.Opening.{LoadsTo}
-use Rattle.mg_settings.specs.Settings.{Values}
+use Rattle.mg_screen.specs.Settings.{Values}
 use Rattle.mg_live.specs.Blocks.{EndsBlock, told_operations}
 use Rattle.mg_live.specs.Running.{TakesEvent, live_at_start}
 use Rattle.mg_live.specs.Standing.{AreKept, AreKeptWithin, operations_at}

@@ -1,6 +1,6 @@
 //! The ends of blocks: statuses, and logs between them.
 ghost use Rattle.std.specs.Prelude.{◌≡◌, ◌&&◌, ℕ, [], true, IfSome};
-ghost use Rattle.rga_devices.specs.Counting.{Calls};
+ghost use Rattle.rga_exchange.specs.Counting.{Calls};
 ghost use Rattle.rga_exchange.specs.RunLines.{runs_text};
 ghost use Rattle.mg_session.specs.Moments.{Known, ToldCalls, seen};
 ghost use Rattle.mg_live.specs.Blocks as spec;
@@ -12,8 +12,7 @@ use crate::picture::{Line, show};
 use mg_editor::Editor;
 use mg_files::Port;
 use mg_session::Course;
-use rga_devices::Counted;
-use rga_exchange::append_runs;
+use rga_exchange::{Counted, append_runs};
 use rga_ops::Op;
 use rga_store::{Teller, TextStore};
 use std::alloc::Global;

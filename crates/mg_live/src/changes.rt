@@ -2,7 +2,7 @@
 ghost use Rattle.std.specs.Prelude.{◌≡◌, ◌≤◌, ◌<◌, ◌+◌, ◌-◌, ◌++◌, ◌∷◌, [], true, length, reverse, take, drop, vec_capacity, IfOk, OnOk, OnErr};
 ghost use Rattle.mg_live.specs.Changes as spec;
 
-use rga_characters::Characters;
+use rga_doc::Characters;
 use rga_ops::Splice;
 use std::alloc::{AllocError, Global};
 use std::marker::Model;

@@ -11,7 +11,7 @@ use crate::reports::refuse;
 use mg_editor::Editor;
 use mg_files::Port;
 use mg_session::{Course, is_on};
-use rga_devices::Counted;
+use rga_exchange::Counted;
 use rga_store::Teller;
 use std::io::Write;
 

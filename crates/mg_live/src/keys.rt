@@ -1,6 +1,6 @@
 //! Keys of a live session.
 ghost use Rattle.std.specs.Prelude.{◌≡◌, ◌&&◌, is_some};
-ghost use Rattle.rga_devices.specs.Counting.{Calls};
+ghost use Rattle.rga_exchange.specs.Counting.{Calls};
 ghost use Rattle.mg_editor.specs.Editors as editors;
 ghost use Rattle.mg_session.specs.Moments.{Known};
 ghost use Rattle.mg_session.specs.declared.course.Course.TheVariants.{On};

@@ -13,7 +13,7 @@ ghost use Rattle.mg_events.specs.Reading.{Told};
 ghost use Rattle.mg_editor.specs.Editors.{Editor};
 ghost use Rattle.mg_editor.specs.Holding.{GoesOn};
 ghost use Rattle.mg_session.specs.Opening.{LoadsTo};
-ghost use Rattle.mg_settings.specs.Settings.{Values};
+ghost use Rattle.mg_screen.specs.Settings.{Values};
 ghost use Rattle.mg_live.specs.Blocks.{EndsBlock, told_operations};
 ghost use Rattle.mg_live.specs.Changes.{change_between};
 ghost use Rattle.mg_live.specs.Running.{TakesEvent, live_at_start};

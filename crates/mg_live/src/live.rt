@@ -8,7 +8,7 @@ use crate::shown::Shown;
 use crate::tally::Tally;
 use crate::telling::Telling;
 use mg_files::PortFault;
-use mg_settings::Values;
+use mg_screen::Values;
 use rga_ops::Id;
 use std::alloc::{AllocError, Global};
 use std::marker::Model;
@@ -59,7 +59,7 @@ impl Model for Live {
 impl Live {
     ghost use Rattle.std.specs.Prelude.{◌≡◌, IfOk, chars};
     ghost use Rattle.mg_live.specs.Running.{fresh_live};
-    ghost use Rattle.mg_settings.specs.Settings as settings;
+    ghost use Rattle.mg_screen.specs.Settings as settings;
 
     /// What a session of these settings keeps before an editor is open.
     pub(crate) fn new(alloc: Global, values: &Values) -> Result<Live, AllocError>

@@ -5,8 +5,8 @@ ghost use Rattle.mg_live.specs.Running as spec;
 
 use crate::live::Live;
 use mg_editor::Editor;
+use mg_screen::Values;
 use mg_session::Course;
-use mg_settings::Values;
 use rga_store::TextStore;
 
 /// Whether operations of the buffer at an index were read from a log: there are some, and none is

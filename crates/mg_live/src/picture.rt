@@ -2,7 +2,7 @@
 ghost use Rattle.std.specs.Prelude.{◌≡◌, ◌∷◌, ◌++◌, [], ℕ, IfOk, IfSome, OnOk, OnSome, None, true, false, string_bytes, map};
 ghost use Rattle.mg_live.specs.Made.{live_index};
 ghost use Rattle.mg_status.specs.StatusText.{status_text};
-ghost use Rattle.rga_devices.specs.Counting.{Counts, Writes, WritesFront};
+ghost use Rattle.rga_exchange.specs.Counting.{Counts, Writes, WritesFront};
 ghost use Rattle.rga_lines.specs.Stream.{bytes_of_lines, newline};
 ghost use Rattle.mg_editor.specs.Frames.{placed_editor};
 ghost use Rattle.mg_session.specs.Moments.{ToldCalls, seen};
@@ -15,7 +15,7 @@ use mg_editor::Editor;
 use mg_files::PortFault;
 use mg_session::Course;
 use mg_status::{BufferStatus, Saved, Status, status_line};
-use rga_devices::Counted;
+use rga_exchange::Counted;
 use rga_ops::Splice;
 use rga_store::TextStore;
 use std::alloc::{AllocError, Global};

@@ -1,6 +1,6 @@
 //! Live sessions.
 ghost use Rattle.std.specs.Prelude.{◌≡◌, Err, IfSome};
-ghost use Rattle.rga_devices.specs.Counting.{CountsAs, StaysFlushed, one_more};
+ghost use Rattle.rga_exchange.specs.Counting.{CountsAs, StaysFlushed, one_more};
 ghost use Rattle.mg_live.specs.Running as spec;
 ghost use Rattle.mg_live.specs.States.{moment};
 ghost use Rattle.mg_session.specs.Moments.{seen};
@@ -16,9 +16,9 @@ use crate::taking::take_keys;
 use mg_editor::Editor;
 use mg_events::Reader;
 use mg_files::Port;
+use mg_screen::{Settings, Values};
 use mg_session::{Course, SessionFault, open, session_answer};
-use mg_settings::{Settings, Values};
-use rga_devices::Counted;
+use rga_exchange::Counted;
 use rga_store::Teller;
 use std::alloc::Global;
 use std::io::{Read, Write};

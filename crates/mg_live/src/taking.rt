@@ -1,7 +1,7 @@
 //! Keys and reports of a live session, block by block.
 ghost use Rattle.std.specs.Prelude.{◌≡◌, ◌<◌, ◌≤◌, ◌+◌, ◌||◌, ℕ, length, take, IfOk, OnOk, OnErr, false};
 ghost use Rattle.std.specs.Io.KnownBytes.{Consumes, Keeps};
-ghost use Rattle.rga_devices.specs.Counting.{Calls, Counts, IsReadToEnd};
+ghost use Rattle.rga_exchange.specs.Counting.{Calls, Counts, IsReadToEnd};
 ghost use Rattle.mg_events.specs.Reading.{Reading, key, report, told_by};
 ghost use Rattle.mg_live.specs.Running as spec;
 ghost use Rattle.mg_live.specs.States.{moment};
@@ -18,7 +18,7 @@ use mg_editor::Editor;
 use mg_events::{Event, Reader};
 use mg_files::Port;
 use mg_session::Course;
-use rga_devices::Counted;
+use rga_exchange::Counted;
 use rga_store::{Teller, TextStore};
 use std::io;
 use std::io::{Read, Write};

@@ -1,3 +1,5 @@
+pub mod Dialogues
+pub mod Echo
 pub mod Prompts
 pub mod Messages
 pub mod Endings

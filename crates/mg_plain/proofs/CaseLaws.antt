@@ -8,7 +8,7 @@ use Rattle.mg_plain.specs.declared.outcome.Notice.{Notice}
 use Rattle.mg_plain.specs.Answer.{IsEffectAnswer}
 use Rattle.mg_plain.specs.Cases.{character_splices}
 use Rattle.mg_plain.specs.Effect.{Effect}
-use Rattle.mg_text.specs.Splices.{splice}
+use Rattle.mg_plain.specs.Splices.{splice}
 use Rattle.mg_plain.proofs.MatchLaws.{front}
 
 -- the last of these characters stays

@@ -17,28 +17,28 @@ use Rattle.mg_plain.specs.declared.steps.Direction.TheVariants.{Backward, Forwar
 use Rattle.mg_plain.specs.declared.steps.Piece.TheVariants.{Line, Word}
 use Rattle.mg_plain.specs.declared.view.Kind.TheVariants.{Killing}
 use Rattle.mg_plain.specs.Cases.{character_splices, first_word_character, recased_char, recasing, recasing_up_to}
-use Rattle.mg_text.specs.Characters.{is_newline, newline_character}
+use Rattle.mg_plain.specs.Characters.{is_newline, newline_character}
 use Rattle.mg_plain.specs.Commands.{effect}
 use Rattle.mg_plain.specs.Effect.{Effect, IsWithinText, edit_effect, motion, one_splice, removed_characters}
-use Rattle.mg_text.specs.Splices.{splice}
-use Rattle.mg_text.specs.Filling.{alters, columns, filling, gaps}
+use Rattle.mg_plain.specs.Splices.{splice}
+use Rattle.mg_plain.specs.Gaps.{alters, columns, filling, gaps}
 use Rattle.mg_plain.specs.Insertions.{indentation, insert, insertion_effect, newline_and_indent, open_line, typing, yank}
 use Rattle.mg_plain.specs.Kills.{deletion_effect, kill_after, kill_effect, kill_region, kill_so_far, kill_up_to}
 use Rattle.mg_plain.specs.Lines.{at_goal}
-use Rattle.mg_text.specs.Lines.{begins_line, line_begin, line_end}
+use Rattle.mg_plain.specs.LineEnds.{begins_line, line_begin, line_end}
 use Rattle.mg_plain.specs.Matches.{first_match, last_match, match_at, matches, next_match, stands_at}
 use Rattle.mg_plain.specs.Motions.{by_lines, by_words, end_notice, goal_of, scroll, to_line, vertical_motion}
-use Rattle.mg_text.specs.Paragraphs.{begins_paragraph, ends_paragraph, has_nonblank, next_word, paragraph, words}
+use Rattle.mg_plain.specs.Paragraphs.{begins_paragraph, ends_paragraph, has_nonblank, next_word, paragraph, words}
 use Rattle.mg_plain.specs.Replacement.{all_matches, current_match, last_end, replacement, replacement_effect, replacements, stands_before_point}
 use Rattle.mg_plain.specs.Situation.{IsView, Situation}
-use Rattle.mg_text.specs.Spans.{AreRisingSpans, Span}
+use Rattle.mg_plain.specs.Spans.{AreRisingSpans, Span}
 use Rattle.mg_plain.specs.Steps.{step, steps, steps_up_to}
 use Rattle.mg_plain.specs.Words.{begins_word, ends_word, word_begin, word_end}
 use Rattle.mg_plain.proofs.FallingLaws.{AreFalling, IsInside, RiseBetween, edit-within, falls, filter-rising, last_end-within, length_made, motion-within, one_splice-falling, place_after-within, raise, replacement-rising, reverse-falling, weaken}
 use Rattle.mg_plain.proofs.MatchLaws.{last_is, stands_within}
-use Rattle.mg_text.proofs.RangeLaws.{FindsWithin, span_chain-rising, greatest_up_to-within, least_found, least_from-within}
+use Rattle.mg_plain.proofs.RangeLaws.{FindsWithin, span_chain-rising, greatest_up_to-within, least_found, least_from-within}
 use Rattle.mg_plain.proofs.StepLaws.{StaysWithin, steps-within, steps_up_to-within}
-use Rattle.mg_text.proofs.WordLaws.{finds_words}
+use Rattle.mg_plain.proofs.WordLaws.{finds_words}
 use Rattle.mg_plain.specs.declared.command.Command.TheVariants.{BeginningOfBuffer, EndOfBuffer as ToEndOfBuffer}
 use Rattle.mg_plain.specs.declared.outcome.Notice.TheVariants.{BeginningOfBuffer as AtBeginning, EndOfBuffer}
 

@@ -7,10 +7,10 @@ use Rattle.std.proofs.lemmas.List.{reverse-append}
 use Rattle.std.proofs.lemmas.Option.{none-some, same_Some}
 use Rattle.rga_ops.specs.Splice.{Splice, are_falling, text_after}
 use Rattle.mg_plain.specs.Effect.{Effect, carried_place, edit_effect, motion, one_splice, place_after}
-use Rattle.mg_text.specs.Splices.{splice}
+use Rattle.mg_plain.specs.Splices.{splice}
 use Rattle.mg_plain.specs.Replacement.{last_end, replacement}
 use Rattle.mg_plain.specs.Situation.{IsView, Situation}
-use Rattle.mg_text.specs.Spans.{AreRisingSpans, Span}
+use Rattle.mg_plain.specs.Spans.{AreRisingSpans, Span}
 
 -- splices that fall and keep apart, in parts
 abbrev pub AreFalling : ℕ → List Splice → Type 0

@@ -1,3 +1,9 @@
+pub mod ScanLaws
+pub mod RangeLaws
+pub mod WordLaws
+pub mod GapLaws
+pub mod BlankLaws
+pub mod LayoutLaws
 pub mod StepLaws
 pub mod MatchLaws
 pub mod ReplacementLaws

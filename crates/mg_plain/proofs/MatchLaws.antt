@@ -4,9 +4,9 @@ use Rattle.std.specs.Prelude.{nat_le}
 use Rattle.std.proofs.lemmas.Bool.{leb-true}
 use Rattle.std.proofs.lemmas.Option.{none-some}
 use Rattle.mg_plain.specs.Matches.{alike, begins_with, first_match, last_match, stands_at}
-use Rattle.mg_text.specs.Scans.{IsGreatest, greatest_passing}
-use Rattle.mg_text.proofs.RangeLaws.{greatest_is}
-use Rattle.mg_text.proofs.ScanLaws.{found_later}
+use Rattle.mg_plain.specs.Scans.{IsGreatest, greatest_passing}
+use Rattle.mg_plain.proofs.RangeLaws.{greatest_is}
+use Rattle.mg_plain.proofs.ScanLaws.{found_later}
 
 -- what is left to compare, by its first character
 pub front : (xs : List ℕ) (k a : ℕ) → k < length xs → a ≡ get_or xs k a → drop k xs ≡ a ∷ drop (k + 1) xs

@@ -2,12 +2,12 @@
 use Rattle.std.proofs.Common.{List, None, Some, [], ap, append-nil, append_assoc, arith, false, if◌then◌else◌, length, map, nat_eq, ne_eqb, option_map, refl, reverse, suc, sym, true, true≢false, ℕ, ◌++◌, ◌+◌, ◌-◌, ◌<◌, ◌∙◌, ◌∷◌, ◌≡◌, ◌≤◌}
 use Rattle.std.proofs.lemmas.List.{map_push}
 use Rattle.rga_ops.specs.Splice.{Splice}
-use Rattle.mg_text.specs.Splices.{splice}
+use Rattle.mg_plain.specs.Splices.{splice}
 use Rattle.mg_plain.specs.Matches.{first_match, match_at, match_count, matches, next_match, stands_at}
 use Rattle.mg_plain.specs.Replacement.{all_matches, current_match, last_end, replacement, replacements}
-use Rattle.mg_text.specs.Spans.{Span, span_chain}
-use Rattle.mg_text.proofs.RangeLaws.{chain_ends, chain_more}
-use Rattle.mg_text.proofs.ScanLaws.{found_nowhere}
+use Rattle.mg_plain.specs.Spans.{Span, span_chain}
+use Rattle.mg_plain.proofs.RangeLaws.{chain_ends, chain_more}
+use Rattle.mg_plain.proofs.ScanLaws.{found_nowhere}
 
 last_end-push : (q : ℕ) (spans : List Span) (s : Span) → last_end q (spans ++ s ∷ []) ≡ s.hi
 last_end-push q [] s = refl

@@ -6,11 +6,11 @@ use Rattle.mg_plain.specs.declared.outcome.Notice.{Notice}
 use Rattle.mg_plain.specs.declared.outcome.Notice.TheVariants.{BeginningOfBuffer, EndOfBuffer}
 use Rattle.mg_plain.specs.declared.cases.Casing.{Casing}
 use Rattle.mg_plain.specs.declared.cases.Casing.TheVariants.{Upper, Lower, Capital}
-use Rattle.mg_text.specs.Scans.{least_from}
+use Rattle.mg_plain.specs.Scans.{least_from}
 use Rattle.mg_plain.specs.Situation.{Situation}
 use Rattle.mg_plain.specs.Effect.{Effect, edit_effect}
-use Rattle.mg_text.specs.Splices.{splice}
-use Rattle.mg_text.specs.Characters.{upper, lower}
+use Rattle.mg_plain.specs.Splices.{splice}
+use Rattle.mg_plain.specs.Characters.{upper, lower}
 use Rattle.mg_plain.specs.Words.{word_end, has_word_character}
 
 -- ---- transposition

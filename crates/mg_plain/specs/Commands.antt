@@ -7,7 +7,7 @@ use Rattle.mg_plain.specs.declared.cases.Casing.TheVariants.{Upper, Lower, Capit
 use Rattle.mg_plain.specs.declared.steps.Direction.TheVariants.{Forward, Backward}
 use Rattle.mg_plain.specs.Situation.{Situation}
 use Rattle.mg_plain.specs.Effect.{Effect}
-use Rattle.mg_text.specs.Characters.{newline_character}
+use Rattle.mg_plain.specs.Characters.{newline_character}
 use Rattle.mg_plain.specs.Motions.{forward_char, backward_char, beginning_of_line, end_of_line, beginning_of_buffer, end_of_buffer, by_lines, scroll, by_words}
 use Rattle.mg_plain.specs.Insertions.{insert, typing, open_line, newline_and_indent, yank}
 use Rattle.mg_plain.specs.Kills.{delete_char, delete_backward_char, kill_line, kill_word, kill_region}

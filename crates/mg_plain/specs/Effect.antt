@@ -6,7 +6,7 @@ use Rattle.rga_ops.specs.Splice.{Splice, text_after, are_falling}
 use Rattle.mg_plain.specs.declared.view.Kind.{Kind}
 use Rattle.mg_plain.specs.declared.view.Kind.TheVariants.{Plain}
 use Rattle.mg_plain.specs.Situation.{Situation}
-use Rattle.mg_text.specs.Splices.{splice}
+use Rattle.mg_plain.specs.Splices.{splice}
 
 -- the splices, falling; point and mark in the new text; what goes into the kill buffer, if anything does; goal and kind
 pub record Effect : Type 0 where

@@ -4,7 +4,7 @@ use Rattle.rga_ops.specs.Splice.{Splice, text_after}
 use Rattle.mg_plain.specs.declared.view.Kind.TheVariants.{Plain, Killing}
 use Rattle.mg_plain.specs.declared.outcome.Notice.{Notice}
 use Rattle.mg_plain.specs.Situation.{Situation}
-use Rattle.mg_text.specs.Characters.{newline_character}
+use Rattle.mg_plain.specs.Characters.{newline_character}
 use Rattle.mg_plain.specs.Effect.{Effect, motion}
 use Rattle.mg_plain.specs.Kills.{kill_after}
 

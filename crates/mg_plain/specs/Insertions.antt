@@ -3,8 +3,8 @@ use Rattle.std.specs.Prelude.{ℕ, ◌+◌, List, ◌∷◌, length, replicate, 
 use Rattle.std.specs.List.{slice_range, take_while}
 use Rattle.mg_plain.specs.Situation.{Situation}
 use Rattle.mg_plain.specs.Effect.{Effect, one_splice, edit_effect}
-use Rattle.mg_text.specs.Characters.{newline_character, is_blank}
-use Rattle.mg_text.specs.Lines.{line_begin}
+use Rattle.mg_plain.specs.Characters.{newline_character, is_blank}
+use Rattle.mg_plain.specs.LineEnds.{line_begin}
 
 -- characters stand at point; the mark is carried
 abbrev pub insertion_effect : Situation → List ℕ → Effect

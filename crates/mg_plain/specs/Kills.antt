@@ -8,7 +8,7 @@ use Rattle.mg_plain.specs.declared.outcome.Notice.{Notice}
 use Rattle.mg_plain.specs.declared.outcome.Notice.TheVariants.{BeginningOfBuffer, EndOfBuffer, NoMark}
 use Rattle.mg_plain.specs.Situation.{Situation}
 use Rattle.mg_plain.specs.Effect.{Effect, one_splice, edit_effect}
-use Rattle.mg_text.specs.Lines.{line_end}
+use Rattle.mg_plain.specs.LineEnds.{line_end}
 use Rattle.mg_plain.specs.Words.{word_end}
 
 abbrev pub deletion_effect : Situation → ℕ → ℕ → Effect

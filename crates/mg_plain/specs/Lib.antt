@@ -1,3 +1,11 @@
+pub mod Scans
+pub mod Spans
+pub mod Splices
+pub mod Characters
+pub mod LineEnds
+pub mod Paragraphs
+pub mod Gaps
+pub mod Layout
 pub mod Situation
 pub mod Effect
 pub mod Answer

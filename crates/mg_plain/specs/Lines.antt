@@ -2,7 +2,7 @@
 use Rattle.std.specs.Prelude.{ℕ, ◌+◌, ◌-◌, List, length, min, Option, Some, None, if◌then◌else◌, nat_eq, nat_lt}
 use Rattle.mg_plain.specs.declared.steps.Direction.{Direction}
 use Rattle.mg_plain.specs.declared.steps.Direction.TheVariants.{Forward, Backward}
-use Rattle.mg_text.specs.Lines.{line_begin, line_end}
+use Rattle.mg_plain.specs.LineEnds.{line_begin, line_end}
 
 -- from the begin of a line to the begin of the next one
 abbrev pub next_line_begin : List ℕ → ℕ → Option ℕ

@@ -3,9 +3,9 @@ use Rattle.std.specs.Prelude.{ℕ, suc, ◌+◌, ◌-◌, ◌&&◌, Bool, true, 
 use Rattle.std.specs.Option.{option_map}
 use Rattle.mg_plain.specs.declared.steps.Direction.{Direction}
 use Rattle.mg_plain.specs.declared.steps.Direction.TheVariants.{Forward, Backward}
-use Rattle.mg_text.specs.Scans.{least, greatest_passing}
-use Rattle.mg_text.specs.Spans.{Span, span_chain}
-use Rattle.mg_text.specs.Characters.{lower}
+use Rattle.mg_plain.specs.Scans.{least, greatest_passing}
+use Rattle.mg_plain.specs.Spans.{Span, span_chain}
+use Rattle.mg_plain.specs.Characters.{lower}
 
 -- the same character, ASCII letters without regard to case
 abbrev pub alike : ℕ → ℕ → Bool

@@ -4,10 +4,10 @@ use Rattle.std.specs.Option.{option_map, ok_or}
 use Rattle.rga_ops.specs.Splice.{Splice}
 use Rattle.mg_plain.specs.declared.outcome.Notice.{Notice}
 use Rattle.mg_plain.specs.declared.outcome.Notice.TheVariants.{EndOfBuffer, SearchFailed}
-use Rattle.mg_text.specs.Spans.{Span}
+use Rattle.mg_plain.specs.Spans.{Span}
 use Rattle.mg_plain.specs.Situation.{Situation}
 use Rattle.mg_plain.specs.Effect.{Effect, one_splice, place_after, edit_effect, motion}
-use Rattle.mg_text.specs.Splices.{splice}
+use Rattle.mg_plain.specs.Splices.{splice}
 use Rattle.mg_plain.specs.Matches.{stands_at, first_match, last_match, matches}
 
 -- point goes behind the first match from the start on

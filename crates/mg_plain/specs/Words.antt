@@ -3,8 +3,8 @@ use Rattle.std.specs.Prelude.{ℕ, ◌+◌, ◌-◌, ◌&&◌, ◌||◌, Bool, n
 use Rattle.std.specs.List.{slice_index}
 use Rattle.mg_plain.specs.declared.steps.Direction.{Direction}
 use Rattle.mg_plain.specs.declared.steps.Direction.TheVariants.{Forward, Backward}
-use Rattle.mg_text.specs.Scans.{least_from, greatest_up_to}
-use Rattle.mg_text.specs.Characters.{is_word_character}
+use Rattle.mg_plain.specs.Scans.{least_from, greatest_up_to}
+use Rattle.mg_plain.specs.Characters.{is_word_character}
 
 -- a word character stands there
 abbrev pub has_word_character : List ℕ → ℕ → Bool

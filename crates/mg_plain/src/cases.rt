@@ -7,9 +7,9 @@ ghost use Rattle.mg_plain.specs.Cases as spec;
 use crate::characters::{lower, upper};
 use crate::edit::{edit, edit_once};
 use crate::outcome::{Notice, Plan};
+use crate::splice;
 use crate::view::View;
 use crate::words::{has_word_character, word_end};
-use mg_text::splice;
 use rga_ops::Splice;
 use std::alloc::{AllocError, Global};
 

@@ -1,6 +1,6 @@
 //! Kinds of characters.
 ghost use Rattle.std.specs.Prelude.{◌≡◌};
-ghost use Rattle.mg_text.specs.Characters as spec;
+ghost use Rattle.mg_plain.specs.Characters as spec;
 
 /// Whether a character belongs to a word that commands step over: an ASCII letter, an ASCII digit,
 /// or any character from U+0080 on.

@@ -1,12 +1,12 @@
 //! Splices, and what they do to places.
 ghost use Rattle.std.specs.Prelude.{◌≡◌, ◌∷◌, [], Ok, IfSome, IfOk};
-ghost use Rattle.mg_text.specs.Splices.{splice};
+ghost use Rattle.mg_plain.specs.Splices.{splice};
 ghost use Rattle.mg_plain.specs.Answer.{IsEffectAnswer};
 ghost use Rattle.mg_plain.specs.Effect.{one_splice, carried_place, place_after, edit_effect};
 
 use crate::outcome::{Notice, Plan};
+use crate::splice;
 use crate::view::{Kind, View};
-use mg_text::splice;
 use rga_ops::Splice;
 use std::alloc::{AllocError, Global};
 

@@ -5,8 +5,8 @@ ghost use Rattle.mg_plain.specs.Filling as spec;
 
 use crate::edit::edit;
 use crate::outcome::{Notice, Plan};
+use crate::paragraph_splices;
 use crate::view::View;
-use mg_text::paragraph_splices;
 use std::alloc::Global;
 
 pub(crate) fn fill_paragraph(alloc: Global, view: &View<'_>, column: u16) -> Result<Plan, Notice>

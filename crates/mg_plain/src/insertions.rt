@@ -1,14 +1,14 @@
 //! Insertions at point.
 ghost use Rattle.std.specs.Prelude.{◌≡◌, ◌∷◌, replicate, take_while, IfOk, Ok};
-ghost use Rattle.mg_text.specs.Characters.{is_blank, newline_character};
+ghost use Rattle.mg_plain.specs.Characters.{is_blank, newline_character};
 ghost use Rattle.mg_plain.specs.Answer.{IsEffectAnswer};
 ghost use Rattle.mg_plain.specs.Insertions as spec;
 
 use crate::characters::is_blank;
 use crate::edit::change;
+use crate::line_begin;
 use crate::outcome::{Notice, Plan};
 use crate::view::View;
-use mg_text::line_begin;
 use std::alloc::{AllocError, Global};
 
 /// Characters at point, which goes behind them.

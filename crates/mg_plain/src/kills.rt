@@ -5,10 +5,10 @@ ghost use Rattle.mg_plain.specs.Answer.{IsEffectAnswer};
 ghost use Rattle.mg_plain.specs.Kills as spec;
 
 use crate::edit::change;
+use crate::line_end;
 use crate::outcome::{Notice, Plan};
 use crate::view::{Kind, View};
 use crate::words::word_end;
-use mg_text::line_end;
 use std::alloc::Global;
 
 fn delete(alloc: Global, view: &View<'_>, lo: usize, hi: usize) -> Result<Plan, Notice>

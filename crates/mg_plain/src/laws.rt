@@ -7,6 +7,7 @@ mod examples;
 mod filling;
 mod places;
 mod searches;
+mod text;
 
 pub use effects::{case_keeps_the_length, effects_stay_within_the_text, kills_keep_what_they_take};
 pub use examples::{
@@ -16,3 +17,6 @@ pub use examples::{
 pub use filling::filling_touches_no_word;
 pub use places::places_in_words;
 pub use searches::searches_in_words;
+pub use text::{
+    filling_makes_the_layout, scans_find_the_least_and_the_greatest, words_are_the_greatest_runs,
+};

@@ -3,7 +3,7 @@ ghost use Rattle.std.specs.Prelude.{◌≡◌, ◌≤◌, length, IfSome};
 ghost use Rattle.mg_plain.specs.Lines as spec;
 
 use crate::steps::Direction;
-use mg_text::{line_begin, line_end};
+use crate::{line_begin, line_end};
 
 /// The begin of the line behind the one that begins there.
 fn next_line_begin(text: &[char], begin: usize) -> Option<usize>

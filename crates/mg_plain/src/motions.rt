@@ -6,7 +6,7 @@ ghost use Rattle.mg_plain.specs.Motions as spec;
 use crate::outcome::{Notice, Plan};
 use crate::steps::{Direction, Piece, step, steps, steps_up_to};
 use crate::view::{Kind, View};
-use mg_text::{line_begin, line_end};
+use crate::{line_begin, line_end};
 use std::alloc::Global;
 
 /// Point alone goes there.

@@ -6,8 +6,8 @@ ghost use Rattle.mg_plain.specs.Replacement as spec;
 use crate::edit::{carry_over, change, edit, edit_once};
 use crate::matching::{first_match, stands_at};
 use crate::outcome::{Notice, Plan};
+use crate::splice;
 use crate::view::View;
-use mg_text::splice;
 use rga_ops::Splice;
 use std::alloc::{AllocError, Global};
 

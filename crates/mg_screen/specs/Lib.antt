@@ -1,3 +1,4 @@
+pub mod Settings
 pub mod Size
 pub mod Cells
 pub mod Rows

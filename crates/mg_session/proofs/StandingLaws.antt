@@ -4,7 +4,7 @@ use Rattle.std.proofs.lemmas.Bool.{and_parts}
 use Rattle.std.specs.Bool.{MatchBool}
 use Rattle.std.specs.List.{concat}
 use Rattle.std.specs.Result.{result_and}
-use Rattle.rga_devices.specs.Counting.{Calls, CountsAs, StaysFlushed, one_more}
+use Rattle.rga_exchange.specs.Counting.{Calls, CountsAs, StaysFlushed, one_more}
 use Rattle.mg_minibuffer.specs.declared.ending.Request.{Request}
 use Rattle.mg_minibuffer.specs.declared.ending.Request.TheVariants as request
 use Rattle.mg_workspace.specs.declared.failures.Failure.{Failure}

@@ -4,7 +4,7 @@ use Rattle.std.proofs.KnownBytes.{Consumes-nil, Consumes-trans}
 use Rattle.std.proofs.lemmas.List.{drop_more}
 use Rattle.std.specs.Io.KnownBytes.{Consumes}
 use Rattle.std.specs.List.{concat}
-use Rattle.rga_devices.specs.Counting.{Calls, one_more}
+use Rattle.rga_exchange.specs.Counting.{Calls, one_more}
 use Rattle.mg_session.specs.Courses.{is_on}
 use Rattle.mg_session.specs.Display.{Displays}
 use Rattle.mg_session.specs.Moments.{Known, Moment, StepIf}

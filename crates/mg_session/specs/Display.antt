@@ -1,7 +1,7 @@
 -- Frames, as they are written.
 use Rattle.std.specs.Prelude.{◌≡◌, ◌⊎◌, ℕ, Bool, true, not, List, ◌++◌, ◌&&◌, is_ok}
 use Rattle.std.specs.Io.KnownBytes.{Appends}
-use Rattle.rga_devices.specs.Counting.{Calls, one_more}
+use Rattle.rga_exchange.specs.Counting.{Calls, one_more}
 use Rattle.rga_lines.specs.Stream.{bytes_of_lines}
 use Rattle.mg_screen.specs.Written.{utf8}
 use Rattle.mg_editor.specs.Editors.{Editor}

@@ -1,6 +1,6 @@
 -- A session at one moment.
 use Rattle.std.specs.Prelude.{◌≡◌, ℕ, Bool, true, false, List, Option}
-use Rattle.rga_devices.specs.Counting.{Calls}
+use Rattle.rga_exchange.specs.Counting.{Calls}
 use Rattle.mg_files.specs.Calls.{Call}
 use Rattle.mg_editor.specs.Editors.{Editor}
 use Rattle.mg_session.specs.declared.course.Course.{Course}

@@ -1,11 +1,11 @@
 -- How a session begins.
 use Rattle.std.specs.Prelude.{◌≡◌, ◌≢◌, ◌⊎◌, ℕ, [], ◌∷◌, Result, Ok, Err}
-use Rattle.rga_devices.specs.Counting.{one_more}
+use Rattle.rga_exchange.specs.Counting.{one_more}
 use Rattle.mg_files.specs.Calls.{Adds, load_call, found_call, refused}
 use Rattle.mg_files.specs.Files.{Files}
 use Rattle.mg_files.specs.Loading.{MayWantMemory}
 use Rattle.mg_files.specs.declared.fault.LoadFault.TheVariants as load
-use Rattle.mg_settings.specs.Settings.{Values}
+use Rattle.mg_screen.specs.Settings.{Values}
 use Rattle.mg_editor.specs.Editors.{Editor}
 use Rattle.mg_editor.specs.Opening.{opened_editor}
 use Rattle.mg_session.specs.Moments.{ToldCalls}

@@ -3,9 +3,9 @@ use Rattle.std.specs.Prelude.{◌≡◌, ◌↔◌, ℕ, ◌+◌, ◌≤◌, Boo
 use Rattle.std.specs.Bool.{MatchBool}
 use Rattle.std.specs.Io.KnownBytes.{Consumes, IsAtEnd}
 use Rattle.std.specs.List.{concat}
-use Rattle.rga_devices.specs.Counting.{Calls, one_more}
+use Rattle.rga_exchange.specs.Counting.{Calls, one_more}
 use Rattle.mg_keys.specs.Begun.{HasBegun}
-use Rattle.mg_settings.specs.Settings.{Values}
+use Rattle.mg_screen.specs.Settings.{Values}
 use Rattle.mg_workspace.specs.Failures.{first_standing}
 use Rattle.mg_editor.specs.Editors.{Editor}
 use Rattle.mg_session.specs.Courses.{is_on, SessionAnswer, session_answer}

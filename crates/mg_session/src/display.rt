@@ -1,6 +1,6 @@
 //! Frames, as they are written.
 ghost use Rattle.std.specs.Prelude.{◌≡◌, ◌⊎◌, ◌∷◌, ◌++◌, [], map, string_bytes, true, None, IfOk, OnOk, IfSome, OnSome};
-ghost use Rattle.rga_devices.specs.Counting.{Counts, Writes, WritesFront};
+ghost use Rattle.rga_exchange.specs.Counting.{Counts, Writes, WritesFront};
 ghost use Rattle.rga_lines.specs.Stream.{newline, bytes_of_lines};
 ghost use Rattle.mg_editor.specs.Frames.{placed_editor};
 ghost use Rattle.mg_session.specs.Display as spec;
@@ -8,7 +8,7 @@ ghost use Rattle.mg_session.specs.Moments.{ToldCalls, seen, moment};
 
 use crate::course::{Course, course_answer};
 use mg_editor::Editor;
-use rga_devices::Counted;
+use rga_exchange::Counted;
 use rga_store::TextStore;
 use std::alloc::{AllocError, Global};
 use std::io;

@@ -5,7 +5,7 @@ ghost use Rattle.mg_editor.specs.Presses as presses;
 ghost use Rattle.mg_session.specs.Keys as spec;
 ghost use Rattle.mg_session.specs.Moments.{Known, moment};
 ghost use Rattle.mg_session.specs.declared.course.Course.TheVariants.{On};
-ghost use Rattle.rga_devices.specs.Counting.{Calls};
+ghost use Rattle.rga_exchange.specs.Counting.{Calls};
 
 use crate::course::Course;
 use mg_editor::{Editor, Fault};

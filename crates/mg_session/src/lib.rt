@@ -2,7 +2,7 @@
 //!
 //! `run_keys` loads a buffer, presses each byte of the keys, carries each request to a port, and
 //! writes frames to a screen, be these files or memory. The crate stands on mg_editor for the
-//! editor, on mg_files for ports, and on rga_devices for devices whose calls are counted. The
+//! editor, on mg_files for ports, and on rga_exchange for devices whose calls are counted. The
 //! program above may rest on its contract: which keys a session takes, in turn, and exactly what
 //! they show, for any reader and screen that tell their bytes and any port that tells its calls;
 //! that each session ends; and on its faults, a device's being answered exactly where a call of it

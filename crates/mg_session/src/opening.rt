@@ -1,6 +1,6 @@
 //! How a session begins.
 ghost use Rattle.std.specs.Prelude.{◌≡◌, ◌≢◌, ◌∷◌, [], ℕ, Err};
-ghost use Rattle.rga_devices.specs.Counting.{one_more};
+ghost use Rattle.rga_exchange.specs.Counting.{one_more};
 ghost use Rattle.mg_files.specs.Calls.{Adds, found_call};
 ghost use Rattle.mg_session.specs.Moments.{ToldCalls};
 ghost use Rattle.mg_session.specs.Opening.{LoadsTo, opening_failures};
@@ -9,7 +9,7 @@ ghost use Rattle.mg_session.specs.declared.fault.SessionFault.TheVariants.{File}
 use crate::fault::{SessionFault, of_load, of_port};
 use mg_editor::Editor;
 use mg_files::{Found, Port};
-use mg_settings::Settings;
+use mg_screen::Settings;
 use rga_store::TextStore;
 use std::alloc::Global;
 

@@ -1,7 +1,7 @@
 //! Sessions.
 ghost use Rattle.std.specs.Prelude.{◌≡◌, ◌+◌, ◌<◌, ◌≤◌, length, take, Err, IfOk, OnOk, OnErr};
 ghost use Rattle.std.specs.Io.KnownBytes.{Consumes, Keeps};
-ghost use Rattle.rga_devices.specs.Counting.{Counts, CountsAs, IsReadToEnd, StaysFlushed, one_more};
+ghost use Rattle.rga_exchange.specs.Counting.{Counts, CountsAs, IsReadToEnd, StaysFlushed, one_more};
 ghost use Rattle.mg_session.specs.Display as frames;
 ghost use Rattle.mg_session.specs.Moments.{ToldCalls, seen, moment, StepIf};
 ghost use Rattle.mg_session.specs.Running as running;
@@ -15,8 +15,8 @@ use crate::keys::take_key;
 use crate::opening::open;
 use mg_editor::Editor;
 use mg_files::Port;
-use mg_settings::Settings;
-use rga_devices::Counted;
+use mg_screen::Settings;
+use rga_exchange::Counted;
 use rga_store::{Teller, TextStore};
 use std::alloc::Global;
 use std::io;

@@ -11,7 +11,7 @@ use Rattle.rga_ops.proofs.OperationLaws.{content_inserted}
 use Rattle.rga_ops.proofs.ContentLaws.{join_assoc, join_same, join_swap, nothing_join, within_itself}
 use Rattle.rga_ops.proofs.SoundLaws.{join_holds}
 use Rattle.rga_ops.proofs.TakenLaws.{AreTaken, held_stays, taken_list_is}
-use Rattle.rga_devices.specs.Counting.{Calls, Writes}
+use Rattle.rga_exchange.specs.Counting.{Calls, Writes}
 use Rattle.rga_lines.specs.Log.{stream_operations}
 use Rattle.rga_exchange.specs.Receiving.{number_received, receive_fault, exchange_outcome}
 use Rattle.rga_exchange.specs.Sending.{exchange_text}

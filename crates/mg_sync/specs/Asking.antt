@@ -1,7 +1,7 @@
 -- What passes over a link before an exchange that is brief: what each side knows.
 use Rattle.std.specs.Prelude.{◌≡◌, ◌≢◌, ℕ, true, false, List, Option, Some, None, Result, Ok, Err, OnOk}
 use Rattle.rga_ops.specs.Content.{Content}
-use Rattle.rga_devices.specs.Counting.{Calls, CountsAs, OnBytes, WritesFront}
+use Rattle.rga_exchange.specs.Counting.{Calls, CountsAs, OnBytes, WritesFront}
 use Rattle.rga_exchange.specs.declared.fault.ReceiveFault.{ReceiveFault}
 use Rattle.rga_exchange.specs.declared.fault.ReceiveFault.TheVariants as receive
 use Rattle.rga_exchange.specs.declared.fault.SendFault.{SendFault}

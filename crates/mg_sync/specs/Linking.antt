@@ -1,8 +1,8 @@
 -- What passes over the link that a port opens for an exchange.
 use Rattle.std.specs.Prelude.{◌≡◌, ⊤, ℕ, Bool, true, false, List, [], ◌∷◌, ◌++◌, Option, Some, Result, Ok, Err, MatchResult}
 use Rattle.rga_ops.specs.Content.{Content}
-use Rattle.rga_devices.specs.Counting.{Calls}
-use Rattle.rga_devices.specs.declared.counted.TheConstants.{MAX_CALLS}
+use Rattle.rga_exchange.specs.Counting.{Calls}
+use Rattle.rga_exchange.specs.declared.counted.TheConstants.{MAX_CALLS}
 use Rattle.rga_exchange.specs.declared.fault.ReceiveFault.{ReceiveFault}
 use Rattle.rga_exchange.specs.declared.fault.SendFault.{SendFault}
 use Rattle.rga_digest.specs.Summary.{Summary}

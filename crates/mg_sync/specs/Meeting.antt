@@ -2,7 +2,7 @@
 use Rattle.std.specs.Prelude.{◌≡◌, ◌⊎◌, ℕ, Bool, true, false, List, [], ◌∷◌, ◌++◌, Option, Result, Ok, Err}
 use Rattle.rga_ops.specs.Content.{IsWithin}
 use Rattle.rga_ops.specs.declared.op.Op.{Op}
-use Rattle.rga_devices.specs.Counting.{one_more}
+use Rattle.rga_exchange.specs.Counting.{one_more}
 use Rattle.rga_exchange.specs.declared.fault.ReceiveFault.{ReceiveFault}
 use Rattle.rga_exchange.specs.declared.fault.SendFault.{SendFault}
 use Rattle.mg_buffer.specs.Following.{TakesOperations}

@@ -3,7 +3,7 @@ use Rattle.std.specs.Prelude.{◌≡◌, ◌≢◌, ℕ, ◌≤◌, List, length
 use Rattle.rga_ops.specs.Content.{Content, IsSound, Agree, join, content_of, known_count}
 use Rattle.rga_ops.specs.Operations.{operations}
 use Rattle.rga_ops.specs.declared.op.Op.{Op}
-use Rattle.rga_devices.specs.Counting.{Calls, CountsAs, OnBytes, Writes, WritesFront}
+use Rattle.rga_exchange.specs.Counting.{Calls, CountsAs, OnBytes, Writes, WritesFront}
 use Rattle.rga_lines.specs.Log.{stream_operations}
 use Rattle.rga_exchange.specs.Receiving.{exchange_outcome}
 use Rattle.rga_exchange.specs.Sending.{exchange_text}

@@ -7,9 +7,8 @@ ghost use Rattle.mg_sync.specs.Asking.{Asks, Connects, LearnsOver, SaysOver, Wai
 use crate::fault::ExchangeFault;
 use mg_buffer::VisitedBuffer;
 use rga_brief::{hear_summary, send_lines, summary_lines};
-use rga_devices::Counted;
 use rga_digest::Summary;
-use rga_exchange::{ReceiveFault, SendFault};
+use rga_exchange::{Counted, ReceiveFault, SendFault};
 use rga_ops::Refusal;
 use rga_store::Teller;
 use std::alloc::Global;

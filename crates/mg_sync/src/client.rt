@@ -8,7 +8,7 @@ use crate::fault::ExchangeFault;
 use crate::talking::{Exchanged, hear, peer_answer, tell};
 use mg_buffer::VisitedBuffer;
 use mg_files::{Port, save};
-use rga_devices::Counted;
+use rga_exchange::Counted;
 use rga_store::Teller;
 use std::alloc::Global;
 

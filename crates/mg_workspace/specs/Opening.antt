@@ -3,7 +3,7 @@ use Rattle.std.specs.Prelude.{◌-◌, Bool, [], ◌∷◌, length, nat_le}
 use Rattle.mg_plain.specs.declared.view.Kind.TheVariants.{Plain}
 use Rattle.mg_buffer.specs.OpenState.{OpenState, with_brief, with_runs}
 use Rattle.mg_screen.specs.Layout.{layout, window}
-use Rattle.mg_settings.specs.Settings.{Values}
+use Rattle.mg_screen.specs.Settings.{Values}
 use Rattle.mg_workspace.specs.Buffers.{most_buffers, with_buffer}
 use Rattle.mg_workspace.specs.Viewports.{viewport, turned_to_buffer}
 use Rattle.mg_workspace.specs.Workspaces.{Workspace}

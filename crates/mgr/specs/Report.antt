@@ -76,6 +76,7 @@ session_status (session.Failed why) = failure_status why
 
 abbrev pub join_status : JoinFault → ℕ
 join_status (join.Log index fault) = show_status fault
+join_status join.Far = 1
 join_status join.Write = 3
 join_status join.Memory = 4
 
@@ -164,9 +165,10 @@ abbrev pub named_text : Option (List ℕ) → List ℕ → List ℕ
 named_text None text = text
 named_text (Some name) text = name ++ (codes ": " ++ text)
 
--- of one of the logs with these names
+-- of one of the logs with these names, or of all together
 abbrev pub join_message : List (List ℕ) → JoinFault → List ℕ
 join_message names (join.Log index fault) = named_text (slice_get names index) (show_message fault)
+join_message names join.Far = codes "counter far above the number of identifiers"
 join_message names join.Write = codes "device fault"
 join_message names join.Memory = codes "out of memory"
 

@@ -4,7 +4,7 @@ use Rattle.std.specs.Bool.{MatchBool}
 use Rattle.std.specs.Io.KnownBytes.{Appends}
 use Rattle.rga_ops.specs.Content.{Content, nothing as no_content}
 use Rattle.rga_store.specs.declared.text_store.TheConstants.{MAX_LIMIT}
-use Rattle.rga_devices.specs.Counting.{Calls, CountsAs, StaysFlushed, OnBytes, Writes, WritesFront, WritesNothing, one_more}
+use Rattle.rga_exchange.specs.Counting.{Calls, CountsAs, StaysFlushed, OnBytes, Writes, WritesFront, WritesNothing, one_more}
 use Rattle.rga_exchange.specs.Taking.{content_intake, HasTakenWholeLines}
 use Rattle.rga_exchange.specs.declared.taking.Form.TheVariants.{Log}
 use Rattle.mgr_args.specs.declared.job.JobFault.{JobFault}
@@ -18,13 +18,13 @@ use Rattle.mg_session.specs.declared.fault.SessionFault.TheVariants as session
 use Rattle.mg_files.specs.Calls.{Call}
 use Rattle.mg_session.specs.Running.{Devices, devices, IsSession}
 use Rattle.mg_live.specs.Running.{IsLiveSession}
-use Rattle.mg_settings.specs.Settings.{Values}
+use Rattle.mg_screen.specs.Settings.{Values}
 use Rattle.mgr_args.specs.declared.given.Note.{Note}
 use Rattle.mgr_args.specs.declared.given.Shown.TheVariants.{Input, Front}
 use Rattle.mgr_args.specs.declared.job.Job.{Job}
 use Rattle.mgr_args.specs.declared.job.Job.TheVariants.{Show, Edit, Compact, Join, Log, Who, Claims, Missing, Merge, Mend}
 use Rattle.mgr_port.specs.Logs.{Standing, SameElsewhere, StaysSame, left}
-use Rattle.mgr_compact.specs.Ends.{EndsWell, EndsEarly, failures_after_compaction}
+use Rattle.mgr_mend.specs.CompactionEnds.{EndsWell, EndsEarly, failures_after_compaction}
 use Rattle.mgr_show.specs.Shown.{IsOfInput, ShowsLog, BeginsToShow, log_content, shown_bytes}
 use Rattle.mgr_claims.specs.Claims.{BeginsToTell, TellsClaims}
 use Rattle.mgr_claims.specs.Missing.{BeginsMissing, IsOfClaims, IsOfLog as IsOfSource, OnBoth, WritesMissing, claims_heard, log_held, reads_failed as missing_reads_failed}

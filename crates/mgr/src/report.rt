@@ -28,7 +28,7 @@ pub enum Message {
     File(&'static str, &'static str),
     /// A line of claims, counted from 1, and the name of what is wrong with it.
     Claim(u64, &'static str),
-    /// What is wrong with a note.
+    /// What is wrong with a note, or with logs together.
     Note(&'static str),
     /// A device failed.
     Device,
@@ -131,7 +131,7 @@ impl Report {
         }
     }
 
-    /// Logs are not merged into a note, for this reason.
+    /// Logs are not merged into a note, or not joined, for this reason.
     pub(crate) fn of_note(why: &'static str) -> Report
         ensures status { result.status ≡ 1 }
         ensures text { spec.report_text result.message ≡ why.entry.now }

@@ -1,7 +1,7 @@
 //! The job of the command line, done, and what the shell is told of it.
 ghost use Rattle.std.specs.Prelude.{◌≡◌, ◌≤◌, [], ◌∷◌, ◌++◌, codes, map, slice_get, string_bytes};
 ghost use Rattle.std.specs.Prelude.{Err, IfErr, MatchResult, option_map};
-ghost use Rattle.rga_devices.specs.Counting.{CountsAs, StaysFlushed, one_more};
+ghost use Rattle.rga_exchange.specs.Counting.{CountsAs, StaysFlushed, one_more};
 ghost use Rattle.mg_session.specs.Running.{devices};
 ghost use Rattle.mg_session.specs.declared.fault.SessionFault.TheVariants as session;
 ghost use Rattle.mgr.specs.Report.{join_message, join_status, merge_message, merge_status, missing_message};
@@ -19,17 +19,16 @@ use crate::streams::hold_closed;
 use crate::tell::{StandardError, Tell};
 use mg_files::Port;
 use mg_live::run_live;
+use mg_screen::Settings;
 use mg_session::{SessionFault, run_keys};
-use mg_settings::Settings;
 use mgr_args::{Job, JobFault, Merging, Note, Shown, job_of, job_status, words};
 use mgr_claims::{MissingFault, write_claims, write_missing};
-use mgr_compact::compact_note;
 use mgr_look::{write_authors, write_numbers};
-use mgr_mend::{LeftOut, mend_note};
+use mgr_mend::{LeftOut, compact_note, mend_note};
 use mgr_merge::{MergeFault, Torn, merge_logs, put_note};
 use mgr_port::{FilePort, Logs};
 use mgr_show::{JoinFault, ShowFault, Sources, join_logs, show_note, show_ops, write_text};
-use rga_devices::Counted;
+use rga_exchange::Counted;
 use rga_flat::FlatStore;
 use std::alloc::Global;
 use std::fmt::Display;
@@ -256,6 +255,10 @@ fn told_of_logs<T: Tell>(errors: &mut T, names: &[String], fault: JoinFault) -> 
         JoinFault::Log(index, fault) => {
             told_of_log(errors, names.get(index), Report::of_show(&fault))
         }
+        JoinFault::Far => told(
+            errors,
+            Report::of_note("counter far above the number of identifiers"),
+        ),
         JoinFault::Write => told(errors, Report::device()),
         JoinFault::Memory => told(errors, Report::memory()),
     }

@@ -9,7 +9,7 @@ use Rattle.clap.specs.declared.parser.matches.Found.{Found}
 use Rattle.clap.proofs.WalkLemmas.{one_text-rows}
 use Rattle.rga_store.specs.declared.text_store.TheConstants.{MAX_LIMIT}
 use Rattle.mg_screen.specs.Size.{least_rows, most_rows, least_columns, most_columns}
-use Rattle.mg_settings.specs.Settings.{Values, AreAllowed, greatest_replica, greatest_port, greatest_fill}
+use Rattle.mg_screen.specs.Settings.{Values, AreAllowed, greatest_replica, greatest_port, greatest_fill}
 use Rattle.mgr_args.specs.Edit.{GivesSettings, GivesValues}
 use Rattle.mgr_args.specs.Given.{GivesFlag, GivesNumber, GivesNumberIf}
 

@@ -4,7 +4,7 @@ use Rattle.clap.specs.Simple.{App, new_app}
 use Rattle.clap.specs.Walk.{Row, Rule, first_of}
 use Rattle.rga_store.specs.declared.text_store.TheConstants.{MAX_LIMIT}
 use Rattle.mg_screen.specs.Size.{least_rows, most_rows, least_columns, most_columns}
-use Rattle.mg_settings.specs.Settings.{Values, AreAllowed, greatest_replica, greatest_port, greatest_fill}
+use Rattle.mg_screen.specs.Settings.{Values, AreAllowed, greatest_replica, greatest_port, greatest_fill}
 use Rattle.mgr_args.specs.Given.{GivesFlag, GivesNumber, GivesNumberIf}
 use Rattle.mgr_args.specs.Rules.{flag, name_rule, number_rule, with_rules}
 

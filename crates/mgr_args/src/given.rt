@@ -2,13 +2,13 @@
 ghost use Rattle.std.specs.Prelude.{◌≡◌, None, IfOk, IfSome, codes, map, string_bytes};
 ghost use Rattle.clap.specs.Matches.{found_of};
 ghost use Rattle.clap.specs.Walk.{rows_of, texts};
-ghost use Rattle.mg_settings.specs.Settings.{Values};
+ghost use Rattle.mg_screen.specs.Settings.{Values};
 ghost use Rattle.mgr_args.specs.Edit.{GivesNumbers, GivesOptions, GivesSettings};
 ghost use Rattle.mgr_args.specs.Given.{GivesFlag, GivesLogs, GivesMerging, GivesNameIf, GivesNote};
 ghost use Rattle.mgr_args.specs.Given.{GivesNoteNameIf, GivesNumberIf, GivesShown};
 
 use clap::ArgMatches;
-use mg_settings::{Settings, Values};
+use mg_screen::{Settings, Values};
 use rga_store::MAX_LIMIT;
 use std::alloc::{AllocError, Global};
 

@@ -15,7 +15,7 @@ use crate::given::{
 };
 use clap::error::ErrorKind;
 use clap::{ArgMatches, Error};
-use mg_settings::Settings;
+use mg_screen::Settings;
 use std::alloc::{AllocError, Global};
 
 /// What the program is to do.

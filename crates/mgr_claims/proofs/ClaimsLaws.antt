@@ -2,7 +2,7 @@
 use Rattle.std.proofs.Common.{◌≡◌, ℕ, List, Option, Some, None, subst, ◌∙◌, inr}
 use Rattle.std.specs.Prelude.{IfSome, ◌⊎◌}
 use Rattle.rga_ops.specs.Content.{Content}
-use Rattle.rga_devices.specs.Counting.{Calls, Writes, WritesFront, WritesNothing}
+use Rattle.rga_exchange.specs.Counting.{Calls, Writes, WritesFront, WritesNothing}
 use Rattle.rga_exchange.specs.declared.log.LogRead.{LogRead}
 use Rattle.rga_brief.specs.Told.{IsTold}
 use Rattle.mgr_show.specs.Shown.{log_content}

@@ -8,7 +8,7 @@ use Rattle.rga_ops.specs.declared.op.Op.TheVariants.{Insert}
 use Rattle.rga_ops.proofs.AgreeLaws.{agree_nothing, agree_swap}
 use Rattle.rga_ops.proofs.ContentLaws.{nothing_join}
 use Rattle.rga_ops.proofs.OperationLaws.{Contains-nil}
-use Rattle.rga_devices.specs.Counting.{Calls, Writes, WritesFront, WritesNothing}
+use Rattle.rga_exchange.specs.Counting.{Calls, Writes, WritesFront, WritesNothing}
 use Rattle.rga_lines.specs.Log.{log_operations, then_operations}
 use Rattle.rga_lines.specs.Stream.{rest_of}
 use Rattle.rga_lines.proofs.StandLemmas.{nothing_stands}

@@ -3,7 +3,7 @@ use Rattle.std.specs.Prelude.{◌≡◌, ℕ, ⊤, List, length, Option, Some, N
 use Rattle.rga_ops.specs.Content.{Content, content_of}
 use Rattle.rga_ops.specs.declared.op.Op.{Op}
 use Rattle.rga_store.specs.declared.text_store.TheConstants.{MAX_LIMIT}
-use Rattle.rga_devices.specs.Counting.{Calls, Writes, WritesFront, one_more}
+use Rattle.rga_exchange.specs.Counting.{Calls, Writes, WritesFront, one_more}
 use Rattle.rga_exchange.specs.Sending.{StandsFor, log_text}
 use Rattle.rga_exchange.specs.declared.fault.ReceiveFault.{ReceiveFault}
 use Rattle.rga_exchange.specs.declared.fault.ReceiveFault.TheVariants as claim

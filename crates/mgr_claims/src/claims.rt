@@ -2,7 +2,7 @@
 ghost use Rattle.std.specs.Prelude.{◌≡◌, ◌≢◌, ◌⊎◌, ℕ, List, true, Err, IfOk, IfErr, IfSome, OnOk};
 ghost use Rattle.std.specs.Prelude.{OnErr};
 ghost use Rattle.rga_store.specs.declared.text_store.TheConstants.{MAX_LIMIT};
-ghost use Rattle.rga_devices.specs.Counting.{CountsAs, WritesNothing};
+ghost use Rattle.rga_exchange.specs.Counting.{CountsAs, WritesNothing};
 ghost use Rattle.mgr_show.specs.Shown.{IsOfInput};
 ghost use Rattle.mgr_show.specs.Note.{note_of};
 ghost use Rattle.mgr_show.specs.Sources.{failures_after};
@@ -13,7 +13,7 @@ use crate::head::push_head;
 use crate::note::read_note;
 use mgr_show::{ShowFault, Sources};
 use rga_brief::{send_lines, summary_lines};
-use rga_devices::Counted;
+use rga_exchange::Counted;
 use rga_ops::Refusal;
 use rga_store::Teller;
 use std::alloc::Global;

@@ -1,7 +1,7 @@
 //! The operations that claims lack.
 ghost use Rattle.std.specs.Prelude.{◌≡◌, ◌≢◌, ◌⊎◌, ℕ, List, true, Ok, Err, IfOk, IfErr, IfSome};
 ghost use Rattle.std.specs.Prelude.{OnOk, OnErr};
-ghost use Rattle.rga_devices.specs.Counting.{CountsAs, WritesNothing};
+ghost use Rattle.rga_exchange.specs.Counting.{CountsAs, WritesNothing};
 ghost use Rattle.mgr_show.specs.Stored.{IsRead};
 ghost use Rattle.mgr_claims.specs.Missing.{claims_heard, log_held, reads_failed, OnBoth};
 ghost use Rattle.mgr_claims.specs.Missing.{IsOfClaims, IsOfLog, WritesMissing, BeginsMissing};
@@ -12,9 +12,8 @@ use crate::head::after_head;
 use crate::note::read_note;
 use mgr_show::{ShowFault, Sources, StoredLog};
 use rga_brief::hear_summary;
-use rga_devices::Counted;
 use rga_digest::{Summary, missing};
-use rga_exchange::{ReceiveFault, append_log};
+use rga_exchange::{Counted, ReceiveFault, append_log};
 use rga_flat::FlatStore;
 use rga_store::TextStore;
 use std::alloc::Global;

@@ -1,7 +1,7 @@
 -- What is written about the log of a note.
 use Rattle.std.specs.Prelude.{ℕ, List, Option}
 use Rattle.rga_store.specs.declared.text_store.TheConstants.{MAX_LIMIT}
-use Rattle.rga_devices.specs.Counting.{Calls, Writes, WritesFront}
+use Rattle.rga_exchange.specs.Counting.{Calls, Writes, WritesFront}
 use Rattle.mgr_show.specs.Log.{ShowOutcome}
 use Rattle.mgr_show.specs.Note.{note_of, IsReadable}
 

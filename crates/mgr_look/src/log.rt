@@ -1,6 +1,6 @@
 //! What stands in the log of a note.
 ghost use Rattle.std.specs.Prelude.{◌≡◌, ◌≢◌, ◌⊎◌, ℕ, List, true, Err, IfErr, IfSome, OnOk, OnErr};
-ghost use Rattle.rga_devices.specs.Counting.{CountsAs, WritesNothing};
+ghost use Rattle.rga_exchange.specs.Counting.{CountsAs, WritesNothing};
 ghost use Rattle.mgr_show.specs.Shown.{IsOfInput};
 ghost use Rattle.mgr_show.specs.Note.{log_name};
 ghost use Rattle.mgr_look.specs.Notes.{read_of};
@@ -10,7 +10,7 @@ ghost use Rattle.mgr_look.specs.Told.{WritesNumbers, BeginsToWriteNumbers, Looks
 use crate::numbers::numbers_of;
 use crate::told::numbers_text;
 use mgr_show::{ShowFault, Sources, write_text};
-use rga_devices::Counted;
+use rga_exchange::Counted;
 use std::alloc::Global;
 use std::io::Write;
 

@@ -1,7 +1,7 @@
 //! What is written of small logs.
 use crate::{write_authors, write_numbers};
 use mgr_show::{ShowFault, Sources};
-use rga_devices::Counted;
+use rga_exchange::Counted;
 use std::alloc::Global;
 
 /// A note: its log and its text.

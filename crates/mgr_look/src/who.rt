@@ -1,7 +1,7 @@
 //! Who wrote the text of a note.
 ghost use Rattle.std.specs.Prelude.{◌≡◌, ◌≢◌, ◌⊎◌, ℕ, List, true, Err, string_bytes};
 ghost use Rattle.std.specs.Prelude.{IfOk, IfErr, IfSome, OnOk, OnErr};
-ghost use Rattle.rga_devices.specs.Counting.{CountsAs, WritesNothing};
+ghost use Rattle.rga_exchange.specs.Counting.{CountsAs, WritesNothing};
 ghost use Rattle.mgr_show.specs.Shown.{IsOfInput, log_content};
 ghost use Rattle.mgr_show.specs.Note.{log_name, IsReadable};
 ghost use Rattle.mgr_show.specs.Sources.{failures_after};
@@ -12,7 +12,7 @@ use crate::authors::authored;
 use crate::lines::lines_text;
 use crate::pieces::pieces_text;
 use mgr_show::{ShowFault, Sources, log_name, read_log, write_text};
-use rga_devices::Counted;
+use rga_exchange::Counted;
 use rga_flat::FlatStore;
 use rga_ops::Refusal;
 use std::alloc::Global;

@@ -1,3 +1,4 @@
+pub mod CompactionLaws
 pub mod BeatsLemmas
 pub mod LeastLemmas
 pub mod LinesLemmas

@@ -6,7 +6,7 @@ use Rattle.std.specs.Io.KnownBytes.{Appends}
 use Rattle.std.proofs.lemmas.Bool.{eqb-true}
 use Rattle.std.proofs.lemmas.List.{nil_from_length}
 use Rattle.std.proofs.lemmas.Option.{IfSome_then}
-use Rattle.rga_devices.specs.Counting.{Calls, Writes}
+use Rattle.rga_exchange.specs.Counting.{Calls, Writes}
 use Rattle.mg_files.specs.declared.port.PortFault.{PortFault}
 use Rattle.mgr_port.specs.Disk.{whole_steps}
 use Rattle.mgr_port.specs.Logs.{Standing, StaysSame, StopsEarly, Names, AppendsFront, left, renamed, raised}

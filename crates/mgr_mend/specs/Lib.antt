@@ -1,3 +1,4 @@
+pub mod CompactionEnds
 pub mod Mending
 pub mod Parts
 pub mod Ends

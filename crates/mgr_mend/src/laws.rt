@@ -8,6 +8,10 @@ ghost use Rattle.mgr_port.specs.Disk.{DiskStep, Place, MayBeMade, IsUntouched, M
 ghost use Rattle.mgr_mend.specs.Mending.{whole_operations, IsBeaten, unbeaten, mended, refused_of};
 ghost use Rattle.mgr_mend.specs.Mending.{left_out_of, nothing_left_out, StaysWhole, IsLeftOut};
 
+mod compaction;
+
+pub use compaction::a_note_keeps_its_content_whenever_the_machine_stops;
+
 /// A log that has only operations, no two of which are insertions of one identifier that differ,
 /// stays as it is, and nothing of it is left out.
 pub fn an_accepted_log_stays()

@@ -4,7 +4,7 @@ ghost use Rattle.std.specs.Io.KnownBytes.{Appends};
 ghost use Rattle.mg_files.specs.Calls.{failures_after};
 ghost use Rattle.mgr_port.specs.Disk.{whole_steps};
 ghost use Rattle.mgr_port.specs.Logs.{SameElsewhere, StaysSame, StopsEarly, renamed};
-ghost use Rattle.mgr_compact.specs.Ends.{failures_after_compaction};
+ghost use Rattle.mgr_mend.specs.CompactionEnds.{failures_after_compaction};
 ghost use Rattle.mgr_mend.specs.Mending.{mended, refused_of, left_out_of};
 ghost use Rattle.mgr_mend.specs.Ends.{MendsInPart, mended_standing};
 
@@ -12,7 +12,7 @@ use crate::mended::{LeftOut, Mended, mend_log};
 use mg_files::PortFault;
 use mgr_port::Logs;
 use mgr_show::ShowFault;
-use rga_devices::Counted;
+use rga_exchange::Counted;
 use std::alloc::Global;
 use std::io::Write;
 

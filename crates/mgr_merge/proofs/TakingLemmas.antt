@@ -10,10 +10,10 @@ use Rattle.rga_exchange.proofs.OperationLaws.{log_taken}
 use Rattle.rga_exchange.specs.declared.log.LogRead.{LogRead}
 use Rattle.rga_exchange.specs.Log.{LogOutcome, log_outcome}
 use Rattle.mgr_show.specs.Log.{show_fault}
-use Rattle.mgr_show.specs.Joined.{all_operations, in_front}
+use Rattle.mgr_show.specs.Joined.{all_operations, in_front, is_far}
 use Rattle.mgr_show.proofs.LeftLogLemmas.{is_split, if_told}
 use Rattle.mgr_merge.specs.Merging.{IsOfLogs}
-use Rattle.mgr_merge.specs.Taking.{LogsTaken, logs_taken, MergeOutcome, torn_at, is_apart, is_far, after_log, log_merged, after_torn, then_merged, merged_from}
+use Rattle.mgr_merge.specs.Taking.{LogsTaken, logs_taken, MergeOutcome, torn_at, is_apart, after_log, log_merged, after_torn, then_merged, merged_from}
 use Rattle.mgr_merge.specs.declared.merged.Torn.{Torn}
 use Rattle.mgr_merge.specs.declared.fault.MergeFault.{MergeFault}
 use Rattle.mgr_merge.specs.declared.fault.MergeFault.TheVariants.{Log, Apart, Far}

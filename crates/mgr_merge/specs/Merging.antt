@@ -2,7 +2,7 @@
 use Rattle.std.specs.Prelude.{◌≡◌, ◌≢◌, ◌⊎◌, ◌||◌, ℕ, Bool, false, List, [], ◌∷◌, ◌++◌, length, is_some, Option, Some, None, Result, Ok, Err, ⊤, if◌then◌else◌}
 use Rattle.std.specs.List.{list_any}
 use Rattle.std.specs.Str.{bytes_eq}
-use Rattle.rga_devices.specs.Counting.{one_more}
+use Rattle.rga_exchange.specs.Counting.{one_more}
 use Rattle.rga_ops.specs.Content.{Content, clock_of}
 use Rattle.rga_exchange.specs.declared.log.LogEnd.{LogEnd}
 use Rattle.mg_buffer.specs.OpenState.{OpenState, has_unsaved}

@@ -1,8 +1,8 @@
 -- What logs lead to that are taken in turn.
-use Rattle.std.specs.Prelude.{ℕ, ◌+◌, ◌==◌, ◌&&◌, ◌||◌, nat_lt, Bool, true, false, not, List, [], ◌∷◌, ◌++◌, Option, Some, None, Result, Ok, Err, is_some, if◌then◌else◌}
+use Rattle.std.specs.Prelude.{ℕ, ◌+◌, ◌==◌, ◌&&◌, ◌||◌, Bool, true, false, not, List, [], ◌∷◌, ◌++◌, Option, Some, None, Result, Ok, Err, is_some, if◌then◌else◌}
 use Rattle.std.specs.List.{list_any}
 use Rattle.std.specs.FinSet as finite_set
-use Rattle.rga_ops.specs.Content.{Content, clock_of, element_at, known_count}
+use Rattle.rga_ops.specs.Content.{Content, element_at, known_count}
 use Rattle.rga_ops.specs.Identifier.{Identifier, is_id}
 use Rattle.rga_ops.specs.declared.op.Op.{Op}
 use Rattle.rga_ops.specs.declared.op.Op.TheVariants.{Insert, Delete}
@@ -15,6 +15,7 @@ use Rattle.rga_exchange.specs.declared.log.LogEnd.TheVariants as end
 use Rattle.rga_exchange.specs.declared.log.LogRead.{LogRead}
 use Rattle.mg_buffer.specs.Following.{TakesOperations}
 use Rattle.mg_buffer.specs.State.{State}
+use Rattle.mgr_show.specs.Joined.{is_far}
 use Rattle.mgr_show.specs.Log.{HasFollowed, show_fault}
 use Rattle.mgr_merge.specs.declared.merged.Torn.{Torn}
 use Rattle.mgr_merge.specs.declared.fault.MergeFault.{MergeFault}
@@ -51,10 +52,6 @@ all_lines bytes = lines_of bytes ++ rest_of bytes ∷ []
 -- a log has operations, a content has some, and none of the log's is tied to these
 abbrev pub is_apart : Content → List ℕ → Bool
 is_apart c bytes = if known_count c == 0 then false else are_untied c (operations_of (all_lines bytes))
-
--- a content has a counter of more than 2^32 above a clock
-abbrev pub is_far : ℕ → Content → Bool
-is_far clock c = nat_lt (clock + 4294967296) (clock_of c)
 
 -- ---- logs in turn
 

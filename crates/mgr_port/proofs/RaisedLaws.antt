@@ -1,6 +1,6 @@
 -- Failures that are counted all at once, or one by one.
 use Rattle.std.proofs.Common.{◌≡◌, ◌∙◌, ℕ, zero, suc, ◌+◌, ◌≤◌, min, ap, sym, arith}
-use Rattle.rga_devices.specs.Counting.{one_more, max_failures}
+use Rattle.rga_exchange.specs.Counting.{one_more, max_failures}
 use Rattle.mgr_port.specs.Logs.{raised}
 
 least : (n m : ℕ) → n ≤ m → n ≡ min (n + 0) m

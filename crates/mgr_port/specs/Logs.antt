@@ -1,7 +1,7 @@
 -- What is told of logs that are written anew.
 use Rattle.std.specs.Prelude.{◌≡◌, ◌≢◌, ◌⊎◌, ℕ, zero, suc, List, [], ◌∷◌, ◌++◌, Bool, true, Option, Some, Result, Ok, Err}
 use Rattle.std.specs.Io.KnownBytes.{Appends}
-use Rattle.rga_devices.specs.Counting.{one_more}
+use Rattle.rga_exchange.specs.Counting.{one_more}
 use Rattle.mg_files.specs.declared.port.PortFault.{PortFault}
 use Rattle.mgr_port.specs.Disk.{DiskStep, Removes, AreGivenUp, named_steps, whole_steps}
 

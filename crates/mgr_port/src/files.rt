@@ -2,7 +2,7 @@
 use crate::patient::Patient;
 use crate::stamp::Stamp;
 use mg_files::{LogLines, PortFault};
-use rga_devices::Counted;
+use rga_exchange::Counted;
 use std::alloc::Global;
 use std::fs::{File, Metadata, OpenOptions, Permissions, TryLockError};
 use std::io::{ErrorKind, Write};

@@ -1,7 +1,7 @@
 //! The port of the program: buffers in files, and peers behind sockets of this machine.
 //!
 //! A buffer `NAME` has its text in the file `NAME` and its log in `NAME.ops`. The crate stands on
-//! mg_files for what a port is, and on rga_devices for devices that are counted. The layer above
+//! mg_files for what a port is, and on rga_exchange for devices that are counted. The layer above
 //! may rest on the contracts of `Port`, and of `Logs` for a log that is written anew, where this
 //! one tells no calls, no links and no steps: what files give and keep, and what a peer says, no
 //! clause can name. So that a note has one writer, that its files are whole whenever the machine

@@ -5,7 +5,7 @@ ghost use Rattle.mg_files.specs.Calls.{failures_after};
 ghost use Rattle.mgr_port.specs.Logs.{Standing, SameElsewhere, Names, Gains, left, raised};
 
 use mg_files::PortFault;
-use rga_devices::Counted;
+use rga_exchange::Counted;
 use std::io::{Read, Write};
 
 /// Logs by the names of their notes, each of which can be written anew. They may tell what stands

@@ -12,7 +12,7 @@ use crate::note::Note;
 use crate::rewriting::{OpenLog, keep_refused, leave_next, make_next, name_next, open_log};
 use crate::sockets::{accept_one, connect_to, listen_at};
 use mg_files::{Found, LinkFault, LogLines, Port, PortFault};
-use rga_devices::Counted;
+use rga_exchange::Counted;
 use std::alloc::AllocError;
 use std::fs::File;
 use std::io;

@@ -2,11 +2,11 @@
 use Rattle.std.proofs.Common.{◌≡◌, ℕ, Bool, ◌||◌, List, [], Option, Some, None, Result, Ok, Err, subst, inr}
 use Rattle.std.specs.Prelude.{IfSome, OnErr, ◌⊎◌}
 use Rattle.rga_ops.specs.Content.{Content}
-use Rattle.rga_devices.specs.Counting.{Calls, Writes, WritesFront, WritesNothing}
+use Rattle.rga_exchange.specs.Counting.{Calls, Writes, WritesFront, WritesNothing}
 use Rattle.rga_lines.specs.Stream.{rest_of}
 use Rattle.rga_exchange.specs.DeletionRuns.{has_deletion_runs}
 use Rattle.rga_exchange.specs.Sending.{StandsFor}
-use Rattle.rga_compaction.specs.Compacting.{compact_text}
+use Rattle.rga_exchange.specs.Compacting.{compact_text}
 use Rattle.mgr_show.specs.Compacted.{compacted, Compacts, BeginsToCompact}
 use Rattle.mgr_show.specs.Shown.{log_content}
 use Rattle.mgr_show.proofs.ShownLaws.{IsContentOf}

@@ -1,5 +1,5 @@
 -- Which logs are joined, to what, and which one is refused, in words.
-use Rattle.std.proofs.Common.{◌≡◌, ℕ, suc, zero, ◌+◌, ◌≤◌, Bool, true, List, [], ◌∷◌, ◌++◌, length, Ok, Err, refl, sym, ap, subst, ◌∙◌, inl, inr, arith}
+use Rattle.std.proofs.Common.{◌≡◌, ℕ, suc, zero, ◌+◌, ◌≤◌, Bool, true, false, List, [], ◌∷◌, ◌++◌, length, Ok, Err, refl, sym, ap, subst, ◌∙◌, inl, inr, arith}
 use Rattle.std.specs.Prelude.{◌⊎◌, ◌↔◌, Contains}
 use Rattle.std.specs.List.{list_any}
 use Rattle.std.specs.Cmp.{both_ways}
@@ -10,6 +10,7 @@ use Rattle.rga_ops.specs.ListAnswer.{IsJoinable}
 use Rattle.rga_ops.specs.declared.op.Op.{Op}
 use Rattle.rga_ops.proofs.ContentLaws.{join_assoc, join_nothing, nothing_join}
 use Rattle.rga_ops.proofs.AgreeLaws.{agree_nothing, agree_swap}
+use Rattle.rga_ops.proofs.TakenLaws.{taken_from_nothing, taken_list_agrees}
 use Rattle.rga_ops.proofs.OperationLaws.{same_operations_same_content, content_of-append}
 use Rattle.rga_ops.proofs.KnownLaws.{known_nothing, taken_list_within}
 use Rattle.rga_ops.proofs.ListAnswerLaws.{joinable_append}
@@ -20,13 +21,13 @@ use Rattle.rga_exchange.specs.DeletionRuns.{has_deletion_runs}
 use Rattle.rga_exchange.specs.Sending.{StandsFor}
 use Rattle.rga_exchange.proofs.LogLaws.{log_only_operations, log_without_fault}
 use Rattle.rga_exchange.proofs.MeetingLaws.{first_fits}
-use Rattle.rga_compaction.specs.Compacting.{compact_text}
+use Rattle.rga_exchange.specs.Compacting.{compact_text}
 use Rattle.mgr_show.specs.declared.fault.JoinFault.{JoinFault}
 use Rattle.mgr_show.specs.declared.fault.JoinFault.TheVariants as join
 use Rattle.mgr_show.specs.Log.{ShowOutcome, shown_from}
-use Rattle.mgr_show.specs.Joined.{then_joined, joined_from, join_of, all_operations, join_text, MayBeJoined, HasSameLogs, IsFirstRefused}
+use Rattle.mgr_show.specs.Joined.{JoinOutcome, has_far_counter, then_joined, joined_from, unless_far, join_of, all_operations, join_text, MayBeTaken, MayBeJoined, HasSameLogs, IsFirstRefused, AreFar}
 use Rattle.mgr_show.proofs.ShownLaws.{read_to_end, read_is_accepted}
-use Rattle.mgr_show.proofs.JoinedLaws.{joins_to, stops_at, first_joined, joined_taken, join_of_logs}
+use Rattle.mgr_show.proofs.JoinedLaws.{joins_to, stops_at, near_joined, joined_near, refused_or_far, first_joined, joined_taken}
 
 -- ---- members
 
@@ -100,23 +101,33 @@ are_joined limit n c (first ∷ logs) only joinable fits =
     ∙ are_joined limit (n + 1) (join c (content_of ops)) logs (λ log m. only log (later first log logs m)) parts.1 all_fit
     ∙ ap Ok (sym whole)
 
-joined_may_be : (logs : List (List ℕ)) (c : Content) → join_of MAX_LIMIT logs ≡ Ok c → MayBeJoined logs × (c ≡ content_of (all_operations logs))
-joined_may_be logs c h =
-    let w = join_of_logs logs c h in
+taken_may_be : (logs : List (List ℕ)) (c : Content) → joined_from MAX_LIMIT 0 nothing logs ≡ Ok c → MayBeTaken logs × (c ≡ content_of (all_operations logs))
+taken_may_be logs c h =
+    let taken = joined_taken MAX_LIMIT 0 nothing c logs h in
+    let is : c ≡ content_of (all_operations logs) = taken_from_nothing MAX_LIMIT (all_operations logs) c taken in
     let start : known_count nothing ≤ MAX_LIMIT = subst (λ n. n ≤ MAX_LIMIT) (sym known_nothing) (omega arith) in (
       record {
         only = only_operations MAX_LIMIT 0 nothing c logs h;
-        agreed = w.accepted.agreed;
-        few = subst (λ d. known_count d ≤ MAX_LIMIT) w.is (taken_list_within MAX_LIMIT nothing (all_operations logs) c start (joined_taken MAX_LIMIT 0 nothing c logs h));
+        agreed = taken_list_agrees MAX_LIMIT nothing (all_operations logs) c taken;
+        few = subst (λ d. known_count d ≤ MAX_LIMIT) is (taken_list_within MAX_LIMIT nothing (all_operations logs) c start taken);
       },
-      w.is,
+      is,
     )
 
-may_be_joined : (logs : List (List ℕ)) → MayBeJoined logs → join_of MAX_LIMIT logs ≡ Ok (content_of (all_operations logs))
-may_be_joined logs may =
+may_be_taken : (logs : List (List ℕ)) → MayBeTaken logs → joined_from MAX_LIMIT 0 nothing logs ≡ Ok (content_of (all_operations logs))
+may_be_taken logs may =
     let all : Content = content_of (all_operations logs) in
     are_joined MAX_LIMIT 0 nothing logs may.only (record { agreed = may.agreed; agree = agree_swap all nothing (agree_nothing all) }) (subst (λ d. known_count d ≤ MAX_LIMIT) (sym (nothing_join all)) may.few)
     ∙ ap Ok (nothing_join all)
+
+joined_may_be : (logs : List (List ℕ)) (c : Content) → join_of MAX_LIMIT logs ≡ Ok c → MayBeJoined logs × (c ≡ content_of (all_operations logs))
+joined_may_be logs c h =
+    let near = joined_near (joined_from MAX_LIMIT 0 nothing logs) c h in
+    let w = taken_may_be logs c near.0 in
+    (record { taken = w.0; near = subst (λ d. has_far_counter d ≡ false) w.1 near.1 }, w.1)
+
+may_be_joined : (logs : List (List ℕ)) → MayBeJoined logs → join_of MAX_LIMIT logs ≡ Ok (content_of (all_operations logs))
+may_be_joined logs may = ap unless_far (may_be_taken logs may.taken) ∙ near_joined (content_of (all_operations logs)) false may.near
 
 pub joined-iff : (logs : List (List ℕ)) (c : Content) → (join_of MAX_LIMIT logs ≡ Ok c) ↔ (MayBeJoined logs × (c ≡ content_of (all_operations logs)))
 joined-iff logs c = (joined_may_be logs c, λ (may, is). may_be_joined logs may ∙ ap Ok (sym is))
@@ -126,24 +137,30 @@ joined-iff logs c = (joined_may_be logs c, λ (may, is). may_be_joined logs may 
 same_operations : (xs ys : List (List ℕ)) → HasSameLogs xs ys → HasSameOperations (all_operations xs) (all_operations ys)
 same_operations xs ys same op = (all_within xs ys (λ log. (same log).0) op, all_within ys xs (λ log. (same log).1) op)
 
+same_content : (xs ys : List (List ℕ)) → HasSameLogs xs ys → MayBeTaken xs → content_of (all_operations xs) ≡ content_of (all_operations ys)
+same_content xs ys same may = same_operations_same_content (all_operations xs) (all_operations ys) may.agreed (same_operations xs ys same)
+
 same_may_be : (xs ys : List (List ℕ)) → HasSameLogs xs ys → MayBeJoined xs → MayBeJoined ys
 same_may_be xs ys same may =
     let ops = same_operations xs ys same in
+    let content = same_content xs ys same may.taken in
     record {
-      only = λ log m. may.only log ((same log).1 m);
-      agreed = λ id parent other ch char a b. may.agreed id parent other ch char ((ops _).1 a) ((ops _).1 b);
-      few = subst (λ c. known_count c ≤ MAX_LIMIT) (same_operations_same_content (all_operations xs) (all_operations ys) may.agreed ops) may.few;
+      taken = record {
+        only = λ log m. may.taken.only log ((same log).1 m);
+        agreed = λ id parent other ch char a b. may.taken.agreed id parent other ch char ((ops _).1 a) ((ops _).1 b);
+        few = subst (λ c. known_count c ≤ MAX_LIMIT) content may.taken.few;
+      };
+      near = subst (λ c. has_far_counter c ≡ false) content may.near;
     }
 
 pub same_joined : (xs ys : List (List ℕ)) (c : Content) → HasSameLogs xs ys → join_of MAX_LIMIT xs ≡ Ok c → join_of MAX_LIMIT ys ≡ Ok c
 same_joined xs ys c same h =
     let w = joined_may_be xs c h in
-    may_be_joined ys (same_may_be xs ys same w.0)
-    ∙ ap Ok (sym (w.1 ∙ same_operations_same_content (all_operations xs) (all_operations ys) w.0.agreed (same_operations xs ys same)))
+    may_be_joined ys (same_may_be xs ys same w.0) ∙ ap Ok (sym (w.1 ∙ same_content xs ys same w.0.taken))
 
-pub same_text : (xs ys : List (List ℕ)) → HasSameLogs xs ys → MayBeJoined xs → join_text xs ≡ join_text ys
+pub same_text : (xs ys : List (List ℕ)) → HasSameLogs xs ys → MayBeTaken xs → join_text xs ≡ join_text ys
 same_text xs ys same may =
-    let content = same_operations_same_content (all_operations xs) (all_operations ys) may.agreed (same_operations xs ys same) in
+    let content = same_content xs ys same may in
     let runs = both_ways (list_any has_deletion_runs xs) (list_any has_deletion_runs ys) (any_within has_deletion_runs xs ys (λ log. (same log).0)) (any_within has_deletion_runs ys xs (λ log. (same log).1)) in
     (λ k. compact_text (runs k) (content k))
 
@@ -185,13 +202,29 @@ joined_append limit n c d (first ∷ xs) ys h =
     ∙ joined_append limit (n + 1) w.0 d xs ys w.2
     ∙ ap (λ m. joined_from limit m d ys) k
 
-pub first_refused-iff : (limit n : ℕ) (c : Content) (logs : List (List ℕ)) (e : JoinFault) → (joined_from limit n c logs ≡ Err e) ↔ IsFirstRefused limit n c logs e
+first_refused-iff : (limit n : ℕ) (c : Content) (logs : List (List ℕ)) (e : JoinFault) → (joined_from limit n c logs ≡ Err e) ↔ IsFirstRefused limit n c logs e
 first_refused-iff limit n c logs e = (
   is_first_refused limit n c logs e,
   λ w. ap (joined_from limit n c) w.split
       ∙ joined_append limit n c w.content w.before (w.log ∷ w.later) w.joined
       ∙ ap (λ r. then_joined (n + length w.before) r (λ d. joined_from limit (n + length w.before + 1) d w.later)) w.refused
       ∙ ap Err (sym w.named),
+)
+
+-- logs that may be taken are refused if a counter is far
+are_far : (logs : List (List ℕ)) (e : JoinFault) → AreFar logs e → join_of MAX_LIMIT logs ≡ Err e
+are_far logs e w = ap unless_far (may_be_taken logs w.taken) ∙ near_joined (content_of (all_operations logs)) true w.far ∙ ap Err (sym w.named)
+
+pub refused-iff : (logs : List (List ℕ)) (e : JoinFault) → (join_of MAX_LIMIT logs ≡ Err e) ↔ (IsFirstRefused MAX_LIMIT 0 nothing logs e ⊎ AreFar logs e)
+refused-iff logs e = (
+  λ h. elim (refused_or_far (joined_from MAX_LIMIT 0 nothing logs) e h) [
+    | inl refused ↦ inl ((first_refused-iff MAX_LIMIT 0 nothing logs e).0 refused)
+    | inr far ↦ let w = taken_may_be logs far.content far.taken in inr (record { taken = w.0; far = subst (λ c. has_far_counter c ≡ true) w.1 far.far; named = far.named })
+  ],
+  λ h. elim h [
+    | inl first ↦ ap unless_far ((first_refused-iff MAX_LIMIT 0 nothing logs e).1 first)
+    | inr far ↦ are_far logs e far
+  ],
 )
 
 -- ---- a join in place of its logs
@@ -211,11 +244,17 @@ standing_is_accepted bytes d stands ended few =
     let read = log_without_fault MAX_LIMIT nothing bytes (record { lines = stands.lines; rest = inl ended }) (record { agreed = stands.agreed; agree = agree_swap own nothing (agree_nothing own) }) (subst (λ e. known_count e ≤ MAX_LIMIT) is few) in
     read_is_accepted MAX_LIMIT nothing (join nothing own) bytes read.0 read.1 read.2 ∙ ap Ok (sym is)
 
-pub join_in_place : (logs others : List (List ℕ)) (bytes : List ℕ) (c : Content) → MayBeJoined logs → StandsFor bytes (content_of (all_operations logs)) → rest_of bytes ≡ [] → (join_of MAX_LIMIT (bytes ∷ others) ≡ Ok c) ↔ (join_of MAX_LIMIT (logs ++ others) ≡ Ok c)
+-- outcomes that lead to the same contents do so if these are near
+same_unless_far : (r s : JoinOutcome) (c : Content) → (r ≡ Ok c → s ≡ Ok c) → unless_far r ≡ Ok c → unless_far s ≡ Ok c
+same_unless_far r s c same h = let w = joined_near r c h in ap unless_far (same w.0) ∙ near_joined c false w.1
+
+pub join_in_place : (logs others : List (List ℕ)) (bytes : List ℕ) (c : Content) → MayBeTaken logs → StandsFor bytes (content_of (all_operations logs)) → rest_of bytes ≡ [] → (join_of MAX_LIMIT (bytes ∷ others) ≡ Ok c) ↔ (join_of MAX_LIMIT (logs ++ others) ≡ Ok c)
 join_in_place logs others bytes c may stands ended =
     let all : Content = content_of (all_operations logs) in
-    let whole : join_of MAX_LIMIT (bytes ∷ others) ≡ joined_from MAX_LIMIT 1 all others = ap (λ r. then_joined 0 r (λ d. joined_from MAX_LIMIT 1 d others)) (standing_is_accepted bytes all stands ended may.few) in
-    let parts : join_of MAX_LIMIT (logs ++ others) ≡ joined_from MAX_LIMIT (0 + length logs) all others = joined_append MAX_LIMIT 0 nothing all logs others (may_be_joined logs may) in (
-      λ h. parts ∙ other_index MAX_LIMIT 1 (0 + length logs) all c others (sym whole ∙ h),
-      λ h. whole ∙ other_index MAX_LIMIT (0 + length logs) 1 all c others (sym parts ∙ h),
+    let one : JoinOutcome = joined_from MAX_LIMIT 0 nothing (bytes ∷ others) in
+    let each : JoinOutcome = joined_from MAX_LIMIT 0 nothing (logs ++ others) in
+    let whole : one ≡ joined_from MAX_LIMIT 1 all others = ap (λ r. then_joined 0 r (λ d. joined_from MAX_LIMIT 1 d others)) (standing_is_accepted bytes all stands ended may.few) in
+    let parts : each ≡ joined_from MAX_LIMIT (0 + length logs) all others = joined_append MAX_LIMIT 0 nothing all logs others (may_be_taken logs may) in (
+      same_unless_far one each c (λ h. parts ∙ other_index MAX_LIMIT 1 (0 + length logs) all c others (sym whole ∙ h)),
+      same_unless_far each one c (λ h. whole ∙ other_index MAX_LIMIT (0 + length logs) 1 all c others (sym parts ∙ h)),
     )

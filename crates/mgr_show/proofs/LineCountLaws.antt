@@ -12,8 +12,8 @@ use Rattle.rga_lines.proofs.StandLemmas.{nothing_says, nothing_stands}
 use Rattle.rga_exchange.specs.DeletionRuns.{is_deletion_run, have_deletion_runs}
 use Rattle.rga_exchange.proofs.LogLaws.{log_only_operations}
 use Rattle.rga_exchange.proofs.TakingLaws.{operations_of-append}
-use Rattle.rga_compaction.specs.Compacting.{compact_lines}
-use Rattle.rga_compaction.proofs.FewLinesLaws.{no_more_lines}
+use Rattle.rga_exchange.specs.Compacting.{compact_lines}
+use Rattle.rga_exchange.proofs.FewLinesLaws.{no_more_lines}
 use Rattle.mgr_show.specs.Shown.{IsAccepted, log_content}
 use Rattle.mgr_show.specs.Compacted.{compacted_lines, and_rest, log_lines}
 use Rattle.mgr_show.proofs.ShownLaws.{read_to_end}

@@ -7,7 +7,7 @@ use Rattle.rga_ops.proofs.TakenLaws.{taken_from_nothing, taken_list_agrees}
 use Rattle.rga_ops.specs.declared.refusal.Refusal.{Refusal}
 use Rattle.rga_store.specs.Kept.{Kept}
 use Rattle.rga_store.specs.declared.text_store.TheConstants.{MAX_LIMIT}
-use Rattle.rga_devices.specs.Counting.{Calls, Writes, WritesFront, WritesNothing}
+use Rattle.rga_exchange.specs.Counting.{Calls, Writes, WritesFront, WritesNothing}
 use Rattle.rga_lines.specs.Log.{log_operations}
 use Rattle.rga_lines.specs.Stream.{lines_of}
 use Rattle.rga_exchange.specs.declared.fault.LogFault.{LogFault}

@@ -1,9 +1,9 @@
 -- What `join_logs` makes of logs, and writes.
-use Rattle.std.specs.Prelude.{◌≡◌, ◌↔◌, ℕ, ◌+◌, ◌<◌, ◌≤◌, List, [], ◌∷◌, ◌++◌, length, Contains, Option, Some, None, IfSome, Result, Ok, Err, ⊤}
+use Rattle.std.specs.Prelude.{◌≡◌, ◌↔◌, ℕ, ◌+◌, ◌<◌, ◌≤◌, nat_lt, Bool, true, false, if◌then◌else◌, List, [], ◌∷◌, ◌++◌, length, Contains, Option, Some, None, IfSome, Result, Ok, Err, ⊤}
 use Rattle.std.specs.List.{flat_map, list_any}
-use Rattle.rga_ops.specs.Content.{Content, content_of, known_count, nothing, IsAgreed}
+use Rattle.rga_ops.specs.Content.{Content, clock_of, content_of, known_count, nothing, IsAgreed}
 use Rattle.rga_ops.specs.declared.op.Op.{Op}
-use Rattle.rga_devices.specs.Counting.{Calls, Writes, WritesFront}
+use Rattle.rga_exchange.specs.Counting.{Calls, Writes, WritesFront}
 use Rattle.rga_lines.specs.Log.{log_operations, HasOnlyOperations}
 use Rattle.rga_lines.specs.Stream.{rest_of}
 use Rattle.rga_store.specs.declared.text_store.TheConstants.{MAX_LIMIT}
@@ -11,7 +11,7 @@ use Rattle.rga_exchange.specs.DeletionRuns.{has_deletion_runs}
 use Rattle.rga_exchange.specs.Sending.{StandsFor}
 use Rattle.rga_exchange.specs.declared.fault.SendFault.{SendFault}
 use Rattle.rga_exchange.specs.declared.fault.SendFault.TheVariants as send
-use Rattle.rga_compaction.specs.Compacting.{compact_text}
+use Rattle.rga_exchange.specs.Compacting.{compact_text}
 use Rattle.mgr_show.specs.Log.{ShowOutcome, shown_from}
 use Rattle.mgr_show.specs.Shown.{IsOfInput}
 use Rattle.mgr_show.specs.Sources.{failures_after}
@@ -35,9 +35,20 @@ all_told contents (name ∷ names) = in_front (contents name) (all_told contents
 abbrev pub OnLogs : (List ℕ → Option (List ℕ)) → List (List ℕ) → (List (List ℕ) → Type 0) → Type 0
 OnLogs contents names P = IfSome (all_told contents names) P
 
+-- ---- counters
+
+-- a content has a counter of more than 2^32 above a clock
+abbrev pub is_far : ℕ → Content → Bool
+is_far clock c = nat_lt (clock + 4294967296) (clock_of c)
+
+-- Above the number of identifiers that it knows. A new counter is one above the greatest that its writer knew: so no counter
+-- is above that number, if nothing is missing.
+abbrev pub has_far_counter : Content → Bool
+has_far_counter c = is_far (known_count c) c
+
 -- ---- what logs lead to
 
--- the content of all logs, or which one is refused first, and why
+-- the content of all logs, or why they are not joined
 abbrev pub JoinOutcome : Type 0
 JoinOutcome = Result Content JoinFault
 
@@ -50,9 +61,14 @@ abbrev pub joined_from : ℕ → ℕ → Content → List (List ℕ) → JoinOut
 joined_from limit n c [] = Ok c
 joined_from limit n c (bytes ∷ logs) = then_joined n (shown_from limit c bytes) (λ d. joined_from limit (n + 1) d logs)
 
+-- what was taken, unless a counter of it is far
+abbrev pub unless_far : JoinOutcome → JoinOutcome
+unless_far (Ok c) = if has_far_counter c then Err join.Far else Ok c
+unless_far (Err e) = Err e
+
 -- all logs
 abbrev pub join_of : ℕ → List (List ℕ) → JoinOutcome
-join_of limit logs = joined_from limit 0 nothing logs
+join_of limit logs = unless_far (joined_from limit 0 nothing logs)
 
 -- the operations of all logs
 abbrev pub all_operations : List (List ℕ) → List Op
@@ -73,9 +89,10 @@ abbrev pub join_fault : SendFault → JoinFault
 join_fault send.Write = join.Write
 join_fault send.Memory = join.Memory
 
--- faults that the bytes of one log decide
+-- faults that the bytes of logs decide
 abbrev pub IsOfLog : JoinFault → Type 0
 IsOfLog (join.Log n e) = IsOfInput e
+IsOfLog join.Far = ⊤
 IsOfLog join.Write = ⊥
 IsOfLog join.Memory = ⊥
 
@@ -91,6 +108,7 @@ IsOfFile fault.Memory = ⊥
 -- a log that is named is one of so many, and the fault is its own
 abbrev pub NamesOneOf : ℕ → JoinFault → Type 0
 NamesOneOf count (join.Log n e) = (n < count) × IsOfFile e
+NamesOneOf count join.Far = ⊤
 NamesOneOf count join.Write = ⊤
 NamesOneOf count join.Memory = ⊤
 
@@ -98,6 +116,7 @@ NamesOneOf count join.Memory = ⊤
 abbrev pub reads_failed : {A : Type 0} → Result A JoinFault → ℕ → ℕ
 reads_failed (Ok a) n = n
 reads_failed (Err (join.Log index e)) n = failures_after {A = Unit {0}} (Err e) n
+reads_failed (Err join.Far) n = n
 reads_failed (Err join.Write) n = n
 reads_failed (Err join.Memory) n = n
 
@@ -128,10 +147,15 @@ module _ {W : Type 0} (contents : W → Option (List ℕ)) (old new : Calls W) w
 -- ---- in words
 
 -- Each log has only operations, all agree with one another, and together they know no more identifiers than the limit.
-pub record MayBeJoined (logs : List (List ℕ)) : Type 0 where
+pub record MayBeTaken (logs : List (List ℕ)) : Type 0 where
   pub only : (log : List ℕ) → Contains logs log → HasOnlyOperations log
   pub agreed : IsAgreed (all_operations logs)
   pub few : known_count (content_of (all_operations logs)) ≤ MAX_LIMIT
+
+-- And no counter is far above how many they know.
+pub record MayBeJoined (logs : List (List ℕ)) : Type 0 where
+  pub taken : MayBeTaken logs
+  pub near : has_far_counter (content_of (all_operations logs)) ≡ false
 
 -- the same logs, in any order and with any repeats
 abbrev pub HasSameLogs : List (List ℕ) → List (List ℕ) → Type 0
@@ -149,3 +173,9 @@ pub record IsFirstRefused (limit n : ℕ) (c : Content) (logs : List (List ℕ))
   pub why : ShowFault
   pub refused : shown_from limit content log ≡ Err why
   pub named : e ≡ join.Log (n + length before) why
+
+-- All logs may be taken, and a counter is far above how many identifiers they know. None is named.
+pub record AreFar (logs : List (List ℕ)) (e : JoinFault) : Type 0 where
+  pub taken : MayBeTaken logs
+  pub far : has_far_counter (content_of (all_operations logs)) ≡ true
+  pub named : e ≡ join.Far

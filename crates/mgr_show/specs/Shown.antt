@@ -3,7 +3,7 @@ use Rattle.std.specs.Prelude.{◌≡◌, ℕ, List, Option, Ok, ⊤, encode_utf8
 use Rattle.rga_ops.specs.Prelude.{Content, content_of, text}
 use Rattle.rga_ops.specs.Content.{IsAgreed}
 use Rattle.rga_lines.specs.Log.{log_operations}
-use Rattle.rga_devices.specs.Counting.{Calls, Writes, WritesFront}
+use Rattle.rga_exchange.specs.Counting.{Calls, Writes, WritesFront}
 use Rattle.rga_store.specs.declared.text_store.TheConstants.{MAX_LIMIT}
 use Rattle.mgr_show.specs.declared.fault.ShowFault.{ShowFault}
 use Rattle.mgr_show.specs.declared.fault.ShowFault.TheVariants as fault

@@ -1,6 +1,6 @@
 -- What is told of files that are read.
 use Rattle.std.specs.Prelude.{ℕ, Result, Ok, Err}
-use Rattle.rga_devices.specs.Counting.{one_more}
+use Rattle.rga_exchange.specs.Counting.{one_more}
 use Rattle.mgr_show.specs.declared.fault.ShowFault.{ShowFault}
 use Rattle.mgr_show.specs.declared.fault.ShowFault.TheVariants as fault
 

@@ -2,21 +2,19 @@
 ghost use Rattle.std.specs.Prelude.{◌≡◌, ◌≢◌, ◌⊎◌, [], true, Ok, Err, OnOk, OnErr, IfErr};
 ghost use Rattle.rga_ops.specs.Prelude.{Content, nothing};
 ghost use Rattle.rga_store.specs.declared.text_store.TheConstants.{MAX_LIMIT};
-ghost use Rattle.rga_devices.specs.Counting.{CountsAs, OnBytes, Writes, WritesFront, WritesNothing};
+ghost use Rattle.rga_exchange.specs.Counting.{CountsAs, OnBytes, Writes, WritesFront, WritesNothing};
 ghost use Rattle.rga_lines.specs.Stream.{rest_of};
 ghost use Rattle.rga_exchange.specs.Sending.{StandsFor};
 ghost use Rattle.rga_exchange.specs.Taking.{content_intake, HasTakenWholeLines};
 ghost use Rattle.rga_exchange.specs.declared.taking.Form.TheVariants.{Log};
-ghost use Rattle.rga_compaction.specs.Compacting.{compact_text};
+ghost use Rattle.rga_exchange.specs.Compacting.{compact_text};
 ghost use Rattle.mgr_show.specs.Log.{log_of};
 ghost use Rattle.mgr_show.specs.Shown.{IsOfInput};
 ghost use Rattle.mgr_show.specs.Compacted.{Compacts, BeginsToCompact};
 
 use crate::fault::ShowFault;
 use crate::show::take_whole_log;
-use rga_compaction::compact_ops;
-use rga_devices::Counted;
-use rga_exchange::SendFault;
+use rga_exchange::{Counted, SendFault, compact_ops};
 use rga_records::Records;
 use rga_store::MAX_LIMIT;
 use std::alloc::Global;

@@ -55,6 +55,8 @@ impl From<SendFault> for ShowFault {
 pub enum JoinFault {
     /// The log with this index, from 0, is refused or can't be read: never `Write` or `Memory`.
     Log(usize, ShowFault),
+    /// All logs were taken, and a counter is far above the number of identifiers that they know.
+    Far,
     /// The device of the output failed.
     Write,
     /// A growth of memory was refused.

@@ -2,32 +2,37 @@
 ghost use Rattle.std.specs.Prelude.{◌≡◌, ◌≢◌, ◌⊎◌, ◌||◌, ℕ, List, [], length, map, string_bytes, true, Ok, Err, OnOk, OnErr, IfErr, IfSome};
 ghost use Rattle.std.specs.List.{list_any};
 ghost use Rattle.rga_store.specs.declared.text_store.TheConstants.{MAX_LIMIT};
-ghost use Rattle.rga_devices.specs.Counting.{CountsAs, WritesNothing};
+ghost use Rattle.rga_exchange.specs.Counting.{CountsAs, WritesNothing};
 ghost use Rattle.rga_exchange.specs.DeletionRuns.{has_deletion_runs};
 ghost use Rattle.rga_exchange.specs.Taking.{intake};
 ghost use Rattle.mgr_show.specs.Log.{HasFollowed, shown_from};
 ghost use Rattle.mgr_show.specs.Shown.{IsOfInput};
 ghost use Rattle.mgr_show.specs.Sources.{failures_after};
-ghost use Rattle.mgr_show.specs.Joined.{joined_from, join_of, reads_failed, OnLogs, IsOfLog, NamesOneOf, Joins, BeginsToJoin};
+ghost use Rattle.mgr_show.specs.Joined.{has_far_counter, joined_from, join_of, reads_failed, OnLogs, IsOfLog, NamesOneOf, Joins, BeginsToJoin};
 
 use crate::compact::compact_records;
 use crate::fault::{JoinFault, ShowFault};
 use crate::show::take_whole_log;
 use crate::sources::Sources;
-use rga_devices::Counted;
+use rga_exchange::Counted;
 use rga_records::Records;
 use rga_store::{MAX_LIMIT, Taker};
 use std::alloc::Global;
 use std::io::Write;
+
+/// By how much a counter may be above the number of identifiers: who takes one that is far above
+/// can make few operations more.
+const NEAR: u64 = 4294967296;
 
 /// Reads logs by their names, and writes their join in as few lines as runs allow, and nothing
 /// else: a log that stands for the content of all their operations. Deletions are in runs if one of
 /// the logs has a run of them. A last line without newline counts if it is an operation.
 ///
 /// `Log` with `Line`, `Refused` or `Torn` is the first fault in the order of the names, and there
-/// in that of the lines. `Log` with `Read` comes if a log can't be read. Nothing is written before
-/// all logs were taken. If `Write` or `Memory` comes after that, a beginning of the lines was
-/// written.
+/// in that of the lines. `Log` with `Read` comes if a log can't be read. `Far` comes if all logs
+/// were taken, and a counter is more than 2^32 above the number of identifiers that they know.
+/// Nothing is written before that. If `Write` or `Memory` comes after it, a beginning of the lines
+/// was written.
 pub fn join_logs<S: Sources, W: Write>(
     alloc: Global,
     sources: &mut S,
@@ -57,8 +62,23 @@ pub fn join_logs<S: Sources, W: Write>(
     };
     let mut deletion_runs = false;
     take_logs(alloc, sources, names, &mut records, &mut deletion_runs)?;
+    if is_far(&records) {
+        return Err(JoinFault::Far);
+    }
     compact_records(alloc, &records, deletion_runs, writer)?;
     Ok(())
+}
+
+/// Whether records have a counter far above the number of identifiers that they know.
+fn is_far(records: &Records) -> bool
+    ensures { result ≡ has_far_counter records.now.content }
+{
+    let known = records.known() as u64;
+    let clock = records.clock();
+    if clock <= known {
+        return false;
+    }
+    clock - known > NEAR
 }
 
 /// Takes the operations of the logs of the names. `deletion_runs` becomes true if one of them has a

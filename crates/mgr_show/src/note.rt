@@ -1,7 +1,7 @@
 //! The text of a note, by its log.
 ghost use Rattle.std.specs.Prelude.{◌≡◌, ◌≢◌, ◌⊎◌, ℕ, ◌<◌, ◌^◌, List, true, Ok, Err, OnOk, OnErr, IfOk, IfErr, IfSome, string_bytes};
 ghost use Rattle.rga_store.specs.declared.text_store.TheConstants.{MAX_LIMIT};
-ghost use Rattle.rga_devices.specs.Counting.{CountsAs, Writes, WritesFront, WritesNothing};
+ghost use Rattle.rga_exchange.specs.Counting.{CountsAs, Writes, WritesFront, WritesNothing};
 ghost use Rattle.rga_exchange.specs.Log.{log_outcome};
 ghost use Rattle.rga_exchange.specs.Taking.{intake};
 ghost use Rattle.mgr_show.specs.Log.{HasFollowed};
@@ -13,8 +13,7 @@ use crate::fault::ShowFault;
 use crate::show::write_text;
 use crate::sources::Sources;
 use crate::text::text_string;
-use rga_devices::Counted;
-use rga_exchange::{LogFault, LogRead, take_log};
+use rga_exchange::{Counted, LogFault, LogRead, take_log};
 use rga_records::Records;
 use rga_store::{MAX_LIMIT, Taker};
 use std::alloc::{AllocError, Global};

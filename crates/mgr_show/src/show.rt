@@ -3,7 +3,7 @@ ghost use Rattle.std.specs.Prelude.{◌≡◌, ◌≢◌, ◌⊎◌, ◌||◌, t
 ghost use Rattle.std.specs.Prelude.{string_bytes};
 ghost use Rattle.rga_ops.specs.Prelude.{Content, nothing};
 ghost use Rattle.rga_store.specs.declared.text_store.TheConstants.{MAX_LIMIT};
-ghost use Rattle.rga_devices.specs.Counting.{CountsAs, OnBytes, Writes, WritesFront, WritesNothing};
+ghost use Rattle.rga_exchange.specs.Counting.{CountsAs, OnBytes, Writes, WritesFront, WritesNothing};
 ghost use Rattle.rga_exchange.specs.DeletionRuns.{has_deletion_runs};
 ghost use Rattle.rga_exchange.specs.Taking.{intake, content_intake, HasTakenWholeLines};
 ghost use Rattle.rga_exchange.specs.declared.taking.Form.TheVariants.{Log};
@@ -12,8 +12,7 @@ ghost use Rattle.mgr_show.specs.Shown.{IsOfInput, IsTextOf, ShowsLog, BeginsToSh
 
 use crate::fault::ShowFault;
 use crate::text::text_string;
-use rga_devices::Counted;
-use rga_exchange::{LogEnd, take_log};
+use rga_exchange::{Counted, LogEnd, take_log};
 use rga_records::Records;
 use rga_store::{MAX_LIMIT, Taker};
 use std::alloc::Global;

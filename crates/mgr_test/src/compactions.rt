@@ -1,11 +1,9 @@
 //! Stores and logs that are compacted, to devices that fail, and logs that are written anew by a
 //! disk of which a step fails.
 use crate::sending::{device, is_filled};
-use mgr_compact::compact_note;
+use mgr_mend::compact_note;
 use mgr_show::{ShowFault, compact_log};
-use rga_compaction::compact;
-use rga_devices::Counted;
-use rga_exchange::SendFault;
+use rga_exchange::{Counted, SendFault, compact};
 use rga_ops::Refusal;
 use rga_store::TextStore;
 use rga_tree::TreeStore;

@@ -1,6 +1,5 @@
 //! Exchanges that a device cuts off, and received again from the start.
-use rga_devices::{Counted, Fuse};
-use rga_exchange::{ReceiveFault, receive};
+use rga_exchange::{Counted, Fuse, ReceiveFault, receive};
 use rga_store::TextStore;
 use rga_tree::TreeStore;
 use std::alloc::Global;

@@ -1,5 +1,5 @@
 //! Devices whose calls are counted.
-use rga_devices::Counted;
+use rga_exchange::Counted;
 use std::alloc::Global;
 use std::io;
 use std::io::{ErrorKind, Read, Write};

@@ -1,6 +1,6 @@
 //! Logs that are read by their names: joined, and shown.
 use mgr_show::{JoinFault, ShowFault, join_logs, show_note};
-use rga_devices::Counted;
+use rga_exchange::Counted;
 use rga_ops::{Id, Refusal};
 use std::alloc::{AllocError, Global};
 use test_ports::MemorySources;

@@ -1,6 +1,5 @@
 //! Runs of insertions, which a store that is nearly full takes whole or not at all.
-use rga_devices::Counted;
-use rga_exchange::read_log;
+use rga_exchange::{Counted, read_log};
 use rga_store::{Taker, TextStore};
 use rga_tree::TreeStore;
 use std::alloc::Global;

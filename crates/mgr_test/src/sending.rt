@@ -1,6 +1,5 @@
 //! Lines that are appended, to devices that count their writes, take a part of the bytes, or fail.
-use rga_devices::Counted;
-use rga_exchange::{SendFault, append_log};
+use rga_exchange::{Counted, SendFault, append_log};
 use rga_lines::{LineFault, write_line};
 use rga_ops::{Op, Refusal};
 use std::alloc::Global;

@@ -1,8 +1,8 @@
 //! Frames that are not flushed.
 use crate::sending::device;
+use mg_screen::{Settings, Values};
 use mg_session::{SessionFault, run_keys};
-use mg_settings::{Settings, Values};
-use rga_devices::Counted;
+use rga_exchange::Counted;
 use rga_tree::TreeStore;
 use std::alloc::{AllocError, Global};
 use test_fixtures::Narrow;

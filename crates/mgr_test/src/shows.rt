@@ -1,7 +1,7 @@
 //! A text that is written, and not flushed.
 use crate::sending::device;
 use mgr_show::{ShowFault, show_ops};
-use rga_devices::Counted;
+use rga_exchange::Counted;
 use std::alloc::Global;
 
 /// Two insertions.

@@ -4,7 +4,7 @@ use Rattle.std.specs.Prelude.{Option, Result, Err}
 use Rattle.std.specs.Io.KnownBytes.{Consumes, IsAtEnd}
 use Rattle.std.proofs.KnownBytes.{Consumes-nil, Consumes-trans, Consumes-whole}
 use Rattle.std.proofs.lemmas.Bool.{lt-ltb, le-ltb}
-use Rattle.rga_devices.specs.Counting.{Calls, OnBytes}
+use Rattle.rga_exchange.specs.Counting.{Calls, OnBytes}
 use Rattle.rga_lines.specs.Stream.{BeginsLong, Splitting, lines_of}
 use Rattle.rga_lines.specs.LineConstants.{MAX_LINE}
 use Rattle.rga_lines.specs.LineFault.{LineFault}

@@ -20,7 +20,7 @@ use Rattle.serde_json.specs.Written.{compact_text, outline}
 use Rattle.serde_json.proofs.Numbers.{number_of-decimal}
 use Rattle.serde_json.proofs.Texts.{print-outline}
 use Rattle.rga_ops.specs.Content.{Content}
-use Rattle.rga_devices.specs.Counting.{Calls, Writes, WritesFront}
+use Rattle.rga_exchange.specs.Counting.{Calls, Writes, WritesFront}
 use Rattle.rga_lines.specs.Spelling.{end_line}
 use Rattle.rga_lines.specs.Stream.{HasNoNewline, lines_of, rest_of}
 use Rattle.rga_lines.specs.LineConstants.{MAX_LINE}

@@ -1,7 +1,7 @@
 -- What was read of a peer's claims, and what it led to.
 use Rattle.std.specs.Prelude.{◌≡◌, ℕ, ◌≤◌, List, ◌++◌, length, Option, Err}
 use Rattle.std.specs.Io.KnownBytes.{Consumes}
-use Rattle.rga_devices.specs.Counting.{Calls}
+use Rattle.rga_exchange.specs.Counting.{Calls}
 use Rattle.rga_exchange.specs.declared.fault.ReceiveFault.TheVariants.{Cut}
 use Rattle.rga_brief.specs.declared.claim.Claim.{Claim}
 use Rattle.rga_exchange.specs.declared.block.TheConstants.{BLOCK}

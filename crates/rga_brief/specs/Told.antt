@@ -1,7 +1,7 @@
 -- How a summary is told, and what it is told for.
 use Rattle.std.specs.Prelude.{◌≡◌, ◌≢◌, ℕ, ◌+◌, ◌<◌, ◌≤◌, ◌==◌, nat_lt, List, [], ◌∷◌, ◌++◌, map, length, Option, Result, Ok, Err, if◌then◌else◌}
 use Rattle.rga_ops.specs.Content.{Content}
-use Rattle.rga_devices.specs.Counting.{Calls, Writes}
+use Rattle.rga_exchange.specs.Counting.{Calls, Writes}
 use Rattle.rga_lines.specs.Spelling.{end_line}
 use Rattle.rga_lines.specs.Stream.{bytes_of_lines, lines_of, rest_of}
 use Rattle.rga_lines.specs.LineConstants.{MAX_LINE}

@@ -1,6 +1,6 @@
 //! What a peer knows, heard of it.
 ghost use Rattle.std.specs.Prelude.{◌≡◌, ◌≢◌, ◌+◌, ◌≤◌, ◌++◌, ◌∷◌, ℕ, List, [], length, false, Ok, Err, Some, None, OnOk, IfErr};
-ghost use Rattle.rga_devices.specs.Counting.{CountsAs, OnBytes};
+ghost use Rattle.rga_exchange.specs.Counting.{CountsAs, OnBytes};
 ghost use Rattle.rga_lines.specs.Stream.{lines_of};
 ghost use Rattle.rga_lines.specs.LineFault.{LineFault as FaultOfLine};
 ghost use Rattle.rga_lines.specs.LineConstants.{MAX_LINE};
@@ -14,9 +14,8 @@ ghost use Rattle.rga_brief.specs.declared.claim_line.ClaimLine.TheVariants.{One,
 use crate::claim::Claim;
 use crate::claim_line::{ClaimLine, read_claim_line};
 use crate::claims::summary_from;
-use rga_devices::Counted;
 use rga_digest::Summary;
-use rga_exchange::{BLOCK, ReceiveFault};
+use rga_exchange::{BLOCK, Counted, ReceiveFault};
 use rga_lines::{LineFault, Splitter};
 use std::alloc::Global;
 use std::io::Read;

@@ -22,8 +22,8 @@ use Rattle.rga_ops.specs.declared.op.Op.TheVariants.{Insert, Delete}
 use Rattle.rga_ops.specs.declared.refusal.Refusal.TheVariants.{Full, Range}
 use Rattle.rga_ops.proofs.AnswerLaws.{passed, bad}
 use Rattle.rga_doc.specs.LocalEdit.{left_of, chain, splice_operations, splices_operations, draft_operations, room_answer, place_answer, counter_answer, edit_answer, splice_answer, splices_answer, new_ids, put_row_behind, order_after}
-use Rattle.rga_characters.proofs.FallingLaws.{falls_first}
-use Rattle.rga_characters.proofs.SplicedLists.{cut, length-cut, same_begin}
+use Rattle.rga_doc.proofs.FallingLaws.{falls_first}
+use Rattle.rga_doc.proofs.SplicedCharacters.{cut, length-cut, same_begin}
 use Rattle.rga_doc.proofs.SplicedLists.{get_at_drop, same_left, put_no_row, put_row_on}
 use Rattle.rga_doc.proofs.EditSteps.{Leads, leads_nowhere, leads_on, Shows, shows_itself, shows_on, shows_begin, shows_long, deletion_leads, deletion_shows, IsLeft, left_is, newer, insertion_leads, insertion_visible, insertion_shows, not_in_order}
 

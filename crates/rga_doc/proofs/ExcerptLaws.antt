@@ -14,12 +14,12 @@ use Rattle.rga_ops.specs.declared.op.Op.TheVariants.{Delete}
 use Rattle.rga_ops.proofs.VisibleLaws.{text_long}
 use Rattle.rga_doc.specs.Excerpt.{Excerpted, excerpt, begin_of}
 use Rattle.rga_doc.specs.LocalEdit.{left_of, chain, splice_operations_at, draft_operations, splice_operations, splices_operations, splices_answer}
-use Rattle.rga_characters.proofs.SplicedLists.{part}
+use Rattle.rga_doc.proofs.SplicedCharacters.{part}
 use Rattle.rga_doc.proofs.SplicedLists.{same_drop_left, left_of-take}
 use Rattle.rga_doc.proofs.EditLaws.{allowed}
-use Rattle.rga_characters.proofs.FallingLaws.{falls_first}
+use Rattle.rga_doc.proofs.FallingLaws.{falls_first}
 use Rattle.rga_doc.proofs.EditAnswers.{splice_made, splices_made}
-use Rattle.rga_characters.proofs.AnewLaws.{falling_end, falling_to_end}
+use Rattle.rga_doc.proofs.AnewLaws.{falling_end, falling_to_end}
 
 -- ---- where falling splices begin
 

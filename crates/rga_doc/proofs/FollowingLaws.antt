@@ -15,7 +15,7 @@ use Rattle.rga_ops.proofs.IdentifierLaws.{is}
 use Rattle.rga_ops.proofs.VisibleLaws.{text_long, visible_elements}
 use Rattle.rga_ops.proofs.PlaceLaws.{index_in, text-insertion_at, absent_if_new, text-insertion_hidden, visible-deletion_cut, text-deletion_cut, text-deletion_hidden}
 use Rattle.rga_doc.specs.Relisting.{DeletesAt, IsTextBefore}
-use Rattle.rga_characters.proofs.SplicedLists.{length-spliced}
+use Rattle.rga_doc.proofs.SplicedCharacters.{length-spliced}
 
 -- as many are visible as before where they are as many as are listed
 as_many_before : (c : Content) (op : Op) (at : Option ℕ) (characters : List ℕ) (b : IsTextBefore c op at characters) → length (visible c) ≡ length characters → length (visible (join b.before (single op))) ≡ length (visible b.before)

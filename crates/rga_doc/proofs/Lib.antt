@@ -1,3 +1,8 @@
+pub mod SplicedCharacters
+pub mod FallingLaws
+pub mod CharacterLaws
+pub mod ShiftLaws
+pub mod AnewLaws
 pub mod SplicedLists
 pub mod EditSteps
 pub mod EditLaws

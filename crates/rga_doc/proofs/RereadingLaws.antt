@@ -31,7 +31,7 @@ use Rattle.rga_ops.proofs.SpliceLaws.{same_characters}
 use Rattle.rga_doc.specs.Relisting.{StandsBetween, AllBetween, AgreeOutside}
 use Rattle.rga_doc.specs.Revert.{distinct_elements, restorations, revert_operations, revert_answer, put_back}
 use Rattle.rga_doc.specs.UndoGroup.{inserted_elements}
-use Rattle.rga_characters.proofs.SplicedLists.{cut}
+use Rattle.rga_doc.proofs.SplicedCharacters.{cut}
 use Rattle.rga_doc.proofs.RevertLaws.{all_once, all_that_pass, revert_order}
 use Rattle.rga_doc.proofs.UndoLists.{AreNewer, not_among_newer, newer_still, deleted_elements-append, deleted_elements-deletions, deleted_elements-restorations, contains-operations}
 

@@ -13,7 +13,7 @@ use Rattle.rga_ops.proofs.VisibleLaws.{text_long}
 use Rattle.rga_doc.specs.LocalEdit.{splice_operations, splices_operations, splices_answer, new_ids, elements_after}
 use Rattle.rga_doc.proofs.EditSteps.{shows_long}
 use Rattle.rga_doc.proofs.EditLaws.{allowed, splices_at}
-use Rattle.rga_characters.proofs.FallingLaws.{falls_first}
+use Rattle.rga_doc.proofs.FallingLaws.{falls_first}
 
 -- ---- several splices in turn
 

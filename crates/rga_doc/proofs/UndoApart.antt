@@ -18,9 +18,9 @@ use Rattle.rga_ops.proofs.VisibleLaws.{visible_distinct}
 use Rattle.rga_doc.specs.LocalEdit.{chain, splices_operations, draft_operations, splices_answer, left_of}
 use Rattle.rga_doc.specs.Revert.{are_restorable, revert_operations}
 use Rattle.rga_doc.specs.UndoGroup.{inserted_elements, deleted_elements, element_characters}
-use Rattle.rga_characters.proofs.SplicedLists.{part}
+use Rattle.rga_doc.proofs.SplicedCharacters.{part}
 use Rattle.rga_doc.proofs.EditLaws.{allowed, splices_drafted}
-use Rattle.rga_characters.proofs.FallingLaws.{falls_first}
+use Rattle.rga_doc.proofs.FallingLaws.{falls_first}
 use Rattle.rga_doc.proofs.UndoLists.{all_take, all_drop, deleted_elements-append, deleted_elements-deletions, deleted_elements-chain}
 use Rattle.rga_doc.proofs.RevertLaws.{AreComplete}
 use Rattle.rga_doc.proofs.PlaceLaws.{complete_still}

@@ -33,7 +33,7 @@ use Rattle.rga_doc.specs.Revert.{distinct_elements, restorations, revert_operati
 use Rattle.rga_doc.specs.UndoGroup.{inserted_elements, deleted_elements, element_characters}
 use Rattle.rga_doc.proofs.EditSteps.{shows_long}
 use Rattle.rga_doc.proofs.EditLaws.{allowed, splices_at, splices_drafted}
-use Rattle.rga_characters.proofs.FallingLaws.{falls_first}
+use Rattle.rga_doc.proofs.FallingLaws.{falls_first}
 use Rattle.rga_doc.proofs.RevertSets.{among, AreApart, not_among, apart_if_restorable, elements_of}
 use Rattle.rga_doc.proofs.RevertLaws.{AreComplete, restoration_leads, newest, Removes, removes, all_once, gone_complete, back_complete, complete_by_order}
 use Rattle.rga_doc.proofs.UndoLists.{Reading, reads_same, reads_behind, moved, reads_moved, apart_by_counter, AreNewer, not_among_newer, newer_still, new_ids-newer, inserted_elements-append, deleted_elements-append, inserted_elements-deletions, deleted_elements-deletions, inserted_elements-chain, deleted_elements-chain, contains-operations, get-operations_absent, all_take, all_drop, once_has, deleted_elements-restorations}

@@ -4,7 +4,7 @@ ghost use Rattle.rga_ops.specs.Order.{text};
 ghost use Rattle.rga_ops.specs.Splice.{spliced, text_after, are_falling, new_characters};
 ghost use Rattle.rga_doc.specs.Listing.{IsListing};
 
-use rga_characters::Characters;
+use crate::Characters;
 use rga_ops::{Refusal, Splice};
 use rga_store::TextStore;
 use std::alloc::Global;

@@ -1,7 +1,7 @@
 -- A text that is written part by part.
 use Rattle.std.proofs.Common.{ℕ, List, ◌++◌, Option, sym, ap, ◌∙◌, append_assoc}
-use Rattle.rga_devices.specs.Counting.{Calls, Writes, WritesFront, WritesAllBut}
-use Rattle.rga_devices.proofs.WrittenLemmas.{Appends-then}
+use Rattle.rga_exchange.specs.Counting.{Calls, Writes, WritesFront, WritesAllBut}
+use Rattle.rga_exchange.proofs.WrittenLemmas.{Appends-then}
 
 module _ {W : Type 0} (contents : W → Option (List ℕ)) where
   -- of what was left a first part was taken, all but some bytes

@@ -1,7 +1,7 @@
 -- A block of which a front is written, and the rest kept.
 use Rattle.std.proofs.Common.{◌≡◌, ℕ, ◌+◌, List, ◌++◌, take, drop, Option, ap, ◌∙◌, sym, subst}
 use Rattle.std.proofs.Math.Seq.{take-add}
-use Rattle.rga_devices.specs.Counting.{Calls, Writes, WritesFront, WritesAllBut}
+use Rattle.rga_exchange.specs.Counting.{Calls, Writes, WritesFront, WritesAllBut}
 use Rattle.rga_exchange.proofs.BegunLemmas.{front_longer}
 
 module _ {W : Type 0} (contents : W → Option (List ℕ)) where

@@ -7,11 +7,11 @@ use Rattle.rga_ops.specs.Content.{Content, join, content_of}
 use Rattle.rga_ops.specs.ListAnswer.{AreWellFormed}
 use Rattle.rga_ops.specs.declared.op.Op.{Op}
 use Rattle.rga_ops.proofs.OperationLaws.{Contains-nil}
-use Rattle.rga_devices.specs.Counting.{Calls, WritesFront, WritesAllBut}
+use Rattle.rga_exchange.specs.Counting.{Calls, WritesFront, WritesAllBut}
 use Rattle.rga_lines.specs.Log.{log_operations}
 use Rattle.rga_lines.specs.Spelling.{line}
 use Rattle.rga_lines.specs.Stream.{newline, bytes_of_lines}
-use Rattle.rga_devices.proofs.WrittenLemmas.{front_none}
+use Rattle.rga_exchange.proofs.WrittenLemmas.{front_none}
 use Rattle.rga_exchange.specs.Sending.{log_text, AreWritable, StandsFor, GainsFirst, AppendsFirst, WritesFirst}
 use Rattle.rga_exchange.proofs.BegunLemmas.{begun_left}
 use Rattle.rga_exchange.proofs.WritableLaws.{AreWritableUpTo}

@@ -1,3 +1,9 @@
+pub mod CompactLaws
+pub mod GoingOnLemmas
+pub mod TurnLaws
+pub mod FindingLaws
+pub mod FewLinesLaws
+pub mod WrittenLemmas
 pub mod HeadLaws
 pub mod TakingLaws
 pub mod ReadLaws

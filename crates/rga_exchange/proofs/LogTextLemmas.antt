@@ -5,7 +5,7 @@ use Rattle.std.proofs.lemmas.List.Concat.{flat_map-append}
 use Rattle.rga_ops.specs.declared.op.Op.{Op}
 use Rattle.rga_lines.specs.Spelling.{line, head_line, end_line}
 use Rattle.rga_lines.specs.Stream.{newline}
-use Rattle.rga_devices.specs.Counting.{Calls, WritesFront, WritesAllBut}
+use Rattle.rga_exchange.specs.Counting.{Calls, WritesFront, WritesAllBut}
 use Rattle.rga_exchange.specs.Sending.{log_text, exchange_text}
 use Rattle.rga_exchange.proofs.BegunLemmas.{begun_next, begun_longer, front_longer}
 

@@ -6,7 +6,7 @@ use Rattle.std.specs.Io.KnownBytes.{Consumes, Keeps, IsAtEnd}
 use Rattle.std.proofs.KnownBytes.{Consumes-nil, Consumes-trans, Consumes-kept, Consumes-whole}
 use Rattle.rga_ops.specs.Content.{Content}
 use Rattle.rga_ops.specs.declared.op.Op.{Op}
-use Rattle.rga_devices.specs.Counting.{Calls, OnBytes}
+use Rattle.rga_exchange.specs.Counting.{Calls, OnBytes}
 use Rattle.rga_lines.specs.Log.{operations_of, IsOperation}
 use Rattle.rga_lines.specs.Stream.{lines_of, rest_of}
 use Rattle.rga_lines.specs.LineConstants.{MAX_LINE}

@@ -16,7 +16,7 @@ use Rattle.rga_ops.proofs.AnswerLaws.{well_formed_insertion}
 use Rattle.rga_ops.proofs.IdentifierLaws.{is_id-is}
 use Rattle.rga_ops.proofs.OperationLaws.{Contains-first}
 use Rattle.rga_lines.specs.RunConstants.{MAX_RUN}
-use Rattle.rga_devices.specs.Counting.{Calls, WritesFront, WritesAllBut}
+use Rattle.rga_exchange.specs.Counting.{Calls, WritesFront, WritesAllBut}
 use Rattle.rga_lines.specs.Runs.{stretch, next, run_operations}
 use Rattle.rga_lines.specs.Spelling.{IsWritable, IsWritableRun}
 use Rattle.rga_lines.specs.Stream.{newline, bytes_of_lines, rest_of}

@@ -1,3 +1,8 @@
+pub mod Compacting
+pub mod Turns
+pub mod Finding
+pub mod FewLines
+pub mod Counting
 pub mod Taking
 pub mod Parts
 pub mod Log

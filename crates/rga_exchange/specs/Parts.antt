@@ -2,7 +2,7 @@
 use Rattle.std.specs.Prelude.{◌≡◌, ℕ, ◌+◌, ◌≤◌, if◌then◌else◌, false, List, [], ◌++◌, length, Option, Some, None, Result, Ok, Err}
 use Rattle.rga_ops.specs.Content.{Content}
 use Rattle.rga_ops.specs.declared.op.Op.{Op}
-use Rattle.rga_devices.specs.Counting.{Calls, IsReadToEnd}
+use Rattle.rga_exchange.specs.Counting.{Calls, IsReadToEnd}
 use Rattle.rga_lines.specs.Log.{operations_of}
 use Rattle.rga_lines.specs.Stream.{Splitting, lines_of, rest_of}
 use Rattle.rga_lines.specs.Table.{any_line_at}

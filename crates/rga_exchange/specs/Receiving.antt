@@ -3,7 +3,7 @@ use Rattle.std.specs.Prelude.{ℕ, ◌≤◌, ◌==◌, if◌then◌else◌, Lis
 use Rattle.std.specs.List.{AllByRecursion}
 use Rattle.std.specs.Io.KnownBytes.{Consumes}
 use Rattle.rga_ops.specs.Content.{Content}
-use Rattle.rga_devices.specs.Counting.{Calls}
+use Rattle.rga_exchange.specs.Counting.{Calls}
 use Rattle.rga_lines.specs.Stream.{lines_of}
 use Rattle.rga_lines.specs.Log.{IsOperation, stream_operations}
 use Rattle.rga_exchange.specs.declared.block.TheConstants.{BLOCK}

@@ -6,7 +6,7 @@ use Rattle.rga_ops.specs.ListAnswer.{AreWellFormed, IsJoinable}
 use Rattle.rga_ops.specs.Operations.{operations}
 use Rattle.rga_ops.specs.declared.op.Op.{Op}
 use Rattle.rga_lines.specs.LineConstants.{MAX_LINE}
-use Rattle.rga_devices.specs.Counting.{Calls, Writes, WritesFront}
+use Rattle.rga_exchange.specs.Counting.{Calls, Writes, WritesFront}
 use Rattle.rga_lines.specs.Log.{log_operations, IsOperation}
 use Rattle.rga_lines.specs.Spelling.{line, head_line, end_line, IsWritable}
 use Rattle.rga_lines.specs.Stream.{bytes_of_lines, lines_of, rest_of}

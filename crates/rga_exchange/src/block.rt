@@ -1,8 +1,8 @@
 //! Lines on their way to a device.
 ghost use Rattle.std.specs.Prelude.{◌≡◌, ℕ, ◌≤◌, ◌+◌, length, take, drop, IsOk, OnOk};
 
+use crate::Counted;
 use crate::fault::SendFault;
-use rga_devices::Counted;
 use rga_lines::Speller;
 use rga_lines::bytes::put;
 use rga_ops::Op;
@@ -44,7 +44,7 @@ impl Block {
     ghost use Rattle.rga_ops.specs.Prelude.{checked};
     ghost use Rattle.rga_lines.specs.Spelling.{line as line_of, IsWritable};
     ghost use Rattle.rga_exchange.specs.declared.block.TheConstants.{BLOCK, END};
-    ghost use Rattle.rga_devices.specs.Counting.{Writes, WritesFront, WritesAllBut, CountsAs};
+    ghost use Rattle.rga_exchange.specs.Counting.{Writes, WritesFront, WritesAllBut, CountsAs};
     ghost use Rattle.rga_lines.specs.Stream.{newline};
 
     /// An empty block, with room for some 64 KiB.

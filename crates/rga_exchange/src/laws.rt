@@ -21,6 +21,10 @@ ghost use Rattle.rga_exchange.specs.declared.taking.Form.TheVariants.{Log, Excha
 ghost use Rattle.rga_exchange.specs.declared.fault.LogFault.TheVariants.{Line as FaultyLine};
 ghost use Rattle.rga_exchange.specs.declared.log.LogRead.{LogRead};
 
+mod compaction;
+
+pub use compaction::{compacted_lines_are_no_more, compacted_lines_stand_for_the_content};
+
 /// Where a log is empty or ends in a newline and stands for a content, and behind it are written
 /// well-formed operations, which agree with one another and with that content and have identifiers
 /// and characters that can be written, it stands for the content joined with them, and again ends

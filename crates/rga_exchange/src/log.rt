@@ -1,6 +1,6 @@
 //! Logs, read into whatever takes operations.
 ghost use Rattle.std.specs.Prelude.{◌≡◌, ◌≢◌, ◌<◌, ◌^◌, ◌||◌, Err, IfOk, OnOk};
-ghost use Rattle.rga_devices.specs.Counting.{CountsAs, OnBytes};
+ghost use Rattle.rga_exchange.specs.Counting.{CountsAs, OnBytes};
 ghost use Rattle.rga_lines.specs.Log.{log_operations};
 ghost use Rattle.rga_lines.specs.Table.{any_line_at};
 ghost use Rattle.rga_store.specs.Taking.{TakesMore};
@@ -8,9 +8,9 @@ ghost use Rattle.rga_exchange.specs.DeletionRuns.{is_deletion_run, has_deletion_
 ghost use Rattle.rga_exchange.specs.Taking.{intake};
 ghost use Rattle.rga_exchange.specs.Log.{TakesLog, log_end, bare_answer, TakesRest};
 
+use crate::Counted;
 use crate::fault::{LogFault, ReceiveFault};
 use crate::taking::{Form, LineTaken, Stream, StreamEnd, take_other, take_stream};
-use rga_devices::Counted;
 use rga_lines::LineFault;
 use rga_store::Taker;
 use std::alloc::Global;

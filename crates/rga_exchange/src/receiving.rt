@@ -1,16 +1,16 @@
 //! Exchanges, received by whatever takes operations.
 ghost use Rattle.std.specs.Prelude.{◌≡◌, ◌≢◌, length, Err, OnOk, IfOk};
 ghost use Rattle.rga_ops.specs.Prelude.{join, content_of};
-ghost use Rattle.rga_devices.specs.Counting.{CountsAs, OnBytes};
+ghost use Rattle.rga_exchange.specs.Counting.{CountsAs, OnBytes};
 ghost use Rattle.rga_lines.specs.Log.{stream_operations};
 ghost use Rattle.rga_store.specs.Taking.{TakesMore};
 ghost use Rattle.rga_exchange.specs.Taking.{intake, HasTakenLines, HasTakenWholeLines};
 ghost use Rattle.rga_exchange.specs.Receiving.{exchange_outcome, EndsWithLastRead};
 ghost use Rattle.rga_exchange.specs.declared.taking.Form.TheVariants.{Exchange};
 
+use crate::Counted;
 use crate::fault::ReceiveFault;
 use crate::taking::{Form, Stream, StreamEnd, take_stream};
-use rga_devices::Counted;
 use rga_store::Taker;
 use std::alloc::Global;
 use std::io::Read;

@@ -3,7 +3,7 @@ ghost use Rattle.std.specs.Prelude.{◌≡◌, ℕ, ◌≤◌, ◌<◌, ◌++◌
 ghost use Rattle.rga_ops.specs.Prelude.{checked, is_id, join, content_of, Content};
 ghost use Rattle.rga_ops.specs.ListAnswer.{AreWellFormed, IsJoinable};
 ghost use Rattle.rga_ops.specs.declared.op.Op.TheVariants.{Insert, Delete};
-ghost use Rattle.rga_devices.specs.Counting.{CountsAs, Writes, WritesFront, WritesAllBut};
+ghost use Rattle.rga_exchange.specs.Counting.{CountsAs, Writes, WritesFront, WritesAllBut};
 ghost use Rattle.rga_lines.specs.Runs.{next};
 ghost use Rattle.rga_lines.specs.Spelling.{IsWritable};
 ghost use Rattle.rga_lines.specs.Stream.{newline, rest_of};
@@ -11,9 +11,9 @@ ghost use Rattle.rga_exchange.specs.RunLines.{stretch_line, going_behind, front_
 ghost use Rattle.rga_exchange.specs.RunLines.{front_line, front_count, runs_text};
 ghost use Rattle.rga_exchange.specs.Sending.{AppendsFirst, AreWritable, StandsFor};
 
+use crate::Counted;
 use crate::block::Block;
 use crate::fault::SendFault;
-use rga_devices::Counted;
 use rga_lines::{LineFault, MAX_RUN, Run, write_line, write_run};
 use rga_ops::{Id, Op};
 use std::alloc::{AllocError, Global};

@@ -2,16 +2,16 @@
 ghost use Rattle.std.specs.Prelude.{◌≡◌, ℕ, ◌≤◌, ◌++◌, ◌∷◌, List, [], length, true, Ok, Err, IfOk, IfErr, OnOk};
 ghost use Rattle.rga_ops.specs.Prelude.{operations, Content, Agree, IsSound, join, known_count, content_of};
 ghost use Rattle.rga_ops.specs.ListAnswer.{AreWellFormed, IsJoinable};
-ghost use Rattle.rga_devices.specs.Counting.{CountsAs, Writes, WritesFront, WritesAllBut, WritesNothing};
+ghost use Rattle.rga_exchange.specs.Counting.{CountsAs, Writes, WritesFront, WritesAllBut, WritesNothing};
 ghost use Rattle.rga_lines.specs.Spelling.{head_line};
 ghost use Rattle.rga_lines.specs.Stream.{newline, rest_of};
 ghost use Rattle.rga_exchange.specs.Sending.{log_text, exchange_text, stream_text, AreWritable, StandsFor};
 ghost use Rattle.rga_exchange.specs.Sending.{AppendsFirst, WritesFirst};
 ghost use Rattle.rga_exchange.specs.Receiving.{exchange_outcome};
 
+use crate::Counted;
 use crate::block::Block;
 use crate::fault::SendFault;
-use rga_devices::Counted;
 use rga_lines::{write_end, write_head};
 use rga_ops::Op;
 use rga_store::TextStore;

@@ -1,7 +1,7 @@
 //! The lines of a stream, taken in turn into whatever takes operations.
 ghost use Rattle.std.specs.Prelude.{◌≡◌, ◌≢◌, ◌+◌, ◌*◌, ◌^◌, ◌<◌, ◌≤◌, ◌||◌, ℕ, List, length, [], ◌∷◌, ◌++◌, false, Ok, Err, None, IfOk, IfErr, IfSome};
 ghost use Rattle.rga_ops.specs.Prelude.{taken};
-ghost use Rattle.rga_devices.specs.Counting.{CountsAs, OnBytes};
+ghost use Rattle.rga_exchange.specs.Counting.{CountsAs, OnBytes};
 ghost use Rattle.rga_lines.specs.Log.{operations_of};
 ghost use Rattle.rga_lines.specs.Runs.{stretch_operations, run_deletions, IsRun, IsDeletionRun};
 ghost use Rattle.rga_lines.specs.Table.{any_line_at};
@@ -12,9 +12,9 @@ ghost use Rattle.rga_exchange.specs.Parts.{stage, left_at, line_outcome, head_an
 ghost use Rattle.rga_exchange.specs.Parts.{LeadsTo, EndsAs, HasTakenAllBut, StopsReading};
 ghost use Rattle.rga_exchange.specs.declared.fault.LogFault.TheVariants.{Memory, Read as ReadFailed};
 
+use crate::Counted;
 use crate::block::BLOCK;
 use crate::fault::LogFault;
-use rga_devices::Counted;
 use rga_lines::{
     DeletionRun, Line, LineFault, Run, Splitter, read_any, read_deletion, read_insertions,
 };

@@ -7,7 +7,7 @@ ghost use Rattle.test_ports.specs.Steps.{with_steps};
 use crate::disk::MemoryDisk;
 use mg_files::PortFault;
 use mgr_port::{Logs, Named, put_whole};
-use rga_devices::Counted;
+use rga_exchange::Counted;
 use std::alloc::{AllocError, Global};
 use std::io;
 use std::io::{Cursor, ErrorKind, Read};

@@ -3,9 +3,9 @@ ghost use Rattle.std.specs.Prelude.{◌≡◌, [], ◌∷◌, ◌++◌, Some, Ok
 ghost use Rattle.mg_plain.specs.declared.command.Command.TheVariants.{ForwardWord, BackwardWord, ForwardChar, NextLine, TransposeChars, CapitalizeWord, NewlineAndIndent, KillRegion, CopyRegionAsKill, KillLine, Yank, ScrollUp, InsertText, ReplaceRange};
 ghost use Rattle.mg_plain.specs.declared.outcome.Notice.TheVariants.{BeginningOfBuffer, EndOfBuffer, SearchFailed};
 ghost use Rattle.mg_plain.specs.declared.view.Kind.TheVariants.{Vertical};
-ghost use Rattle.mg_text.specs.Characters.{newline_character};
+ghost use Rattle.mg_plain.specs.Characters.{newline_character};
 ghost use Rattle.mg_plain.specs.Commands.{effect};
-ghost use Rattle.mg_text.specs.Splices.{splice};
+ghost use Rattle.mg_plain.specs.Splices.{splice};
 ghost use Rattle.mg_plain.specs.Effect.{edit_effect, motion};
 ghost use Rattle.mg_plain.specs.Examples.{plain_view, text_and_point, outcome, point_of, kill_buffer, kill_of, after_kill, five_lines, short_line};
 ghost use Rattle.mg_plain.specs.Filling.{fill_paragraph};

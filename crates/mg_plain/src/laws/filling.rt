@@ -2,7 +2,7 @@
 ghost use Rattle.std.specs.Prelude.{ℕ};
 ghost use Rattle.mg_plain.specs.Filling.{fill_paragraph};
 ghost use Rattle.mg_plain.specs.Situation.{Situation, IsView};
-ghost use Rattle.mg_text.specs.Layout.{AreOfBlanks};
+ghost use Rattle.mg_plain.specs.Layout.{AreOfBlanks};
 
 /// Filling touches no word: spaces, tabs and newlines alone go, and one space or one newline comes.
 pub fn filling_touches_no_word()

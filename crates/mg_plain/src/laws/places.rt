@@ -1,10 +1,10 @@
 //! Places that commands go to, in words.
 ghost use Rattle.std.specs.Prelude.{◌≤◌, ◌<◌, ◌+◌, ◌-◌, ℕ, List, length};
 ghost use Rattle.std.specs.List.{slice_index};
-ghost use Rattle.mg_text.specs.Characters.{is_newline};
-ghost use Rattle.mg_text.specs.Lines.{begins_line, line_begin, line_end};
-ghost use Rattle.mg_text.specs.Paragraphs.{begins_paragraph, ends_paragraph, paragraph};
-ghost use Rattle.mg_text.specs.Scans.{IsLeastFrom, IsGreatestUpTo};
+ghost use Rattle.mg_plain.specs.Characters.{is_newline};
+ghost use Rattle.mg_plain.specs.LineEnds.{begins_line, line_begin, line_end};
+ghost use Rattle.mg_plain.specs.Paragraphs.{begins_paragraph, ends_paragraph, paragraph};
+ghost use Rattle.mg_plain.specs.Scans.{IsLeastFrom, IsGreatestUpTo};
 ghost use Rattle.mg_plain.specs.Words.{begins_word, ends_word, word_begin, word_end};
 
 /// The begins and ends of lines, words and paragraphs are the greatest and the least places that

@@ -1,7 +1,7 @@
 //! Searches, in words.
 ghost use Rattle.std.specs.Prelude.{◌≡◌, ◌≤◌, ◌+◌, ℕ, suc, true, false, List, length, Some, None};
 ghost use Rattle.mg_plain.specs.Matches.{stands_at, first_match, last_match};
-ghost use Rattle.mg_text.specs.Scans.{IsLeast, IsGreatest};
+ghost use Rattle.mg_plain.specs.Scans.{IsLeast, IsGreatest};
 
 /// A search forward finds the least index from the start on at which the pattern stands, which lies
 /// within the text, and fails where it stands nowhere; a search backward finds the greatest up to

@@ -1,5 +1,5 @@
 use Rattle.mg_buffer.proofs.Prelude.{◌≡◌, ◌≤◌, ◌+◌, length, count_by}
-use Rattle.mg_text.specs.Characters.{is_newline}
+use Rattle.mg_plain.specs.Characters.{is_newline}
 use Rattle.mg_buffer.proofs.line_numbers.newlines.Given as goal
 
 abbrev pub invariant-loop-rest : goal.invariant-loop-rest

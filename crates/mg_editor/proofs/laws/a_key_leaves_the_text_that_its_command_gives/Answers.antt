@@ -12,7 +12,7 @@ use Rattle.mg_minibuffer.specs.declared.message.Message.TheVariants.{Nothing}
 use Rattle.mg_minibuffer.specs.declared.prompt.Prompt.{Prompt}
 use Rattle.mg_minibuffer.specs.PlainStep.{plain_step}
 use Rattle.mg_minibuffer.specs.PromptStep.{prompt_step}
-use Rattle.mg_dialogue.specs.Dialogues.{Dialogue}
+use Rattle.mg_minibuffer.specs.Dialogues.{Dialogue}
 use Rattle.mg_workspace.specs.Actions.{ActionOutcome, ActsInCurrent, current_state, with_state_and_notes}
 use Rattle.mg_workspace.specs.Workspaces.{Workspace, scene_of}
 use Rattle.mg_workspace.specs.declared.fault.ActionFault.TheVariants.{Refused}

@@ -20,14 +20,14 @@ overflow_sub-result g c =
     let now = (state_at c.args.index c.args.editor.now.work).content in
     let count : c.text_len-count.result ≡ length told = c.text_len-count.ensures in
     let more : length (text now) ≡ suc (length told) = omega (arith, ap length c.in-Some.ensures, c.if-text-count-2.false, c.if-text-count-gt1.false, count) in
-    omega (arith, count, place_within c.args.id told now c.in-Some-position_at.place c.in-Some-position_at.ensures more)
+    omega (arith, count, place_within c.args.id told now c.in-Some-position_at.place c.in-Some-position_at.ensures.there more)
 
 pub returns : goal.returns
 returns g c =
     let told = c.args.changes.now.text in
     let now = (state_at c.args.index c.args.editor.now.work).content in
     let place = c.in-Some-position_at.place in
-    let there = c.in-Some-position_at.ensures in
+    let there = c.in-Some-position_at.ensures.there in
     let count : c.text_len-count.result ≡ length told = c.text_len-count.ensures in
     let more : length (text now) ≡ suc (length told) = omega (arith, ap length c.in-Some.ensures, c.if-text-count-2.false, c.if-text-count-gt1.false, count) in
     subst (λ n. AreKept (kept place (n - place)) told (text now)) (sym count)

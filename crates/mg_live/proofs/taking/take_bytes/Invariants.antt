@@ -1,5 +1,5 @@
 use Rattle.std.proofs.Common.{Bool, false, drop}
-use Rattle.rga_devices.specs.Counting.{Calls}
+use Rattle.rga_exchange.specs.Counting.{Calls}
 use Rattle.mg_events.specs.Reading.{Reading}
 use Rattle.mg_session.specs.Moments.{Known}
 use Rattle.mg_session.specs.declared.course.Course.TheVariants.{On}

@@ -1,6 +1,6 @@
 use Rattle.std.proofs.Common.{arith, length, sym, ◌∙◌}
 use Rattle.mg_plain.specs.Words.{has_word_character}
-use Rattle.mg_text.proofs.ScanLaws.{scan_here, scan_on}
+use Rattle.mg_plain.proofs.ScanLaws.{scan_here, scan_on}
 use Rattle.mg_plain.proofs.cases.first_word_character.Goals as goal
 
 pub loop-i-preserved : goal.loop-i-preserved

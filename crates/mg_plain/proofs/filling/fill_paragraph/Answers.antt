@@ -2,7 +2,7 @@ use Rattle.std.proofs.Common.{List, Ok, ap, subst, ◌∙◌}
 use Rattle.rga_ops.specs.Splice.{Splice}
 use Rattle.mg_plain.specs.Answer.{IsEffectAnswer}
 use Rattle.mg_plain.specs.Effect.{edit_effect}
-use Rattle.mg_text.specs.Filling.{paragraph_filling}
+use Rattle.mg_plain.specs.Gaps.{paragraph_filling}
 use Rattle.mg_plain.specs.Situation.{Situation}
 use Rattle.mg_plain.proofs.filling.fill_paragraph.Goals as goal
 

@@ -1,6 +1,6 @@
 use Rattle.std.proofs.Common.{sym, ◌∙◌, ◌∷◌}
 use Rattle.std.specs.List.{take_while}
-use Rattle.mg_text.specs.Characters.{is_blank, newline_character}
+use Rattle.mg_plain.specs.Characters.{is_blank, newline_character}
 use Rattle.mg_plain.proofs.CaseLaws.{taken_off, taken_on}
 use Rattle.mg_plain.proofs.insertions.newline_and_blanks.Goals as goal
 

@@ -1,6 +1,6 @@
 use Rattle.std.proofs.Common.{List, [], ap, length, subst, sym, ◌++◌, ◌+◌, ◌∙◌, ◌∷◌}
 use Rattle.rga_ops.specs.Splice.{Splice}
-use Rattle.mg_text.specs.Splices.{splice}
+use Rattle.mg_plain.specs.Splices.{splice}
 use Rattle.mg_plain.proofs.ReplacementLaws.{Replacing, replacing_done, replacing_on, replacing_start}
 use Rattle.mg_plain.proofs.replacement.replacements.Goals as goal
 

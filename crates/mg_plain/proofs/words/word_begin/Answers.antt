@@ -1,8 +1,8 @@
 use Rattle.std.proofs.Common.{Bool, Some, None, ap, arith, false, if◌then◌else◌, refl, sym, true, ℕ, ◌∙◌, ◌≡◌}
 use Rattle.std.specs.Option.{unwrap_or}
-use Rattle.mg_text.specs.Scans.{greatest_passing, greatest_up_to}
+use Rattle.mg_plain.specs.Scans.{greatest_passing, greatest_up_to}
 use Rattle.mg_plain.specs.Words.{begins_word}
-use Rattle.mg_text.proofs.ScanLaws.{back_step}
+use Rattle.mg_plain.proofs.ScanLaws.{back_step}
 use Rattle.mg_plain.proofs.words.word_begin.Goals as goal
 
 back_here : (p : ℕ → Bool) (q : ℕ) → p q ≡ true → greatest_up_to p q ≡ q

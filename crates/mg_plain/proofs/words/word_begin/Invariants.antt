@@ -1,5 +1,5 @@
 use Rattle.std.proofs.Common.{◌≡◌, ◌≤◌}
-use Rattle.mg_text.specs.Scans.{greatest_up_to}
+use Rattle.mg_plain.specs.Scans.{greatest_up_to}
 use Rattle.mg_plain.specs.Words.{begins_word, word_begin}
 use Rattle.mg_plain.proofs.words.word_begin.Given as goal
 

@@ -1,6 +1,6 @@
 use Rattle.std.proofs.Common.{arith, length, sym, ◌∙◌}
 use Rattle.mg_plain.specs.Words.{ends_word}
-use Rattle.mg_text.proofs.ScanLaws.{scan_here, scan_on}
+use Rattle.mg_plain.proofs.ScanLaws.{scan_here, scan_on}
 use Rattle.mg_plain.proofs.words.word_end.Goals as goal
 
 pub loop-e-preserved : goal.loop-e-preserved

@@ -1,5 +1,5 @@
 use Rattle.std.proofs.Common.{length, ◌-◌, ◌<◌, ◌≡◌, ◌≤◌}
-use Rattle.mg_text.specs.Scans.{least_from}
+use Rattle.mg_plain.specs.Scans.{least_from}
 use Rattle.mg_plain.specs.Words.{ends_word, word_end}
 use Rattle.mg_plain.proofs.words.word_end.Given as goal
 

@@ -1,6 +1,6 @@
 use Rattle.std.proofs.Common.{◌≡◌, ◌∙◌, subst, inr}
 use Rattle.std.proofs.lemmas.Result.{on_ok_weaker}
-use Rattle.rga_devices.specs.Counting.{Writes, WritesFront}
+use Rattle.rga_exchange.specs.Counting.{Writes, WritesFront}
 use Rattle.mgr_show.proofs.CompactedLaws.{on_err}
 use Rattle.mgr_look.specs.Told.{numbers_bytes}
 use Rattle.mgr_look.proofs.NoteLaws.{write_failed}

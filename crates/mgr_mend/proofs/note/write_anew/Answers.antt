@@ -1,6 +1,6 @@
 use Rattle.std.proofs.Common.{ap, inl}
 use Rattle.std.proofs.lemmas.Option.{IfSome_then}
-use Rattle.rga_devices.specs.Counting.{Calls}
+use Rattle.rga_exchange.specs.Counting.{Calls}
 use Rattle.mgr_port.specs.Logs.{Names}
 use Rattle.mgr_mend.proofs.NoteLaws.{after_writing, names_ok, names_err, stays, stays_left}
 use Rattle.mgr_mend.proofs.note.write_anew.Goals as goal

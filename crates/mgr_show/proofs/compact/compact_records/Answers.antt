@@ -1,11 +1,11 @@
 use Rattle.std.proofs.Common.{◌≡◌, ◌∙◌, [], sym, ap, subst}
 use Rattle.rga_ops.specs.Content.{IsSound}
 use Rattle.rga_ops.specs.Operations.{operations}
-use Rattle.rga_devices.specs.Counting.{Writes, WritesFront}
+use Rattle.rga_exchange.specs.Counting.{Writes, WritesFront}
 use Rattle.rga_lines.specs.Stream.{rest_of}
 use Rattle.rga_exchange.specs.Sending.{StandsFor}
-use Rattle.rga_compaction.specs.Compacting.{compact_text}
-use Rattle.rga_compaction.proofs.FindingLaws.{content_of_listed}
+use Rattle.rga_exchange.specs.Compacting.{compact_text}
+use Rattle.rga_exchange.proofs.FindingLaws.{content_of_listed}
 use Rattle.mgr_show.proofs.compact.compact_records.Goals as goal
 
 pub compact_ops-requires-clause-all : goal.compact_ops-requires-clause-all

@@ -1,4 +1,4 @@
-use Rattle.rga_devices.proofs.WrittenLemmas.{front_none}
+use Rattle.rga_exchange.proofs.WrittenLemmas.{front_none}
 use Rattle.rga_exchange.proofs.BegunLemmas.{begun_left, begun_whole}
 use Rattle.rga_exchange.proofs.LogTextLemmas.{log_begun}
 use Rattle.rga_exchange.proofs.RunLineLaws.{runs_appended, runs_gained, runs_front}

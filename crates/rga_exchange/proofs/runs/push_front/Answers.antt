@@ -1,5 +1,5 @@
 use Rattle.std.proofs.Common.{◌++◌, ap, subst, ◌∙◌}
-use Rattle.rga_devices.specs.Counting.{WritesAllBut}
+use Rattle.rga_exchange.specs.Counting.{WritesAllBut}
 use Rattle.rga_exchange.proofs.LogTextLemmas.{ended}
 use Rattle.rga_exchange.proofs.runs.push_front.Goals as goal
 

@@ -1,7 +1,7 @@
 use Rattle.std.proofs.Common.{rules, ◌≡◌, List, ◌∷◌, ◌++◌, ◌∙◌, sym, ap, subst, true≢false}
 use Rattle.std.specs.Result.{is_ok}
 use Rattle.rga_ops.specs.declared.op.Op.{Op}
-use Rattle.rga_devices.specs.Counting.{WritesAllBut}
+use Rattle.rga_exchange.specs.Counting.{WritesAllBut}
 use Rattle.rga_exchange.specs.RunLines.{runs_text}
 use Rattle.rga_exchange.proofs.BegunLemmas.{begun_part}
 use Rattle.rga_exchange.proofs.RunLineLaws.{begun_front}

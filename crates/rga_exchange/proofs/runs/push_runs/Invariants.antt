@@ -1,5 +1,5 @@
 use Rattle.std.proofs.Common.{◌≡◌, ◌++◌, length}
-use Rattle.rga_devices.specs.Counting.{WritesAllBut}
+use Rattle.rga_exchange.specs.Counting.{WritesAllBut}
 use Rattle.rga_exchange.specs.RunLines.{runs_text}
 use Rattle.rga_exchange.proofs.runs.push_runs.Given as goal
 

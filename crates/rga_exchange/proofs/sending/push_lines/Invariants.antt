@@ -1,5 +1,5 @@
 use Rattle.std.proofs.Common.{◌≡◌, ◌++◌, drop}
-use Rattle.rga_devices.specs.Counting.{WritesAllBut}
+use Rattle.rga_exchange.specs.Counting.{WritesAllBut}
 use Rattle.rga_exchange.proofs.WritableLaws.{AreWritableUpTo}
 use Rattle.rga_exchange.specs.Sending.{log_text}
 use Rattle.rga_exchange.proofs.sending.push_lines.Given as goal

@@ -1,7 +1,7 @@
 use Rattle.std.proofs.Common.{◌≡◌, ◌∙◌, length, subst}
 use Rattle.std.specs.Prelude.{IfOk, OnOk, List}
 use Rattle.rga_ops.specs.declared.op.Op.{Op}
-use Rattle.rga_devices.specs.Counting.{Writes, WritesFront}
+use Rattle.rga_exchange.specs.Counting.{Writes, WritesFront}
 use Rattle.rga_exchange.specs.Sending.{exchange_text}
 use Rattle.rga_exchange.proofs.MeetingLaws.{content_received}
 use Rattle.rga_exchange.proofs.sending.send.Goals as goal

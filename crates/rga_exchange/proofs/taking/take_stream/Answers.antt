@@ -2,7 +2,7 @@ use Rattle.std.proofs.Common.{◌≡◌, ◌∙◌, ◌++◌, take, length, Ok, 
 use Rattle.std.proofs.lemmas.Bool.{lt-ltb}
 use Rattle.std.proofs.lemmas.Result.{err_from_is_err_and}
 use Rattle.std.proofs.lemmas.List.{length-take}
-use Rattle.rga_devices.specs.Counting.{IsReadToEnd}
+use Rattle.rga_exchange.specs.Counting.{IsReadToEnd}
 use Rattle.rga_lines.specs.Stream.{Splitting, splitting_with}
 use Rattle.rga_lines.proofs.SplitterLemmas.{fed_holds}
 use Rattle.rga_exchange.specs.Taking.{intake}

@@ -1,5 +1,5 @@
 use Rattle.std.proofs.Common.{◌≡◌, ◌+◌, ◌*◌, ◌^◌, ◌≤◌, min, length, false}
-use Rattle.rga_devices.specs.declared.counted.TheConstants.{MAX_CALLS}
+use Rattle.rga_exchange.specs.declared.counted.TheConstants.{MAX_CALLS}
 use Rattle.rga_exchange.specs.declared.block.TheConstants.{BLOCK}
 use Rattle.rga_exchange.specs.Taking.{intake}
 use Rattle.rga_exchange.specs.Parts.{stage, HasTakenOfRead}

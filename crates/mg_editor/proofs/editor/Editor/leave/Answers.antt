@@ -1,6 +1,6 @@
 use Rattle.std.proofs.Common.{rules, ◌≡◌, None, refl}
 use Rattle.mg_keys.specs.declared.step.Step.TheVariants.{Unbound}
-use Rattle.mg_dialogue.specs.Dialogues.{search_of}
+use Rattle.mg_minibuffer.specs.Dialogues.{search_of}
 use Rattle.mg_editor.specs.Presses.{IsRead}
 use Rattle.mg_editor.proofs.Steps.{left}
 use Rattle.mg_editor.proofs.editor.Editor.leave.Goals as goal

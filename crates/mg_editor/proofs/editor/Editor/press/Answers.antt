@@ -1,6 +1,6 @@
 use Rattle.std.proofs.Common.{rules, subst}
 use Rattle.mg_keys.specs.declared.step.Step.TheVariants.{Leave}
-use Rattle.mg_dialogue.specs.Dialogues.{Fed}
+use Rattle.mg_minibuffer.specs.Dialogues.{Fed}
 use Rattle.mg_editor.specs.Editors.{Editor}
 use Rattle.mg_editor.specs.Presses.{StepTaken}
 use Rattle.mg_editor.proofs.Steps.{pressed, read_at_once, refused}

@@ -1,5 +1,5 @@
 use Rattle.std.proofs.Common.{◌≡◌, true, drop}
-use Rattle.mg_dialogue.specs.Dialogues.{takes_text}
+use Rattle.mg_minibuffer.specs.Dialogues.{takes_text}
 use Rattle.mg_editor.proofs.TypingLaws.{LeadsOn}
 use Rattle.mg_editor.proofs.editor.Editor.type_all.Given as goal
 

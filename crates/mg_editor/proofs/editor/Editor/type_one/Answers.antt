@@ -1,4 +1,4 @@
-use Rattle.std.proofs.Common.{subst, sym}
+use Rattle.std.proofs.Common.{subst}
 use Rattle.mg_keys.specs.declared.step.Step.TheVariants.{Text}
 use Rattle.mg_editor.specs.Presses.{FollowsReaction, editor_reaction}
 use Rattle.mg_editor.proofs.TypingLaws.{typed_one}

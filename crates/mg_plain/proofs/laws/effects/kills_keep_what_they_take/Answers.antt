@@ -1,5 +1,5 @@
 use Rattle.std.proofs.Common.{max, ◌+◌}
-use Rattle.mg_text.specs.Lines.{line_end}
+use Rattle.mg_plain.specs.LineEnds.{line_end}
 use Rattle.mg_plain.specs.Words.{word_end}
 use Rattle.mg_plain.proofs.EffectLaws.{kill_region-takes, kill_up_to-takes}
 use Rattle.mg_plain.proofs.laws.effects.kills_keep_what_they_take.Goals as goal

@@ -1,6 +1,6 @@
-use Rattle.mg_text.specs.Lines.{line_begin}
-use Rattle.mg_text.specs.Paragraphs.{has_nonblank}
-use Rattle.mg_text.proofs.BlankLaws.{filled_of_blanks}
+use Rattle.mg_plain.specs.LineEnds.{line_begin}
+use Rattle.mg_plain.specs.Paragraphs.{has_nonblank}
+use Rattle.mg_plain.proofs.BlankLaws.{filled_of_blanks}
 use Rattle.mg_plain.proofs.laws.filling.filling_touches_no_word.Goals as goal
 
 pub returns : goal.returns

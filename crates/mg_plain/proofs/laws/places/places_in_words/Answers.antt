@@ -1,11 +1,11 @@
 use Rattle.std.proofs.Common.{Bool, arith, length, ℕ, ◌+◌, ◌-◌, ◌≤◌}
 use Rattle.std.specs.List.{slice_index}
-use Rattle.mg_text.specs.Characters.{is_newline}
-use Rattle.mg_text.specs.Lines.{begins_line}
-use Rattle.mg_text.specs.Paragraphs.{begins_paragraph, ends_paragraph}
-use Rattle.mg_text.specs.Scans.{IsGreatestUpTo, IsLeastFrom, greatest_up_to, least_from}
+use Rattle.mg_plain.specs.Characters.{is_newline}
+use Rattle.mg_plain.specs.LineEnds.{begins_line}
+use Rattle.mg_plain.specs.Paragraphs.{begins_paragraph, ends_paragraph}
+use Rattle.mg_plain.specs.Scans.{IsGreatestUpTo, IsLeastFrom, greatest_up_to, least_from}
 use Rattle.mg_plain.specs.Words.{begins_word, ends_word}
-use Rattle.mg_text.proofs.RangeLaws.{greatest_up_to-is, greatest_up_to-within, least_from-is, least_from-within}
+use Rattle.mg_plain.proofs.RangeLaws.{greatest_up_to-is, greatest_up_to-within, least_from-is, least_from-within}
 use Rattle.mg_plain.proofs.laws.places.places_in_words.Goals as goal
 
 least_in_words : (p : ℕ → Bool) (n bound : ℕ) → n ≤ bound → IsLeastFrom p n bound (least_from p n bound)

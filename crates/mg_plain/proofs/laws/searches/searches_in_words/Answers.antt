@@ -1,9 +1,9 @@
 use Rattle.std.proofs.Common.{List, None, Some, ap, arith, if◌then◌else◌, length, suc, sym, ℕ, ◌-◌, ◌∙◌, ◌≡◌, ◌≤◌}
 use Rattle.std.proofs.lemmas.Bool.{le-leb}
 use Rattle.mg_plain.specs.Matches.{first_match, last_match, stands_at}
-use Rattle.mg_text.specs.Scans.{IsLeast, greatest_passing}
+use Rattle.mg_plain.specs.Scans.{IsLeast, greatest_passing}
 use Rattle.mg_plain.proofs.MatchLaws.{last_is, stands_within}
-use Rattle.mg_text.proofs.RangeLaws.{least_found, none_found, none_is}
+use Rattle.mg_plain.proofs.RangeLaws.{least_found, none_found, none_is}
 use Rattle.mg_plain.proofs.laws.searches.searches_in_words.Goals as goal
 
 -- a search back from within the text

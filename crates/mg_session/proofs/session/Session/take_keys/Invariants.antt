@@ -1,4 +1,4 @@
-use Rattle.rga_devices.specs.Counting.{Calls}
+use Rattle.rga_exchange.specs.Counting.{Calls}
 use Rattle.mg_session.specs.Moments.{Known, Moment, seen, moment}
 use Rattle.mg_session.specs.Running.{ReadsKeys}
 use Rattle.mg_session.specs.declared.course.Course.TheVariants.{On}

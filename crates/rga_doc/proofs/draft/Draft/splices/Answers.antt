@@ -4,7 +4,7 @@ use Rattle.rga_ops.specs.declared.id.TheConstants.Id.{MAX_COUNTER}
 use Rattle.rga_doc.specs.Excerpt.{begin_of}
 use Rattle.rga_doc.proofs.ExcerptLaws.{begins_first, begins_at}
 use Rattle.rga_doc.proofs.EditAnswers.{falls_within}
-use Rattle.rga_characters.proofs.FallingLaws.{fewer, characters_left}
+use Rattle.rga_doc.proofs.FallingLaws.{fewer, characters_left}
 use Rattle.rga_doc.proofs.draft.Draft.splices.Goals as goal
 
 pub splice-requires-clause-begin : goal.splice-requires-clause-begin

@@ -2,7 +2,7 @@ use Rattle.std.proofs.Common.{◌≡◌, ◌≤◌, ◌+◌, ◌-◌, ℕ, List,
 use Rattle.std.proofs.lemmas.List.{length-replicate}
 use Rattle.rga_ops.specs.Identifier.{Identifier, root}
 use Rattle.rga_doc.specs.Excerpt.{Excerpted}
-use Rattle.rga_characters.proofs.SplicedLists.{part}
+use Rattle.rga_doc.proofs.SplicedCharacters.{part}
 use Rattle.rga_doc.proofs.excerpt.Excerpt.between.Goals as goal
 
 -- what is cut out of the part is cut out of the list that begins at the front of the text

@@ -1,5 +1,5 @@
 use Rattle.std.proofs.KnownBytes.{Appends-kept}
-use Rattle.rga_devices.proofs.WrittenLemmas.{front_whole}
+use Rattle.rga_exchange.proofs.WrittenLemmas.{front_whole}
 use Rattle.rga_exchange.proofs.block.Block.finish.Goals as goal
 
 pub returns-clause-ok : goal.returns-clause-ok

@@ -1,6 +1,6 @@
 use Rattle.std.proofs.Common.{rules, ℕ, List, ◌-◌, ◌%◌, take, drop, ap, ◌∙◌, subst, arith}
 use Rattle.std.proofs.lemmas.List.{with_items_is, places}
-use Rattle.rga_devices.specs.Counting.{Writes, WritesFront, WritesAllBut}
+use Rattle.rga_exchange.specs.Counting.{Writes, WritesFront, WritesAllBut}
 use Rattle.rga_exchange.proofs.BlockLemmas.{kept_behind, front_begun}
 use Rattle.rga_exchange.proofs.block.Block.write_front.Goals as goal
 

@@ -1,2 +1,0 @@
-pub mod Dialogues
-pub mod Echo

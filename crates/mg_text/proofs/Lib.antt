@@ -1,6 +1,0 @@
-pub mod ScanLaws
-pub mod RangeLaws
-pub mod WordLaws
-pub mod GapLaws
-pub mod BlankLaws
-pub mod LayoutLaws

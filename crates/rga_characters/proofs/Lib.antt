@@ -1,5 +1,0 @@
-pub mod SplicedLists
-pub mod FallingLaws
-pub mod CharacterLaws
-pub mod ShiftLaws
-pub mod AnewLaws

@@ -1,4 +1,0 @@
-pub mod Compacting
-pub mod Turns
-pub mod Finding
-pub mod FewLines
