@@ -10,7 +10,7 @@ from dataclasses import dataclass
 
 from mgr_front.channels import Post
 from mgr_front.channels.worker import Worker
-from mgr_front.copies import digest, machine, user
+from mgr_front.copies import digest, machine, state_folder, user
 from mgr_front.shared import SharedNote, text_of
 from mgr_front.wire import operations
 
@@ -22,6 +22,10 @@ OVERLAP = 4096
 
 # How a file looks from outside: size, inode and date. One that was written to looks different.
 Stamp = tuple[int, int, int]
+
+
+def stamp_of(seen: os.stat_result) -> Stamp:
+    return seen.st_size, seen.st_ino, seen.st_mtime_ns
 
 
 @dataclass(frozen=True)
@@ -36,10 +40,6 @@ class Taken:
         return Taken(stamp, self.size + len(lines), (self.tail + lines)[-OVERLAP:])
 
 
-def stamp_of(seen: os.stat_result) -> Stamp:
-    return seen.st_size, seen.st_ino, seen.st_mtime_ns
-
-
 def whole_lines(data: bytes) -> bytes:
     """Returns the lines that are whole, up to a NUL, which stands where something is still to come."""
     data = data.partition(b"\0")[0]
@@ -52,9 +52,10 @@ class Folder(Worker):
     def __init__(self, note: SharedNote, post: Post, folder: str) -> None:
         super().__init__(note, post)
         self.folder = os.path.abspath(folder)
-        # The own log has a name of this note and this folder on this machine.
         owner = [machine(), user(), os.path.realpath(note.log), os.path.realpath(folder)]
-        self.own = digest(json.dumps(owner).encode())[:32] + ".ops"
+        # Where the name of the own log is kept, for this note and this folder, on this machine alone.
+        self.kept = os.path.join(state_folder(), "folders", digest(json.dumps(owner).encode()))
+        self.own = self._kept_name() or self._draw_name()
         self.files: dict[str, Taken] = {}
         self.poll, self.last_append = LEAST_POLL, 0.0
 
@@ -67,14 +68,11 @@ class Folder(Worker):
 
     def turn(self) -> float:
         stamps = self._stamps()
-        changed = [name for name, stamp in stamps.items() if name not in self.files or self.files[name].stamp != stamp]
-        if self.own in changed and self.own in self.files and stamps[self.own][0] > self.files[self.own].size:
-            # Another one wrote to it: from now on it is that one's.
-            self.own = secrets.token_hex(16) + ".ops"
-        if self.files.keys() - stamps or not all(map(self._has_grown, changed)):
+        changed = {name: stamp for name, stamp in stamps.items() if name != self.own and not self._is_known(name, stamp)}
+        if self.files.keys() - stamps or not self._is_own(stamps) or not all(map(self._has_grown, changed)):
             self.join_all()
             return self.poll
-        news = b"".join(self._read(name, stamps[name]) for name in changed)
+        news = b"".join(self._read(name, stamp) for name, stamp in changed.items())
         self.take(operations(news.splitlines()))
         self.poll = LEAST_POLL if news or self.told else min(self.poll * SLOWER, MOST_POLL)
         left = self.last_append + LEAST_POLL - time.monotonic()
@@ -83,6 +81,8 @@ class Folder(Worker):
         self._append(self.told)
         self.passed(len(self.told))
         return self.poll
+
+    # ---- files of all
 
     def _stamps(self) -> dict[str, Stamp]:
         """Returns how each log in the folder looks."""
@@ -97,6 +97,9 @@ class Folder(Worker):
                     if stat.S_ISREG(seen.st_mode):
                         found[entry.name] = stamp_of(seen)
         return found
+
+    def _is_known(self, name: str, stamp: Stamp) -> bool:
+        return name in self.files and self.files[name].stamp == stamp
 
     def _has_grown(self, name: str) -> bool:
         """Whether a file still has what was taken of it, so that what is new stands after that."""
@@ -116,6 +119,38 @@ class Folder(Worker):
         lines = whole_lines(self._bytes(name, taken.size))
         self.files[name] = taken.after(stamp, lines)
         return lines
+
+    # ---- the own file
+
+    def _kept_name(self) -> str:
+        try:
+            with open(self.kept, encoding="ascii") as file:
+                name = file.read()
+        except (OSError, UnicodeDecodeError):
+            return ""
+        return name if re.fullmatch(r"[0-9a-f]{32}\.ops", name) else ""
+
+    def _draw_name(self) -> str:
+        """Returns a new name; where it can't be kept, the next edit begins another log."""
+        name = secrets.token_hex(16) + ".ops"
+        try:
+            os.makedirs(os.path.dirname(self.kept), mode=0o700, exist_ok=True)
+            with open(self.kept + ".new", "w", encoding="ascii") as file:
+                file.write(name)
+            os.replace(self.kept + ".new", self.kept)
+        except OSError:
+            pass
+        return name
+
+    def _is_own(self, stamps: dict[str, Stamp]) -> bool:
+        """Whether the own file is as it was left. Where another one wrote to it, a new one is begun."""
+        taken, stamp = self.files.get(self.own), stamps.get(self.own)
+        if not (taken and stamp):
+            return not (taken or stamp)
+        if stamp[0] > taken.size:
+            self.own = self._draw_name()
+        # A mount may give it another date when it was written.
+        return stamp == taken.stamp or stamp[0] == taken.size and self._has_grown(self.own)
 
     def _append(self, lines: list[bytes]) -> None:
         """Appends lines to the own file. What is half written there is cut off before."""
