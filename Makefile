@@ -44,7 +44,7 @@ test-front:
 try-live: build/mgr
 	@scripts/try_live.py build/mgr
 
-# A hub, and those who are alone at first, have another note or write under one number. It takes a minute.
+# A hub, and those who are alone at first, have another note or write under one number. It takes three minutes or more.
 try-hub: build/mgr
 	@scripts/try_hub.py build/mgr
 
@@ -57,7 +57,7 @@ try-sharing: build/mgr
 	@scripts/try_sharing.py build/mgr
 
 # Four who write in one note in terminals of tmux, by a hub, a folder, a branch of git, a stream of Redis, each disturbed.
-# It takes some twelve minutes.
+# It takes some fifteen minutes, and needs rsync and Redis.
 try-engines: build/mgr
 	@scripts/try_engines.py build/mgr
 

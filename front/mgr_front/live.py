@@ -12,7 +12,6 @@ from mgr_front.difference import splices
 from mgr_front.editor import LEAST_ROWS, MOST_ROWS, Editor
 from mgr_front.ending import finish
 from mgr_front.guests import guest_of, take_back
-from mgr_front.history import choose
 from mgr_front.joining import meet
 from mgr_front.meeting import is_served
 from mgr_front.notes import Note, Refused
@@ -73,6 +72,9 @@ def begin(mgr: str, options: Options) -> int:
     terminal_rows()
     note, company = Note(options.name), None
     if options.history:
+        # Its pager is long to load, and others wait for nothing of it.
+        from mgr_front.history import choose
+
         options.text = choose(mgr, note, options)
     if not options.way[0] and is_served(note.name):
         tell(f"a hub of this machine has {note.name}: this writes with all others there")
