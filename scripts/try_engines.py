@@ -344,14 +344,15 @@ class Trial:
         self.engine.end()
         for log in self.logs():
             expect(f"the file {log.with_suffix('')}", text, log.with_suffix("").read_text())
-        expect("what was put aside", [], self.put_aside())
+        expect("what was put aside", [], self.put_aside(set(text.split())))
         return text
 
-    def put_aside(self):
-        """Returns what stands beside the notes, but where somebody was asked."""
+    def put_aside(self, words):
+        """Returns what stands beside the notes, but where somebody was asked, and older texts of these words alone."""
         asked = [self.engine.log(person.number).parent for person in self.people if person.counts["asked"]]
         beside = [path for log in self.logs() for path in log.parent.glob("note*") if path.suffix not in ("", ".ops")]
-        return [str(path) for path in beside if path.parent not in asked]
+        found = [path for path in beside if path.parent not in asked]
+        return [str(path) for path in found if ".ops" in path.name or set(path.read_text().split()) - words]
 
 
 def expect(what, wanted, seen):
