@@ -47,8 +47,10 @@ def ended_with_its_mgr(terminal):
 
 
 def files_that_may_not_grow(terminal):
-    """a save of more than a file may have"""
-    terminal.shell(f"(ulimit -f 1; exec {terminal.live} notes --replica 1); {BEHIND}")
+    """a log that may not grow, with room for a shorter one elsewhere"""
+    edit(terminal, ["notes", "--replica", "1"], b"a" * 200 + b"\x18h\x17\x18\x13")
+    blocks = (terminal.folder / "notes.ops").stat().st_size // 1024 + 1
+    terminal.shell(f"(ulimit -f {blocks}; exec {terminal.live} notes --replica 1); {BEHIND}")
     terminal.see("start", {8: mode_line("--", "L1 C0")}, (0, 0))
     terminal.write("words " * 20)
     terminal.press("C-x", "C-s")
