@@ -36,9 +36,11 @@ try:
 	@$(NEED_RT)
 	@examples/try.sh $(BUILT)
 
-# The parts of the front, each by itself: no built mgr is needed.
+# The parts of the front, each by itself: no built mgr is needed. Then what mypy and pyflakes say, if they are installed.
 test-front:
 	@python3 -m unittest discover -s front/tests
+	@if command -v mypy > /dev/null; then cd front && mypy --strict mgr_front; else echo "mypy is not installed"; fi
+	@if command -v pyflakes3 > /dev/null; then pyflakes3 front/mgr_front; else echo "pyflakes3 is not installed"; fi
 
 # The front, in a terminal of tmux. It takes some five minutes.
 try-live: build/mgr
