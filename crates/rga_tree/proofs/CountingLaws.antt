@@ -1,19 +1,20 @@
 -- Visible elements counted back through the order, and where the order ends.
-use Rattle.std.proofs.Common.{◌≡◌, ℕ, ◌+◌, ◌<◌, ◌≤◌, true, false, cond, not, ◌&&◌, ◌||◌, Bool, List, [], ◌∷◌, ◌++◌, filter, length, length-append, is_some, suc, zero, refl, sym, ap, ◌∙◌, subst, arith, append-nil, true≢false}
+use Rattle.std.proofs.Common.{◌≡◌, ℕ, append_assoc, reverse, ◌+◌, ◌<◌, ◌≤◌, true, false, cond, not, ◌&&◌, ◌||◌, Bool, List, [], ◌∷◌, ◌++◌, filter, length, length-append, is_some, suc, zero, refl, sym, ap, ◌∙◌, subst, arith, append-nil, true≢false}
 use Rattle.std.specs.Prelude.{Option, Some, None, slice_get, nat_le}
 use Rattle.std.specs.Option.{option_map, option_map_or}
-use Rattle.std.specs.List.{AllByRecursion}
+use Rattle.std.specs.List.{AllByRecursion, cons_option, filter_map}
 use Rattle.std.specs.FinMap as finite_map
 use Rattle.std.specs.FinSet as finite_set
 use Rattle.std.proofs.lemmas.Bool.Decides.{nat_tests}
-use Rattle.std.proofs.lemmas.List.Elements.{filter-append}
+use Rattle.std.proofs.lemmas.List.{reverse-append}
+use Rattle.std.proofs.lemmas.List.Elements.{filter-append, filter_map-append}
 use Rattle.std.proofs.lemmas.List.Sums.{length-filter, count_by-le-length}
 use Rattle.std.proofs.lemmas.Option.{same_Some, none-some}
 use Rattle.std.specs.Int.{from_bool}
 use Rattle.rga_ops.specs.Identifier.{Identifier, is_id, is_root}
 use Rattle.rga_ops.specs.Content.{Element, Content, IsSound}
 use Rattle.rga_ops.specs.RootPath.{root_path, is_complete}
-use Rattle.rga_ops.specs.Order.{order, Precedes, IsInOrder}
+use Rattle.rga_ops.specs.Order.{order, shown, Precedes, IsInOrder}
 use Rattle.rga_ops.specs.Places.{is_visible, up_to, place}
 use Rattle.rga_ops.proofs.IdentifierLaws.{is_id-is, is_id-itself}
 use Rattle.rga_ops.proofs.PathLaws.{root_path-root, root_path-absent, root_path-step, inserted_if_complete}
@@ -73,11 +74,42 @@ one_bool true x = refl
 one_bool false x = refl
 
 -- the elements up to the root are none
-pub none_up_to : (c : Content) (id : Identifier) → is_root id ≡ true → visible_up_to c id ≡ []
-none_up_to c id r = ap (λ b. filter (is_visible c) (cond b [] (up_to id (order c)))) r
+pub none_up_to : (c : Content) (id : Identifier) → is_root id ≡ true → beginning c id ≡ []
+none_up_to c id r = ap (λ b. cond b [] (up_to id (order c))) r
 
 pub one_less : (c : Content) (e x : Identifier) → beginning c x ≡ beginning c e ++ x ∷ [] → visible_up_to c x ≡ visible_up_to c e ++ cond (is_visible c x) (x ∷ []) []
 one_less c e x before = ap (filter (is_visible c)) before ∙ filter-append (is_visible c) (beginning c e) (x ∷ [])
+
+-- a list made from the last to the first, and what is still to come, turned round
+pub turned : {A : Type 0} (before here items more : List A) → here ≡ before ++ more → reverse more ≡ more → before ++ reverse (items ++ more) ≡ here ++ reverse items
+turned before here items more is alike =
+    ap (λ xs. before ++ xs) (reverse-append items more ∙ ap (λ xs. xs ++ reverse items) alike)
+    ∙ sym (append_assoc before more (reverse items)) ∙ ap (λ xs. xs ++ reverse items) (sym is)
+
+pub ids_turned : (c : Content) (e x : Identifier) (b : Bool) (old new : List Identifier) → beginning c x ≡ beginning c e ++ x ∷ [] → b ≡ is_visible c x → new ≡ old ++ cond b (x ∷ []) []
+    → visible_up_to c e ++ reverse new ≡ visible_up_to c x ++ reverse old
+ids_turned c e x b old new before is more =
+    ap (λ xs. visible_up_to c e ++ reverse xs) more
+    ∙ turned (visible_up_to c e) (visible_up_to c x) old (cond b (x ∷ []) []) (one_less c e x before ∙ ap (λ v. visible_up_to c e ++ cond v (x ∷ []) []) (sym is)) (alike b)
+  where
+    alike : (v : Bool) → reverse (cond v (x ∷ []) []) ≡ cond v (x ∷ []) []
+    alike true = refl
+    alike false = refl
+
+-- the characters up to an element
+abbrev pub chars_up_to : Content → Identifier → List ℕ
+chars_up_to c id = filter_map (shown c) (beginning c id)
+
+pub chars_turned : (c : Content) (e x : Identifier) (ch : Option ℕ) (old new : List ℕ) → beginning c x ≡ beginning c e ++ x ∷ [] → ch ≡ shown c x → new ≡ old ++ cons_option ch []
+    → chars_up_to c e ++ reverse new ≡ chars_up_to c x ++ reverse old
+chars_turned c e x ch old new before is more =
+    ap (λ xs. chars_up_to c e ++ reverse xs) more
+    ∙ turned (chars_up_to c e) (chars_up_to c x) old (cons_option ch [])
+    (ap (filter_map (shown c)) before ∙ filter_map-append (shown c) (beginning c e) (x ∷ []) ∙ ap (λ o. chars_up_to c e ++ cons_option o []) (sym is)) (alike ch)
+  where
+    alike : (o : Option ℕ) → reverse (cons_option o []) ≡ cons_option o []
+    alike None = refl
+    alike (Some n) = refl
 
 -- by one where the element is visible
 pub count_less : (c : Content) (e x : Identifier) (b : Bool) → beginning c x ≡ beginning c e ++ x ∷ [] → b ≡ is_visible c x → length (visible_up_to c x) ≡ length (visible_up_to c e) + from_bool b
@@ -140,46 +172,46 @@ is_some-mapped : {A B : Type 0} (f : A → B) (o : Option A) → is_some (option
 is_some-mapped f None = refl
 is_some-mapped f (Some x) = refl
 
--- the parent of an element, and whether the element is deleted
-abbrev pub element_parent_and_mark : Bool → Element → Identifier × Bool
-element_parent_and_mark mark y = (y.parent, mark)
+-- the parent of an element, and the character that it shows
+abbrev pub element_parent_and_char : Option ℕ → Element → Identifier × Option ℕ
+element_parent_and_char ch y = (y.parent, ch)
 
 -- the same of an identifier, if it is inserted
-abbrev pub parent_and_mark : Content → Identifier → Option (Identifier × Bool)
-parent_and_mark c id = option_map (element_parent_and_mark (finite_set.contains c.deleted id)) (finite_map.get c.inserted id)
+abbrev pub parent_and_char : Content → Identifier → Option (Identifier × Option ℕ)
+parent_and_char c id = option_map (element_parent_and_char (shown c id)) (finite_map.get c.inserted id)
 
--- a parent and a mark, as such an answer
-abbrev given_parent_and_mark : Identifier → Bool → Identifier × Bool
-given_parent_and_mark p mark = (p, mark)
+-- a parent and a character, as such an answer
+abbrev given_parent_and_char : Identifier → Option ℕ → Identifier × Option ℕ
+given_parent_and_char p ch = (p, ch)
 
-pub record IsMarkedChild (c : Content) (x p : Identifier) (mark : Bool) : Type 0 where
+pub record IsShownChild (c : Content) (x p : Identifier) (ch : Option ℕ) : Type 0 where
   pub element : Element
   pub found : finite_map.get c.inserted x ≡ Some element
   pub parent : element.parent ≡ p
-  pub deleted : mark ≡ finite_set.contains c.deleted x
+  pub shows : ch ≡ shown c x
 
-pub marked_child : (c : Content) (x p : Identifier) (mark : Bool) → parent_and_mark c x ≡ Some (given_parent_and_mark p mark) → IsMarkedChild c x p mark
-marked_child c x p mark h =
-    elim (finite_map.get c.inserted x) as (λ o. finite_map.get c.inserted x ≡ o → option_map (element_parent_and_mark (finite_set.contains c.deleted x)) o ≡ Some (given_parent_and_mark p mark) → IsMarkedChild c x p mark) [
+pub shown_child : (c : Content) (x p : Identifier) (ch : Option ℕ) → parent_and_char c x ≡ Some (given_parent_and_char p ch) → IsShownChild c x p ch
+shown_child c x p ch h =
+    elim (finite_map.get c.inserted x) as (λ o. finite_map.get c.inserted x ≡ o → option_map (element_parent_and_char (shown c x)) o ≡ Some (given_parent_and_char p ch) → IsShownChild c x p ch) [
       | None ↦ λ g h. absurd (none-some _ h)
       | Some y ↦ λ g h.
-          let same : element_parent_and_mark (finite_set.contains c.deleted x) y ≡ given_parent_and_mark p mark = same_Some _ _ h in
-          record { element = y; found = g; parent = ap (λ q. q.0) same; deleted = sym (ap (λ q. q.1) same) }
+          let same : element_parent_and_char (shown c x) y ≡ given_parent_and_char p ch = same_Some _ _ h in
+          record { element = y; found = g; parent = ap (λ q. q.0) same; shows = sym (ap (λ q. q.1) same) }
     ] refl h
 
-pub child_of_parent : (c : Content) (x p : Identifier) (mark : Bool) → IsMarkedChild c x p mark → is_child c p x ≡ true
-child_of_parent c x p mark w =
+pub child_of_parent : (c : Content) (x p : Identifier) (ch : Option ℕ) → IsShownChild c x p ch → is_child c p x ≡ true
+child_of_parent c x p ch w =
     ap (λ (o : Option Element). option_map_or (λ y. is_id y.parent p) o false) w.found ∙ ap (λ y. is_id y p) w.parent ∙ is_id-itself p
 
-pub absent : (c : Content) (x : Identifier) → parent_and_mark c x ≡ None → finite_map.get c.inserted x ≡ None
+pub absent : (c : Content) (x : Identifier) → parent_and_char c x ≡ None → finite_map.get c.inserted x ≡ None
 absent c x h =
-    elim (finite_map.get c.inserted x) as (λ o. option_map (element_parent_and_mark (finite_set.contains c.deleted x)) o ≡ None → o ≡ None) [
+    elim (finite_map.get c.inserted x) as (λ o. option_map (element_parent_and_char (shown c x)) o ≡ None → o ≡ None) [
       | None ↦ λ h. refl
       | Some y ↦ λ h. absurd (none-some _ (sym h))
     ] h
 
 -- what stands and is not inserted is the root
-pub root_if_absent : (c : Content) (x : Identifier) → Stands c x → parent_and_mark c x ≡ None → is_root x ≡ true
+pub root_if_absent : (c : Content) (x : Identifier) → Stands c x → parent_and_char c x ≡ None → is_root x ≡ true
 root_if_absent c x stands h =
     elim (is_root x) as (λ b. (b ≡ false → is_complete c x ≡ true) → b ≡ true) [
       | true ↦ λ s. refl
@@ -191,7 +223,7 @@ root_if_absent c x stands h =
 proper : (c : Content) → IsSound c → (x : Identifier) (y : Element) → finite_map.get c.inserted x ≡ Some y → (is_root x ≡ false) × (nat_le x.counter y.parent.counter ≡ false)
 proper c sound x y g = well_formed_insertion x y.parent y.ch (sound (Insert x y.parent y.ch) g)
 
-module _ (c : Content) (sound : IsSound c) (x p : Identifier) (mark : Bool) (w : IsMarkedChild c x p mark) where
+module _ (c : Content) (sound : IsSound c) (x p : Identifier) (ch : Option ℕ) (w : IsShownChild c x p ch) where
   pub no_root : is_root x ≡ false
   no_root = (proper c sound x w.element w.found).0
 
@@ -207,7 +239,7 @@ module _ (c : Content) (sound : IsSound c) (x p : Identifier) (mark : Bool) (w :
       ap is_some (root_path-step c x w.element no_root w.found) ∙ is_some-mapped (λ q. q ++ x ∷ []) (root_path c w.element.parent)
       ∙ ap (λ q. is_some (root_path c q)) w.parent
 
-pub reaches_if_root : (c : Content) (x : Identifier) → parent_and_mark c x ≡ None → is_root x ≡ is_some (root_path c x)
+pub reaches_if_root : (c : Content) (x : Identifier) → parent_and_char c x ≡ None → is_root x ≡ is_some (root_path c x)
 reaches_if_root c x h =
     elim (is_root x) as (λ b. is_root x ≡ b → b ≡ is_some (root_path c x)) [
       | true ↦ λ r. ap is_some (sym (root_path-root c x r))
@@ -225,6 +257,12 @@ no_place_if_not c x h =
       | false ↦ λ r. ap (λ b. cond b (Some (length (filter (is_visible c) (up_to x (order c))))) None) (sym h)
     ] refl
 
--- a complete element is visible where it is not deleted
-pub visible_unless : (c : Content) (x p : Identifier) (mark : Bool) → IsMarkedChild c x p mark → is_complete c x ≡ true → not mark ≡ is_visible c x
-visible_unless c x p mark w complete = λ k. sym complete k && not (w.deleted k)
+-- a complete element is visible where it shows a character
+pub visible_if_shown : (c : Content) (x p : Identifier) (ch : Option ℕ) → IsShownChild c x p ch → is_complete c x ≡ true → is_some ch ≡ is_visible c x
+visible_if_shown c x p ch w complete =
+    ap is_some w.shows
+    ∙ elim (finite_set.contains c.deleted x) as (λ b. is_some (cond b None (option_map (λ (y : Element). y.ch) (finite_map.get c.inserted x))) ≡ not b) [
+      | true ↦ refl
+      | false ↦ ap (λ o. is_some (option_map (λ (y : Element). y.ch) o)) w.found
+    ]
+    ∙ (λ k. sym complete k && not (finite_set.contains c.deleted x))

@@ -3,8 +3,6 @@ pub mod ChildLaws
 pub mod FamilyLaws
 pub mod NodeLaws
 pub mod PickedLaws
-pub mod WalkLaws
-pub mod ShownLaws
 pub mod TreeLaws
 pub mod RootedLaws
 pub mod MergingLaws

@@ -84,20 +84,6 @@ impl ChildList {
             ChildList::Many(set) => next_among_many(set, id),
         }
     }
-
-    /// The children go onto a stack, the newest on top.
-    pub(crate) fn push_onto(&self, stack: &mut Vec<Id>) -> Result<(), Refusal>
-        ensures ok { OnOk result (stack.new.items ≡ stack.old.items ++ children_in self.now) }
-        ensures memory { IfErr result (λ e. e ≡ Refusal.Memory) }
-    {
-        match self {
-            ChildList::Few(few) => {
-                stack.extend_from_slice(few.as_slice())?;
-                Ok(())
-            }
-            ChildList::Many(set) => push_set(stack, set),
-        }
-    }
 }
 
 /// Where a child goes in that is not there.
@@ -182,14 +168,4 @@ fn next_among_many(set: &BTreeSet<Id>, id: Id) -> Option<Id>
         Some(child) => Some(*child),
         None => None,
     }
-}
-
-fn push_set(stack: &mut Vec<Id>, set: &BTreeSet<Id>) -> Result<(), Refusal>
-    ensures ok { OnOk result (stack.new.items ≡ stack.old.items ++ set.now.keys) }
-    ensures memory { IfErr result (λ e. e ≡ Refusal.Memory) }
-{
-    for id in set {
-        stack.push(*id)?;
-    }
-    Ok(())
 }

@@ -1,18 +1,18 @@
 //! Visible elements counted from an element back through the order, by look-ups. Takes no memory.
-ghost use Rattle.std.specs.Prelude.{◌≡◌, ◌≤◌, ◌++◌, ◌∷◌, [], false, true, length, slice_get, is_some, None, IfSome};
+ghost use Rattle.std.specs.Prelude.{◌≡◌, ◌≤◌, ◌++◌, ◌∷◌, [], false, true, length, slice_get, is_some, None, Some, IfSome};
 ghost use Rattle.std.specs.Option.{option_map};
 ghost use Rattle.std.specs.FinMap as finite_map;
-ghost use Rattle.std.specs.FinSet as finite_set;
 ghost use Rattle.rga_ops.specs.Prelude.{is_root, order, place, visible, IsSound};
 ghost use Rattle.rga_ops.specs.RootPath.{is_complete, root_path};
+ghost use Rattle.rga_ops.specs.Order.{shown};
 ghost use Rattle.rga_ops.specs.Places.{is_visible};
 ghost use Rattle.rga_store.specs.declared.text_store.TheConstants.{MAX_LIMIT};
-ghost use Rattle.rga_tree.specs.Nodes.{content_of_nodes, AreDistinctNodes};
+ghost use Rattle.rga_tree.specs.Nodes.{content_of_nodes, char_at, AreDistinctNodes};
 ghost use Rattle.rga_tree.specs.Preceding.{beginning, visible_up_to};
 ghost use Rattle.rga_tree.specs.Tree.{HasFamilies};
 
-use crate::nodes::Node;
-use crate::preceding::{element_before, find_near, last_under};
+use crate::nodes::{Node, find_node};
+use crate::preceding::{element_before, last_under};
 use indexmap::IndexMap;
 use rga_ops::Id;
 
@@ -42,8 +42,8 @@ pub(crate) fn element_at(nodes: &IndexMap<Id, Node>, k: usize) -> Option<Id>
         return None;
     }
     while let Some(step) = step_back(nodes, &mut near, at) {
-        let (before, visible) = step;
-        count -= usize::from(visible);
+        let (before, ch) = step;
+        count -= usize::from(ch.is_some());
         if count <= k {
             return Some(at);
         }
@@ -81,15 +81,19 @@ fn count_up_to(nodes: &IndexMap<Id, Node>, id: Id) -> usize
     let mut near = 0;
     let mut count = 0;
     while let Some(step) = step_back(nodes, &mut near, at) {
-        let (before, visible) = step;
-        count += usize::from(visible);
+        let (before, ch) = step;
+        count += usize::from(ch.is_some());
         at = before;
     }
     count
 }
 
-/// What stands directly before an element, and whether the element is visible; none for the root.
-fn step_back(nodes: &IndexMap<Id, Node>, near: &mut usize, id: Id) -> Option<(Id, bool)>
+/// What stands directly before an element, and its character if it is visible; none for the root.
+pub(crate) fn step_back(
+    nodes: &IndexMap<Id, Node>,
+    near: &mut usize,
+    id: Id,
+) -> Option<(Id, Option<char>)>
     requires apart { AreDistinctNodes nodes.now.entries }
     requires family { HasFamilies nodes.now.entries }
     requires sound { IsSound (content_of_nodes nodes.now.entries) }
@@ -98,17 +102,19 @@ fn step_back(nodes: &IndexMap<Id, Node>, near: &mut usize, id: Id) -> Option<(Id
     ensures before { let content = content_of_nodes nodes.now.entries in IfSome result
         (λ p. beginning content id ≡ beginning content p.0 ++ id ∷ []) }
     ensures visible { let content = content_of_nodes nodes.now.entries in IfSome result
-        (λ p. p.1 ≡ is_visible content id) }
+        (λ p. is_some p.1 ≡ is_visible content id) }
+    ensures shown { let content = content_of_nodes nodes.now.entries in IfSome result
+        (λ p. p.1 ≡ shown content id) }
     ensures complete { let content = content_of_nodes nodes.now.entries in IfSome result
         (λ p. is_root p.0 ≡ false → is_complete content p.0 ≡ true) }
     ensures root { result ≡ None → is_root id ≡ true }
 {
-    let (parent, deleted) = parent_and_mark(nodes, near, id)?;
-    Some((element_before(nodes, near, parent, id), !deleted))
+    let (parent, ch) = parent_and_char(nodes, near, id)?;
+    Some((element_before(nodes, near, parent, id), ch))
 }
 
 /// The last element of the order; the root where there is none.
-fn last_element(nodes: &IndexMap<Id, Node>) -> Id
+pub(crate) fn last_element(nodes: &IndexMap<Id, Node>) -> Id
     requires family { HasFamilies nodes.now.entries }
     requires sound { IsSound (content_of_nodes nodes.now.entries) }
     ensures last { beginning (content_of_nodes nodes.now.entries) result
@@ -127,22 +133,36 @@ fn reaches_root(nodes: &IndexMap<Id, Node>, id: Id) -> bool
 {
     let mut at = id;
     let mut near = 0;
-    while let Some(child) = parent_and_mark(nodes, &mut near, at) {
+    while let Some(child) = parent_and_char(nodes, &mut near, at) {
         at = child.0;
     }
     at == Id::ROOT
 }
 
-/// The parent of an inserted element, and whether the element is deleted. It leaves the index
+/// The parent of an inserted element, and its character unless it is deleted. It leaves the index
 /// before the element's own at `near`: the parent's node mostly stands there.
-fn parent_and_mark(nodes: &IndexMap<Id, Node>, near: &mut usize, id: Id) -> Option<(Id, bool)>
+fn parent_and_char(
+    nodes: &IndexMap<Id, Node>,
+    near: &mut usize,
+    id: Id,
+) -> Option<(Id, Option<char>)>
     requires { AreDistinctNodes nodes.now.entries }
     ensures { let content = content_of_nodes nodes.now.entries in result ≡ option_map
-        (λ x. (x.parent, finite_set.contains content.deleted id))
-        (finite_map.get content.inserted id) }
+        (λ x. (x.parent, shown content id)) (finite_map.get content.inserted id) }
 {
-    let node = find_near(nodes, near, id)?;
+    let node = find_node(nodes, near, id)?;
     *near = near.wrapping_sub(1);
     let (parent, _) = node.element?;
-    Some((parent, node.deleted))
+    Some((parent, char_of(node)))
+}
+
+/// The character of a node that is inserted and not deleted.
+fn char_of(node: &Node) -> Option<char>
+    ensures { result ≡ char_at (Some node.now) }
+{
+    if node.deleted {
+        return None;
+    }
+    let (_, ch) = node.element?;
+    Some(ch)
 }

@@ -9,7 +9,6 @@
 
 mod child_list;
 mod counting_back;
-mod elements;
 mod merging;
 mod nodes;
 mod operations;

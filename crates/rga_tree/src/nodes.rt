@@ -219,42 +219,21 @@ pub(crate) fn remove_child(nodes: &mut IndexMap<Id, Node>, parent: Id, id: Id)
     }
 }
 
-/// The children of a parent go onto a stack, the newest on top. Gives the parent's node.
-pub(crate) fn push_children<'a>(
-    stack: &mut Vec<Id>,
-    nodes: &'a IndexMap<Id, Node>,
-    next: &mut usize,
-    parent: Id,
-) -> Result<Option<&'a Node>, Refusal>
-    ensures node { IfOk result
-        (λ node. option_copied node ≡ lookup (is_id parent) nodes.now.entries) }
-    ensures stack { OnOk result
-        (stack.new.items ≡ stack.old.items ++ children_of nodes.now.entries parent) }
-    ensures memory { IfErr result (λ e. e ≡ Refusal.Memory) }
-{
-    let found = find_node(nodes, next, parent);
-    if let Some(node) = found {
-        node.children.push_onto(stack)?;
-    }
-    Ok(found)
-}
-
-/// The node of an identifier. It is looked for first at the index `next`, whichever that is, which
-/// then becomes the index behind it: what is asked for in turn was mostly taken in turn.
+/// The node of an identifier. It is looked for first at the index `near`, whichever that is, which
+/// then becomes the index where it is.
 pub(crate) fn find_node<'a>(
     nodes: &'a IndexMap<Id, Node>,
-    next: &mut usize,
+    near: &mut usize,
     id: Id,
 ) -> Option<&'a Node>
     ensures { option_copied result ≡ lookup (is_id id) nodes.now.entries }
 {
-    if let Some((found, node)) = nodes.get_index(*next) {
+    if let Some((found, node)) = nodes.get_index(*near) {
         if *found == id {
-            *next = next.wrapping_add(1);
             return Some(node);
         }
     }
     let (index, _, node) = nodes.get_full(&id)?;
-    *next = index.wrapping_add(1);
+    *near = index;
     Some(node)
 }

@@ -1,28 +1,15 @@
 //! A content as a list of operations.
-ghost use Rattle.std.specs.Prelude.{◌≡◌, ◌++◌, map, IfOk, IfErr, OnOk};
+ghost use Rattle.std.specs.Prelude.{◌≡◌, ◌++◌, map, IfErr, OnOk};
 ghost use Rattle.std.specs.List.{filter_map};
 ghost use Rattle.std.specs.FinMap as finite_map;
 ghost use Rattle.std.specs.FinSet as finite_set;
-ghost use Rattle.rga_ops.specs.Operations.{operations, insertion_at, rising};
+ghost use Rattle.rga_ops.specs.Operations.{insertion_at, rising};
 ghost use Rattle.rga_tree.specs.Nodes.{content_of_nodes, inserted_ids, marked_ids, AreDistinctNodes};
 
 use crate::nodes::Node;
 use indexmap::IndexMap;
 use rga_ops::{Id, Op, Refusal};
 use std::alloc::Global;
-
-/// The insertions by rising identifier, and then the deletions by rising identifier.
-pub(crate) fn operations_of(alloc: Global, nodes: &IndexMap<Id, Node>) -> Result<Vec<Op>, Refusal>
-    requires { AreDistinctNodes nodes.now.entries }
-    ensures ok { IfOk result
-        (λ ops. ops.items ≡ operations (content_of_nodes nodes.now.entries)) }
-    ensures memory { IfErr result (λ e. e ≡ Refusal.Memory) }
-{
-    let mut ops = Vec::new(alloc);
-    list_insertions(alloc, &mut ops, nodes)?;
-    list_deletions(alloc, &mut ops, nodes)?;
-    Ok(ops)
-}
 
 /// Adds the insertions by rising identifier.
 pub(crate) fn list_insertions(

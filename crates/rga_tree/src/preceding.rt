@@ -1,8 +1,6 @@
 //! Back through the order, one element at a time, by look-ups. Takes no memory.
 ghost use Rattle.std.specs.Prelude.{◌≡◌, ◌++◌, ◌∷◌, [], slice_get, true, false};
-ghost use Rattle.std.specs.Map.{lookup};
-ghost use Rattle.std.specs.Option.{option_copied};
-ghost use Rattle.rga_ops.specs.Prelude.{is_id, is_root, IsSound};
+ghost use Rattle.rga_ops.specs.Prelude.{is_root, IsSound};
 ghost use Rattle.rga_ops.specs.RootPath.{is_complete};
 ghost use Rattle.rga_tree.specs.Children.{next_newer};
 ghost use Rattle.rga_tree.specs.Nodes.{content_of_nodes, children_of};
@@ -43,36 +41,24 @@ pub(crate) fn last_under(nodes: &IndexMap<Id, Node>, id: Id) -> Id
     ensures { IsLastUnder (content_of_nodes nodes.now.entries) id result }
 {
     let mut last = id;
-    let mut next = 0;
-    while let Some(child) = oldest_child(nodes, &mut next, last) {
+    let mut near = 0;
+    while let Some(child) = oldest_child(nodes, &mut near, last) {
         last = child;
     }
     last
 }
 
-/// The parent is looked for first at the index `next` (`find_node`).
-fn oldest_child(nodes: &IndexMap<Id, Node>, next: &mut usize, parent: Id) -> Option<Id>
+/// It leaves the index behind the parent's at `near`: its oldest child's node mostly stands there.
+fn oldest_child(nodes: &IndexMap<Id, Node>, near: &mut usize, parent: Id) -> Option<Id>
     ensures { result ≡ slice_get (children_of nodes.now.entries parent) 0 }
 {
-    find_node(nodes, next, parent)?.children.oldest()
+    let node = find_node(nodes, near, parent)?;
+    *near = near.wrapping_add(1);
+    node.children.oldest()
 }
 
 fn newer_sibling(nodes: &IndexMap<Id, Node>, near: &mut usize, parent: Id, id: Id) -> Option<Id>
     ensures { result ≡ next_newer id (children_of nodes.now.entries parent) }
 {
-    find_near(nodes, near, parent)?.children.next_newer(id)
-}
-
-/// The node of an identifier. It is looked for first at the index `near`, whichever that is, which
-/// then becomes the index where it is.
-pub(crate) fn find_near<'a>(
-    nodes: &'a IndexMap<Id, Node>,
-    near: &mut usize,
-    id: Id,
-) -> Option<&'a Node>
-    ensures { option_copied result ≡ lookup (is_id id) nodes.now.entries }
-{
-    let found = find_node(nodes, near, id);
-    *near = near.wrapping_sub(1);
-    found
+    find_node(nodes, near, parent)?.children.next_newer(id)
 }

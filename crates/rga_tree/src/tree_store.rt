@@ -10,19 +10,17 @@ mod removal;
 mod whole_list;
 
 use crate::counting_back::{element_at, place_of, visible_len};
-use crate::elements::elements;
 use crate::merging::{count_unknown, knows, least_conflict};
 use crate::nodes::{Node, add_child, ensure_node, found_at, mark, set_element};
-use crate::operations::operations_of;
+use crate::operations::{list_deletions, list_insertions};
 use crate::telling::{tell_deletions, tell_insertions};
-use crate::walk::{walked, walked_text, walked_visible};
+use crate::walk::{encoded, walked, walked_visible};
 use indexmap::IndexMap;
 use rga_ops::{Found, Id, Op, Refusal, Taken, answer_to};
 use rga_store::counts::{count_unless, raise};
 use rga_store::{Listener, Lookup, MAX_LIMIT, Taker, Teller, TextStore, answer_to_list};
 use std::alloc::Global;
 use std::marker::Model;
-use whole_list::take_one_by_one;
 
 /// The timestamped insertion tree of Attiya and others 2016: a node for each identifier that is
 /// inserted, deleted or named as a parent, the root among these, and under each node its children.
@@ -254,13 +252,13 @@ impl TextStore for TreeStore {
     }
 
     fn text(&self, alloc: Global) -> Result<Vec<char>, Refusal> {
-        let room = Vec::with_capacity(alloc, self.nodes.len())?;
-        walked_text(alloc, room, &self.nodes)
+        let (_ids, chars) = walked_visible(alloc, &self.nodes)?;
+        Ok(chars)
     }
 
     fn text_string(&self, alloc: Global) -> Result<String, Refusal> {
-        let room = String::with_capacity(alloc, self.nodes.len())?;
-        walked_text(alloc, room, &self.nodes)
+        let chars = self.text(alloc)?;
+        encoded(alloc, &chars)
     }
 
     fn visible(&self, alloc: Global) -> Result<(Vec<Id>, Vec<char>), Refusal> {
@@ -276,7 +274,10 @@ impl TextStore for TreeStore {
     }
 
     fn elements(&self, alloc: Global, lo: usize, hi: usize) -> Result<Vec<Id>, Refusal> {
-        elements(alloc, &self.nodes, lo, hi)
+        let (mut ids, _chars) = walked_visible(alloc, &self.nodes)?;
+        ids.truncate(hi);
+        ids.drain(..lo.min(ids.len()));
+        Ok(ids)
     }
 
     fn place_of(&self, id: Id) -> Option<usize> {
@@ -292,14 +293,18 @@ impl TextStore for TreeStore {
     }
 
     fn ops(&self) -> Result<Vec<Op>, Refusal> {
-        operations_of(self.alloc, &self.nodes)
+        let mut ops = Vec::new(self.alloc);
+        list_insertions(self.alloc, &mut ops, &self.nodes)?;
+        list_deletions(self.alloc, &mut ops, &self.nodes)?;
+        Ok(ops)
     }
 
     fn copy(&self) -> Result<TreeStore, Refusal> {
-        let ops = self.ops()?;
         let mut copy = TreeStore::new(self.alloc, self.limit)?;
-        take_one_by_one(&mut copy, &ops)?;
-        Ok(copy)
+        if copy.merge(self).is_ok() {
+            return Ok(copy);
+        }
+        Err(Refusal::Memory)
     }
 
     fn merge(&mut self, other: &TreeStore) -> Result<(), Refusal> {

@@ -1,6 +1,6 @@
 //! Lists of operations, taken whole or not at all. What was taken of a list is removed again where
 //! one of it is refused, and that takes no memory.
-ghost use Rattle.std.specs.Prelude.{◌≡◌, ◌≢◌, Ok, Err, IsOk, OnOk, OnErr, IfErr};
+ghost use Rattle.std.specs.Prelude.{◌≡◌, ◌≢◌, Ok, Err, OnOk, OnErr, IfErr};
 ghost use Rattle.rga_ops.specs.Content.{join, single};
 ghost use Rattle.rga_ops.specs.Answer.{answer, taken, taken_one_by_one};
 ghost use Rattle.rga_store.specs.Back.{without_noted, CanTakeBack};
@@ -8,21 +8,6 @@ ghost use Rattle.rga_store.specs.Back.{without_noted, CanTakeBack};
 use super::TreeStore;
 use rga_ops::{Op, Refusal, Taken};
 use rga_store::{Step, Taker, note};
-
-/// Takes the operations one by one, each of which can be taken. `Memory` alone, and then those
-/// before it are taken.
-pub(super) fn take_one_by_one(store: &mut TreeStore, ops: &[Op]) -> Result<(), Refusal>
-    requires { IsOk (taken_one_by_one store.old.limit store.old.content ops.now) }
-    ensures ok { OnOk result
-        (taken_one_by_one store.old.limit store.old.content ops.now ≡ Ok store.new.content) }
-    ensures memory { IfErr result (λ e. e ≡ Refusal.Memory) }
-    ensures limit { store.new.limit ≡ store.old.limit }
-{
-    for op in ops {
-        let _taken = store.apply(*op)?;
-    }
-    Ok(())
-}
 
 impl TreeStore {
     /// Takes the operations one by one, or none of them: the first that is refused leaves all as it

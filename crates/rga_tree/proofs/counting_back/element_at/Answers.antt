@@ -32,12 +32,12 @@ loop-step-smaller c = shorter (content_of_nodes c.args.nodes.now.entries) c.in-S
 pub overflow_sub-count : goal.overflow_sub-count
 overflow_sub-count c =
     let held : Content = content_of_nodes c.args.nodes.now.entries in
-    omega (arith, c.loop-step.invariant.counted, count_less held c.in-Some.step.0 c.loop-step.at c.in-Some.step.1 c.in-Some.ensures.before c.in-Some.ensures.visible, c.from-count.ensures)
+    omega (arith, c.loop-step.invariant.counted, count_less held c.in-Some.step.0 c.loop-step.at c.is_some.result c.in-Some.ensures.before (c.is_some.ensures ∙ c.in-Some.ensures.visible), c.from-count.ensures)
 
 pub returns-then-count-k-2 : goal.returns-then-count-k-2
 returns-then-count-k-2 c =
     let held : Content = content_of_nodes c.args.nodes.now.entries in
-    let less : length (visible_up_to held c.loop-step.at) ≡ length (visible_up_to held c.in-Some.step.0) + from_bool c.in-Some.step.1 = count_less held c.in-Some.step.0 c.loop-step.at c.in-Some.step.1 c.in-Some.ensures.before c.in-Some.ensures.visible in
+    let less : length (visible_up_to held c.loop-step.at) ≡ length (visible_up_to held c.in-Some.step.0) + from_bool c.is_some.result = count_less held c.in-Some.step.0 c.loop-step.at c.is_some.result c.in-Some.ensures.before (c.is_some.ensures ∙ c.in-Some.ensures.visible) in
     let reached : length (visible_up_to held c.in-Some.step.0) ≤ c.args.k = omega (arith, c.loop-step.invariant.counted, less, c.from-count.ensures) in
     let within : c.args.k < length (visible_up_to held c.loop-step.at) = omega (arith, c.loop-step.invariant.counted, c.loop-step.invariant.within) in
     sym (c.loop-step.invariant.same ∙ at_here held c.in-Some.step.0 c.loop-step.at c.args.k c.in-Some.ensures.before within reached)
@@ -45,7 +45,7 @@ returns-then-count-k-2 c =
 pub loop-step-preserved : goal.loop-step-preserved
 loop-step-preserved c =
     let held : Content = content_of_nodes c.args.nodes.now.entries in
-    let less : length (visible_up_to held c.loop-step.at) ≡ length (visible_up_to held c.in-Some.step.0) + from_bool c.in-Some.step.1 = count_less held c.in-Some.step.0 c.loop-step.at c.in-Some.step.1 c.in-Some.ensures.before c.in-Some.ensures.visible in
+    let less : length (visible_up_to held c.loop-step.at) ≡ length (visible_up_to held c.in-Some.step.0) + from_bool c.is_some.result = count_less held c.in-Some.step.0 c.loop-step.at c.is_some.result c.in-Some.ensures.before (c.is_some.ensures ∙ c.in-Some.ensures.visible) in
     let within : c.args.k < length (visible_up_to held c.in-Some.step.0) = omega (arith, c.loop-step.invariant.counted, less, c.from-count.ensures) in
     record {
       stands = c.in-Some.ensures.complete;
@@ -57,4 +57,4 @@ loop-step-preserved c =
 pub returns : goal.returns
 returns c =
     let held : Content = content_of_nodes c.args.nodes.now.entries in
-    sym (c.loop-step.invariant.same ∙ ap (λ xs. slice_get xs c.args.k) (none_up_to held c.loop-step.at (c.in_default.ensures.root refl)))
+    sym (c.loop-step.invariant.same ∙ ap (λ xs. slice_get (filter (is_visible held) xs) c.args.k) (none_up_to held c.loop-step.at (c.in_default.ensures.root refl)))

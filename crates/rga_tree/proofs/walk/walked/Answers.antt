@@ -1,37 +1,34 @@
-use Rattle.std.proofs.Common.{◌≡◌, ◌-◌, take, List, [], ◌∷◌, ◌++◌, sym, ap, ◌∙◌, subst}
-use Rattle.rga_ops.specs.Identifier.{Identifier, root}
+use Rattle.std.proofs.Common.{◌∷◌, [], ◌++◌, reverse, refl, sym, ap, ◌∙◌, append-nil}
 use Rattle.rga_ops.specs.Content.{Content}
-use Rattle.rga_tree.specs.Nodes.{content_of_nodes, children_of}
-use Rattle.rga_tree.proofs.WalkLaws.{IsWalk, walk_start, walk_step, walk_smaller, walk_order}
+use Rattle.rga_tree.specs.Nodes.{content_of_nodes}
+use Rattle.rga_tree.specs.Preceding.{beginning}
+use Rattle.rga_tree.proofs.CountingLaws.{none_up_to, shorter, turned}
 use Rattle.rga_tree.proofs.walk.walked.Goals as goal
 
-pub loop-id-init : goal.loop-id-init
-loop-id-init c =
+pub loop-step-init : goal.loop-step-init
+loop-step-init c =
     let held : Content = content_of_nodes c.args.nodes.now.entries in
-    let lists : Identifier → List Identifier = children_of c.args.nodes.now.entries in
-    subst (λ done. IsWalk held done c.push_children.new.stack.items) (sym c.in_ok-order.ensures.items)
-    (walk_start held lists c.requires.family c.requires.sound c.push_children.new.stack.items
-    (c.in_ok-push_children.ensures.stack ∙ ap (λ xs. xs ++ lists root) c.new-stack.ensures.items))
+    record {
+      stands = c.last_element-at.ensures.complete;
+      listed = ap (λ xs. beginning held c.last_element-at.result ++ reverse xs) c.in_ok-order.ensures.items
+          ∙ append-nil (beginning held c.last_element-at.result) ∙ c.last_element-at.ensures.last;
+    }
 
-pub loop-id-smaller : goal.loop-id-smaller
-loop-id-smaller c =
-    walk_smaller (content_of_nodes c.args.nodes.now.entries) (children_of c.args.nodes.now.entries) c.requires.family c.requires.sound
-    c.loop-id.order.items c.loop-id.stack.items c.push_children-in-Some.new.stack.items c.pop.new.self.items c.in-Some.id
-    c.in-Some.ensures.items c.in_ok-push_children-2.ensures.stack c.loop-id.invariant
+pub loop-step-smaller : goal.loop-step-smaller
+loop-step-smaller c = shorter (content_of_nodes c.args.nodes.now.entries) c.in-Some.step.0 c.loop-step.at c.in-Some.ensures.before
 
-pub loop-id-preserved : goal.loop-id-preserved
-loop-id-preserved c =
-    let pushed : c.push.new.self.items ≡ c.loop-id.order.items ++ c.in-Some.id ∷ [] =
-    c.in_ok-push.ensures.items in
-    subst (λ done. IsWalk (content_of_nodes c.args.nodes.now.entries) done c.push_children-in-Some.new.stack.items) (sym pushed)
-    (walk_step (content_of_nodes c.args.nodes.now.entries) (children_of c.args.nodes.now.entries) c.requires.family c.requires.sound
-    c.loop-id.order.items c.loop-id.stack.items c.push_children-in-Some.new.stack.items c.pop.new.self.items c.in-Some.id
-    c.in-Some.ensures.items c.in_ok-push_children-2.ensures.stack c.loop-id.invariant)
+pub loop-step-preserved : goal.loop-step-preserved
+loop-step-preserved c =
+    let held : Content = content_of_nodes c.args.nodes.now.entries in
+    record {
+      stands = c.in-Some.ensures.complete;
+      listed = ap (λ xs. beginning held c.in-Some.step.0 ++ reverse xs) c.in_ok-push.ensures.items
+          ∙ turned (beginning held c.in-Some.step.0) (beginning held c.loop-step.at) c.loop-step.order.items (c.loop-step.at ∷ []) c.in-Some.ensures.before refl
+          ∙ c.loop-step.invariant.listed;
+    }
 
 pub returns-clause-ok : goal.returns-clause-ok
 returns-clause-ok c =
-    let held : Content = content_of_nodes c.args.nodes.now.entries in
-    let left : c.loop-id.stack.items ≡ [] =
-    c.in_default.ensures.items ∙ ap (λ xs. xs ++ []) (c.in_default.ensures.rest ∙ ap (λ n. take (n - 1) c.loop-id.stack.items) c.in_default.ensures.cases.0) in
-    walk_order held (children_of c.args.nodes.now.entries) c.requires.family c.requires.sound c.loop-id.order.items
-    (subst (λ todo. IsWalk held c.loop-id.order.items todo) left c.loop-id.invariant)
+    c.reverse.ensures.items
+    ∙ ap (λ xs. xs ++ reverse c.loop-step.order.items) (sym (none_up_to (content_of_nodes c.args.nodes.now.entries) c.loop-step.at (c.in_default.ensures.root refl)))
+    ∙ c.loop-step.invariant.listed
