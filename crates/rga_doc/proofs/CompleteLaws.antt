@@ -2,14 +2,12 @@
 use Rattle.std.proofs.Common.{◌≡◌, Bool, true, false, cond, not, ◌||◌, is_some, List, [], ◌∷◌, filter, length, refl, sym, ap, ◌∙◌, true≢false, arith}
 use Rattle.std.specs.List.{list_any}
 use Rattle.std.specs.FinMap as finite_map
-use Rattle.rga_ops.specs.Identifier.{Identifier, is_id}
+use Rattle.rga_ops.specs.Identifier.{Identifier}
 use Rattle.rga_ops.specs.Content.{Content}
 use Rattle.rga_ops.specs.RootPath.{is_complete}
-use Rattle.rga_ops.specs.Order.{order, waiting}
+use Rattle.rga_ops.specs.Order.{waiting}
 use Rattle.rga_ops.proofs.IdentifierLaws.{is, same_id}
 use Rattle.rga_ops.proofs.PathLaws.{inserted_if_complete}
-use Rattle.rga_ops.proofs.OrderLaws.{order_list}
-use Rattle.rga_doc.proofs.RevertSets.{any_id}
 
 -- where all pass, one that does not is not there
 none_there : (p : Identifier → Bool) (xs : List Identifier) (q : Identifier) → length (filter (λ x. not (p x)) xs) ≡ 0 → p q ≡ false → list_any (is q) xs ≡ false
@@ -30,7 +28,3 @@ inserted_complete c none id = elim (is_complete c id) as (λ b. is_complete c id
   | true ↦ λ t. ap is_some (inserted_if_complete c id t).1
   | false ↦ λ f. finite_map.contains_key-keys c.inserted id ∙ none_there (is_complete c) (finite_map.keys c.inserted) id none f
 ] refl
-
--- the order has the complete elements
-pub ordered_complete : (c : Content) (id : Identifier) → list_any (is_id id) (order c) ≡ is_complete c id
-ordered_complete c id = any_id id (order c) ∙ (order_list c).elements id

@@ -1,9 +1,9 @@
 -- Local edits: the operations of an allowed splice, and of several in turn, are taken, and they change the text and the
 -- order at their place.
-use Rattle.std.proofs.Common.{◌≡◌, ℕ, ◌+◌, ◌≤◌, suc, Bool, true, false, cond, ◌&&◌, nat_le, nat_lt, leb-true, ltb-false, List, [], ◌∷◌, ◌++◌, map, take, drop, length, refl, sym, ap, ◌∙◌, subst, arith, drop_at, drop-drop, length-take-le}
+use Rattle.std.proofs.Common.{◌≡◌, ℕ, ◌+◌, ◌<◌, ◌≤◌, suc, Bool, true, false, cond, ◌&&◌, nat_le, nat_lt, leb-true, ltb-false, List, [], ◌∷◌, ◌++◌, map, take, drop, length, refl, sym, ap, ◌∙◌, subst, arith, drop_at, drop-drop, length-take-le}
 use Rattle.std.specs.Prelude.{Some, None, Ok, Err}
 use Rattle.std.specs.Option.{unwrap_or}
-use Rattle.std.specs.List.{slice_get}
+use Rattle.std.specs.List.{slice_get, filter_map}
 use Rattle.std.specs.FinSet as finite_set
 use Rattle.std.proofs.lemmas.Bool.{and_parts}
 use Rattle.std.proofs.lemmas.Option.{slice_get_within}
@@ -16,16 +16,19 @@ use Rattle.rga_ops.specs.ListAnswer.{Verdict, and_check, union_answer, list_answ
 use Rattle.rga_ops.proofs.VisibleLaws.{text_long}
 use Rattle.rga_ops.proofs.ListAnswerLaws.{union_taken-iff}
 use Rattle.rga_ops.proofs.NewestLaws.{newest_element, order-newest}
+use Rattle.rga_ops.proofs.NewestTextLaws.{visible_at}
 use Rattle.rga_ops.proofs.DeletionLaws.{visible-deletion_at, order-deletion}
 use Rattle.rga_ops.specs.declared.op.Op.{Op}
 use Rattle.rga_ops.specs.declared.op.Op.TheVariants.{Insert, Delete}
 use Rattle.rga_ops.specs.declared.refusal.Refusal.TheVariants.{Full, Range}
 use Rattle.rga_ops.proofs.AnswerLaws.{passed, bad}
-use Rattle.rga_doc.specs.LocalEdit.{left_of, chain, splice_operations, splices_operations, draft_operations, room_answer, place_answer, counter_answer, edit_answer, splice_answer, splices_answer, new_ids, put_row_behind, order_after}
+use Rattle.rga_doc.specs.LocalEdit.{left_of, chain, splice_operations, splices_operations, draft_operations, room_answer, place_answer, counter_answer, edit_answer, splice_answer, splices_answer, new_ids, put_row_behind, order_after, elements_after}
 use Rattle.rga_doc.proofs.FallingLaws.{falls_first}
 use Rattle.rga_doc.proofs.SplicedCharacters.{cut, length-cut, same_begin}
 use Rattle.rga_doc.proofs.SplicedLists.{get_at_drop, same_left, put_no_row, put_row_on}
-use Rattle.rga_doc.proofs.EditSteps.{Leads, leads_nowhere, leads_on, Shows, shows_itself, shows_on, shows_begin, shows_long, deletion_leads, deletion_shows, IsLeft, left_is, newer, insertion_leads, insertion_visible, insertion_shows, not_in_order}
+use Rattle.rga_doc.proofs.EditSteps.{Leads, leads_nowhere, leads_on, Shows, shows_itself, shows_on, shows_begin, shows_long, deletion_leads, deletion_shows, IsLeft, left_is, left_stands, newest, insertion_leads, insertion_visible, insertion_shows, not_in_order}
+use Rattle.rga_doc.proofs.UndoLists.{Reading, reads_behind, new_ids-newer}
+use Rattle.rga_ops.proofs.MemberLaws.{all_map}
 
 -- ---- deletions of visible elements in a row
 
@@ -49,7 +52,7 @@ deletes (id ∷ ids) c lo hi rest within split at =
     let later = deletes ids d lo (lo + length ids) rest (shows_long c d lo (lo + 1) [] [] within first) further refl in
     record {
       outcome = later.outcome;
-      leads = leads_on c d later.outcome (Delete id ∷ []) (map Delete ids) 0 0 (deletion_leads c id lo here) later.leads;
+      leads = leads_on c d later.outcome (Delete id ∷ []) (map Delete ids) 0 0 (deletion_leads c id (visible_at c lo id here).0) later.leads;
       shows = shows_on c d later.outcome lo (lo + 1) lo (lo + length ids) (length ids) hi [] [] [] [] within refl (omega arith) refl (omega (arith, at)) first later.shows;
       stays = later.stays ∙ order-deletion c id;
     }
@@ -71,11 +74,11 @@ inserts (ch ∷ put) c replica lo last after now within is =
     let at : IsLeft c lo after = left_is c lo after within is in
     let d : Content = join c (single (Insert id after ch)) in
     let first : Shows c d lo lo (id ∷ []) (ch ∷ []) = insertion_shows c id after ch lo next at in
-    let leads : Leads c d (Insert id after ch ∷ []) 1 = insertion_leads c id after ch lo next at in
+    let leads : Leads c d (Insert id after ch ∷ []) 1 = insertion_leads c id after ch next (left_stands c lo after at) in
     let begins : drop lo (visible d) ≡ id ∷ drop lo (visible c) =
     ap (drop lo) (insertion_visible c id after ch lo next at) ∙ drop_at (take lo (visible c)) (id ∷ drop lo (visible c)) lo (length-take-le lo (visible c) within) in
     let here : slice_get (visible d) lo ≡ Some id = get_at_drop (visible d) lo id (drop lo (visible c)) begins in
-    let newest = newer c id after ch lo next at in
+    let newer : clock_of c < id.counter = newest c id next in
     let row : List Identifier = new_ids replica (last + 1) put in
     let later = inserts put d replica (suc lo) (last + 1) id (next ∙ sym leads.time) (slice_get_within (visible d) lo id here) (sym (ap (λ o. unwrap_or o root) here)) in
     record {
@@ -83,8 +86,8 @@ inserts (ch ∷ put) c replica lo last after now within is =
       leads = subst (λ n. Leads c later.outcome (chain replica last after (ch ∷ put)) n) (one_more (length put)) (leads_on c d later.outcome (Insert id after ch ∷ []) (chain replica (last + 1) id put) 1 (length put) leads later.leads);
       shows = shows_on c d later.outcome lo lo (suc lo) (suc lo) 0 lo (id ∷ []) row (ch ∷ []) put within refl (omega arith) (omega arith) (omega arith) first later.shows;
       stands =
-          later.stands ∙ ap (put_row_behind id row) (order-newest c id newest after ch)
-          ∙ put_row_on id row (newest_element c id newest) after (order c) (not_in_order c id after ch lo next at);
+          later.stands ∙ ap (put_row_behind id row) (order-newest c id newer after ch)
+          ∙ put_row_on id row (newest_element c id newer) after (order c) (not_in_order c id after ch lo next at);
     }
   where
     one_more : (n : ℕ) → 1 + n ≡ suc n
@@ -185,28 +188,37 @@ splice_order limit replica lo hi c put h =
 
 -- ---- several splices in turn
 
-record SplicesAll (c : Content) (replica : ℕ) (splices : List Splice) : Type 0 where
-  outcome : Content
-  leads : Leads c outcome (splices_operations replica c splices) (new_characters splices)
-  reads : text outcome ≡ text_after (text c) splices
+-- what shows nothing of newer elements reads the order as before
+pub record SplicesAll (c : Content) (replica : ℕ) (splices : List Splice) : Type 0 where
+  pub outcome : Content
+  pub leads : Leads c outcome (splices_operations replica c splices) (new_characters splices)
+  pub reads : text outcome ≡ text_after (text c) splices
+  pub elements : visible outcome ≡ elements_after replica (clock_of c) (visible c) splices
+  pub keeps : (p : Reading) → ((id : Identifier) → clock_of c < id.counter → p id ≡ None) → filter_map p (order outcome) ≡ filter_map p (order c)
 
 splices_all : (splices : List Splice) (c : Content) (replica bound : ℕ) → bound ≤ length (visible c) → are_falling bound splices ≡ true → SplicesAll c replica splices
-splices_all [] c replica bound reaches falling = record { outcome = c; leads = leads_nowhere c; reads = refl }
+splices_all [] c replica bound reaches falling = record { outcome = c; leads = leads_nowhere c; reads = refl; elements = refl; keeps = λ p hides. refl }
 splices_all (s ∷ splices) c replica bound reaches falling =
     let falls = falls_first s splices bound falling in
     let here : s.hi ≤ length (visible c) = omega (arith, falls.within, reaches) in
     let low : s.lo ≤ length (visible c) = omega (arith, falls.up, here) in
     let one = splices_at c replica s.lo s.hi s.put falls.up here in
     let own : List Op = splice_operations replica c s.lo s.hi s.put in
-    let later = splices_all splices one.outcome replica s.lo (shows_long c one.outcome s.lo s.hi (new_ids replica (clock_of c) s.put) s.put low one.shows) falls.further in
+    let row : List Identifier = new_ids replica (clock_of c) s.put in
+    let later = splices_all splices one.outcome replica s.lo (shows_long c one.outcome s.lo s.hi row s.put low one.shows) falls.further in
     record {
       outcome = later.outcome;
       leads = subst (λ d. Leads c later.outcome (own ++ splices_operations replica d splices) (length s.put + new_characters splices)) one.leads.joined
           (leads_on c one.outcome later.outcome own (splices_operations replica one.outcome splices) (length s.put) (new_characters splices) one.leads later.leads);
       reads = later.reads ∙ ap (λ chars. text_after chars splices) one.shows.characters;
+      elements = later.elements ∙ (λ k. elements_after replica (one.leads.time k) (one.shows.elements k) splices);
+      keeps = λ p hides.
+          later.keeps p (λ id newer. hides id (omega (arith, one.leads.time, newer)))
+          ∙ ap (filter_map p) one.stands
+          ∙ reads_behind p (left_of (visible c) s.lo) row (order c) (all_map (λ (id : Identifier). clock_of c < id.counter) (λ id. p id ≡ None) hides row (new_ids-newer replica (clock_of c) s.put));
     }
 
-editing : (limit replica : ℕ) (c : Content) (splices : List Splice) → splices_answer limit c splices ≡ Ok tt → SplicesAll c replica splices × (finite_set.len (known_ids c) + new_characters splices ≤ limit)
+pub editing : (limit replica : ℕ) (c : Content) (splices : List Splice) → splices_answer limit c splices ≡ Ok tt → SplicesAll c replica splices × (finite_set.len (known_ids c) + new_characters splices ≤ limit)
 editing limit replica c splices h =
     let s = allowed limit c (are_falling (length (text c)) splices) (new_characters splices) h in
     (splices_all splices c replica (length (text c)) (omega (arith, text_long c)) s.1, s.0)
@@ -220,6 +232,11 @@ pub splices_text : (limit replica : ℕ) (c : Content) (splices : List Splice) �
 splices_text limit replica c splices h =
     let s = editing limit replica c splices h in
     ap text (sym s.0.leads.joined) ∙ s.0.reads
+
+pub splices_visible : (limit replica : ℕ) (c : Content) (splices : List Splice) → splices_answer limit c splices ≡ Ok tt → visible (join c (content_of (splices_operations replica c splices))) ≡ elements_after replica (clock_of c) (visible c) splices
+splices_visible limit replica c splices h =
+    let s = editing limit replica c splices h in
+    ap visible (sym s.0.leads.joined) ∙ s.0.elements
 
 -- and so where they were taken
 pub splices_taken_text : (limit replica : ℕ) (c d : Content) (splices : List Splice) (ops : List Op) → splices_answer limit c splices ≡ Ok tt → ops ≡ splices_operations replica c splices → d ≡ join c (content_of ops) → text d ≡ text_after (text c) splices

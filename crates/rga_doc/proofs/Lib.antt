@@ -18,7 +18,6 @@ pub mod RereadingLaws
 pub mod RevertedLaws
 pub mod UndoLaws
 pub mod UndoApart
-pub mod SplicedElements
 pub mod AnchorLaws
 pub mod ExcerptLaws
 pub mod FollowingLaws

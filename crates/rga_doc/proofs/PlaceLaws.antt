@@ -10,10 +10,10 @@ use Rattle.rga_ops.specs.Places.{place, is_visible, up_to}
 use Rattle.rga_ops.proofs.ContentLaws.{within_join}
 use Rattle.rga_ops.proofs.GrowLaws.{complete_stays}
 
-abbrev stands : Content → Identifier → Bool
+abbrev pub stands : Content → Identifier → Bool
 stands c id = is_some (place c id)
 
-stands_is : (c : Content) (id : Identifier) → stands c id ≡ (is_root id || is_complete c id)
+pub stands_is : (c : Content) (id : Identifier) → stands c id ≡ (is_root id || is_complete c id)
 stands_is c id = elim (is_root id) as (λ b. is_some (cond b (Some 0) (cond (is_complete c id) (Some (length (filter (is_visible c) (up_to id (order c))))) None)) ≡ (b || is_complete c id)) [
   | true ↦ refl
   | false ↦ elim (is_complete c id) as (λ t. is_some (cond t (Some (length (filter (is_visible c) (up_to id (order c))))) None) ≡ t) [ true ↦ refl | false ↦ refl ]

@@ -1,12 +1,12 @@
 -- A revert leaves the text outside the margins round what it deletes and what it inserts.
-use Rattle.std.proofs.Common.{◌≡◌, ℕ, zero, suc, ◌+◌, ◌-◌, ◌<◌, ◌≤◌, Bool, true, false, cond, not, ◌&&◌, ◌||◌, nat_le, List, [], ◌∷◌, ◌++◌, map, filter, take, drop, length, get_or, refl, sym, ap, ◌∙◌, subst, true≢false, arith, append_assoc, append-nil, length-append, length-drop, take-append-drop, take_at, drop_at}
+use Rattle.std.proofs.Common.{◌≡◌, ℕ, zero, suc, ◌+◌, ◌-◌, ◌<◌, ◌≤◌, Bool, true, false, cond, not, ◌&&◌, ◌||◌, nat_le, List, [], ◌∷◌, ◌++◌, map, filter, take, drop, length, get_or, refl, sym, ap, ◌∙◌, subst, true≢false, arith, append_assoc, length-append, length-drop, take-append-drop, take_at, drop_at}
 use Rattle.std.specs.Prelude.{Option, Some, None, Ok, IfSome}
 use Rattle.std.specs.Option.{option_map}
 use Rattle.std.specs.List.{list_any, slice_get, AllByRecursion}
 use Rattle.std.specs.FinMap as finite_map
 use Rattle.std.specs.FinSet as finite_set
 use Rattle.std.proofs.Math.Bool.{and-true, and-false}
-use Rattle.std.proofs.lemmas.Bool.{and_parts, not-true}
+use Rattle.std.proofs.lemmas.Bool.{and_parts, not-true, not-false}
 use Rattle.std.proofs.lemmas.Bool.Decides.{nat_tests}
 use Rattle.std.proofs.lemmas.List.{map-append, take-map, drop-map, take_more}
 use Rattle.std.proofs.lemmas.Option.{same_Some}
@@ -22,7 +22,7 @@ use Rattle.rga_ops.specs.declared.op.Op.{Op}
 use Rattle.rga_ops.specs.declared.op.Op.TheVariants.{Delete}
 use Rattle.rga_ops.proofs.IdentifierLaws.{is}
 use Rattle.rga_ops.proofs.MemberLaws.{all_map, all_members, of_member, filter_alike}
-use Rattle.rga_ops.proofs.ContentLaws.{contains-join, within_join}
+use Rattle.rga_ops.proofs.ContentLaws.{within_join}
 use Rattle.rga_ops.proofs.ClockLaws.{within_clock}
 use Rattle.rga_ops.proofs.PathLaws.{inserted_if_complete}
 use Rattle.rga_ops.proofs.VisibleLaws.{is_kept, order_complete, visible_is, text_is, text_long, filtered, characters_within, own_index, place_at}
@@ -33,7 +33,7 @@ use Rattle.rga_doc.specs.Revert.{distinct_elements, restorations, revert_operati
 use Rattle.rga_doc.specs.UndoGroup.{inserted_elements}
 use Rattle.rga_doc.proofs.SplicedCharacters.{cut}
 use Rattle.rga_doc.proofs.RevertLaws.{all_once, all_that_pass, revert_order}
-use Rattle.rga_doc.proofs.UndoLists.{AreNewer, not_among_newer, newer_still, deleted_elements-append, deleted_elements-deletions, deleted_elements-restorations, contains-operations}
+use Rattle.rga_doc.proofs.UndoLists.{AreNewer, not_among_newer, newer_still, deleted_by_revert}
 
 -- ---- lists that differ in what stands between margins
 
@@ -240,14 +240,6 @@ module _ (limit replica : ℕ) (c : Content) (gone : List Identifier) (back : Li
   all_gone_visible : AllByRecursion (λ x. is_visible c x ≡ true) gone_ones
   all_gone_visible = all_once (λ x. is_visible c x ≡ true) (filter (is_visible c) gone) (all_that_pass (is_visible c) gone)
 
-  deleted_then : (id : Identifier) → finite_set.contains then_content.deleted id ≡ (finite_set.contains c.deleted id || list_any (is id) gone_ones)
-  deleted_then id =
-      contains-join c (content_of ops) id
-      ∙ ap (λ b. finite_set.contains c.deleted id || b)
-      (contains-operations ops id ∙ ap (list_any (is id))
-      (deleted_elements-append (map Delete gone_ones) (restorations replica (clock_of c) back)
-      ∙ (λ k. deleted_elements-deletions gone_ones k ++ deleted_elements-restorations replica (clock_of c) back k) ∙ append-nil gone_ones))
-
   -- what was visible before, told by what the content deletes then
   abbrev was_visible : Identifier → Bool
   was_visible x = (is_kept then_content x || list_any (is x) gone_ones) && not (list_any (is x) new_ones)
@@ -264,7 +256,7 @@ module _ (limit replica : ℕ) (c : Content) (gone : List Identifier) (back : Li
       let at : (y : Element) × (finite_map.get c.inserted x ≡ Some y) = inserted_if_complete c x complete in
       let old : x.counter ≤ clock_of c = (within_clock c).own x at.0 at.1 in
       let not_new : list_any (is x) new_ones ≡ false = not_among_newer (clock_of c) x new_ones old (restorations_newer replica (clock_of c) back) in
-      (λ k. (not (deleted_then x k) || list_any (is x) gone_ones) && not (not_new k))
+      (λ k. (not (deleted_by_revert c gone_ones replica (clock_of c) back x k) || list_any (is x) gone_ones) && not (not_new k))
       ∙ and-true (not (finite_set.contains c.deleted x || list_any (is x) gone_ones) || list_any (is x) gone_ones)
       ∙ by (finite_set.contains c.deleted x) (list_any (is x) gone_ones) (λ m. not-true (finite_set.contains c.deleted x) (and_parts (is_complete c x) (is_kept c x) (of_member (λ y. is_visible c y ≡ true) gone_ones x all_gone_visible m)).1)
     where
@@ -289,11 +281,7 @@ module _ (limit replica : ℕ) (c : Content) (gone : List Identifier) (back : Li
   deleted_only x t f = sym (ap (λ b. b || list_any (is x) gone_ones) f) ∙ (and_parts (is_kept then_content x || list_any (is x) gone_ones) (not (list_any (is x) new_ones)) t).0
 
   inserted_only : (x : Identifier) → is_kept then_content x ≡ true → was_visible x ≡ false → list_any (is x) new_ones ≡ true
-  inserted_only x t f = by (list_any (is x) new_ones) (sym (ap (λ b. (b || list_any (is x) gone_ones) && not (list_any (is x) new_ones)) t) ∙ f)
-    where
-      by : (b : Bool) → not b ≡ false → b ≡ true
-      by true h = refl
-      by false h = absurd (true≢false h)
+  inserted_only x t f = not-false (list_any (is x) new_ones) (sym (ap (λ b. (b || list_any (is x) gone_ones) && not (list_any (is x) new_ones)) t) ∙ f)
 
   -- the margins round both
   pub revert_agrees : (front back_margin f b : ℕ) → f ≤ front → b ≤ back_margin → AllBetween c front back_margin (map Delete gone_ones) → AllBetween then_content f b (restorations replica (clock_of c) back) → AgreeOutside f b (text c) (text then_content)

@@ -113,7 +113,3 @@ module _ (keeps seen : Identifier → Bool) (x : Identifier) (ids : List Identif
 
   pub kept_new : (now : Identifier → Bool) → keeps x ≡ true → seen x ≡ false → ((q : Identifier) → now q ≡ (is_id x q || seen q)) → new_only seen (distinct_elements (filter keeps (x ∷ ids))) ≡ x ∷ new_only now (distinct_elements (filter keeps ids))
   kept_new now h new more = at_first true h ∙ once_new seen now x (filter keeps ids) new more
-
-pub any_id : (q : Identifier) (xs : List Identifier) → list_any (is_id q) xs ≡ list_any (is q) xs
-any_id q [] = refl
-any_id q (x ∷ xs) = λ k. (is_id-same q x ∙ is_swap x q) k || any_id q xs k

@@ -1,28 +1,22 @@
 -- What a revert deleted can be restored, and what it inserted is complete.
-use Rattle.std.proofs.Common.{◌≡◌, ℕ, ◌+◌, ◌<◌, Bool, true, false, ◌&&◌, ◌||◌, not, List, [], ◌∷◌, ◌++◌, map, filter, length, refl, sym, ap, ◌∙◌, subst, arith, append-nil}
+use Rattle.std.proofs.Common.{◌≡◌, ℕ, ◌+◌, Bool, true, false, ◌&&◌, ◌||◌, not, List, [], ◌∷◌, ◌++◌, map, filter, length, refl, sym, ap, ◌∙◌, subst}
 use Rattle.std.specs.Prelude.{Ok}
 use Rattle.std.specs.List.{list_any, list_all, AllByRecursion}
-use Rattle.std.proofs.lemmas.Bool.{or_right}
-use Rattle.rga_ops.specs.Identifier.{Identifier, identifier, is_id, is_root}
-use Rattle.rga_ops.specs.Content.{Content, clock_of, join, single, content_of}
+use Rattle.rga_ops.specs.Identifier.{Identifier, is_id}
+use Rattle.rga_ops.specs.Content.{Content, clock_of, join, content_of}
 use Rattle.rga_ops.specs.RootPath.{is_complete}
 use Rattle.rga_ops.specs.Places.{is_visible}
 use Rattle.rga_ops.specs.declared.op.Op.{Op}
-use Rattle.rga_ops.specs.declared.op.Op.TheVariants.{Insert, Delete}
-use Rattle.rga_ops.proofs.IdentifierLaws.{is, is_itself, is_id-same}
+use Rattle.rga_ops.specs.declared.op.Op.TheVariants.{Delete}
+use Rattle.rga_ops.proofs.IdentifierLaws.{is, is_id-same}
 use Rattle.rga_ops.proofs.MemberLaws.{all_map}
-use Rattle.rga_ops.proofs.ContentLaws.{join_assoc}
-use Rattle.rga_ops.proofs.OperationLaws.{content_of-append}
-use Rattle.rga_ops.proofs.InsertionLaws.{is_complete-insertion}
-use Rattle.rga_ops.proofs.NewestLaws.{newest_leaf}
 use Rattle.rga_doc.specs.Revert.{distinct_elements, restorations, revert_operations, revert_answer, are_restorable}
 use Rattle.rga_doc.specs.UndoGroup.{inserted_elements, deleted_elements, element_characters}
 use Rattle.rga_doc.proofs.EditLaws.{allowed}
-use Rattle.rga_doc.proofs.UndoLists.{deleted_elements-append, deleted_elements-deletions, inserted_elements-append, inserted_elements-deletions, deleted_elements-restorations}
+use Rattle.rga_doc.proofs.UndoLists.{inserted_elements-append, inserted_elements-deletions, deleted_elements-revert}
 use Rattle.rga_doc.proofs.PlaceLaws.{complete_still}
 use Rattle.rga_doc.proofs.ApartLists.{Apart, apart_if_once}
-use Rattle.rga_doc.proofs.RevertSets.{elements_of}
-use Rattle.rga_doc.proofs.RevertLaws.{AreComplete, restoration_leads, newest, removes, gone_complete, back_complete, complete_by_order}
+use Rattle.rga_doc.proofs.RevertLaws.{AreComplete, reverts, gone_complete}
 
 -- ---- a revert of what is complete and apart is not refused for it
 
@@ -36,22 +30,6 @@ restorable_if c d (id ∷ ids) complete apart = λ k. (complete.0 k && not (none
 
 -- ---- a revert
 
-restored_complete : (back : List (Identifier × ℕ)) (f : Content) (replica last : ℕ) → last ≡ clock_of f → AreComplete f (elements_of back) → AreComplete (join f (content_of (restorations replica last back))) (inserted_elements (restorations replica last back))
-restored_complete [] f replica last now complete = tt
-restored_complete (b ∷ back) f replica last now complete =
-    let y : Identifier = identifier (last + 1) replica in
-    let next : last + 1 ≡ clock_of f + 1 = ap (λ n. n + 1) now in
-    let newer : clock_of f < y.counter = newest f y b.0 b.1 next complete.0 in
-    let g : Content = join f (single (Insert y b.0 b.1)) in
-    let leads = restoration_leads f y b.0 b.1 next complete.0 in
-    let rest : List Op = restorations replica (last + 1) back in
-    let here : is_complete g y ≡ true =
-    is_complete-insertion f y b.0 b.1 (newest_leaf f y newer) y
-    ∙ (λ k. (is_itself y k && or_right (is_root b.0) (is_complete f b.0) complete.0 k) || is_complete f y) in
-    let further : AreComplete g (elements_of back) = all_map (λ q. is_complete f q ≡ true) (λ q. is_complete g q ≡ true) (λ q h. complete_still f (single (Insert y b.0 b.1)) q h) (elements_of back) complete.1 in
-    subst (λ e. AreComplete e (y ∷ inserted_elements rest)) (join_assoc f (single (Insert y b.0 b.1)) (content_of rest))
-    (complete_still g (content_of rest) y here, restored_complete back g replica (last + 1) (next ∙ sym leads.time) further)
-
 record Reverted (c : Content) (ops : List Op) : Type 0 where
   inserted : AreComplete (join c (content_of ops)) (inserted_elements ops)
   deleted : AreComplete (join c (content_of ops)) (deleted_elements ops)
@@ -62,17 +40,11 @@ reverted limit replica c gone back h =
     let able = (allowed limit c (are_restorable c back) (length back) h).1 in
     let ids : List Identifier = distinct_elements (filter (is_visible c) gone) in
     let rs : List Op = restorations replica (clock_of c) back in
-    let removed = removes ids c (gone_complete c gone) in
-    let now : clock_of c ≡ clock_of removed.outcome = omega (arith, removed.leads.time) in
-    let complete : AreComplete removed.outcome (elements_of back) =
-    all_map (λ q. is_complete c q ≡ true) (λ q. is_complete removed.outcome q ≡ true) (λ q h. complete_by_order c removed.outcome removed.stays q ∙ h) (elements_of back) (back_complete c back able) in
-    let e_is : join c (content_of (map Delete ids ++ rs)) ≡ join removed.outcome (content_of rs) =
-    ap (join c) (content_of-append (map Delete ids) rs) ∙ sym (join_assoc c (content_of (map Delete ids)) (content_of rs)) ∙ ap (λ f. join f (content_of rs)) (sym removed.leads.joined) in
+    let done = reverts c replica gone back able in
     let inserts : inserted_elements (map Delete ids ++ rs) ≡ inserted_elements rs = inserted_elements-append (map Delete ids) rs ∙ ap (λ xs. xs ++ inserted_elements rs) (inserted_elements-deletions ids) in
-    let deletes : deleted_elements (map Delete ids ++ rs) ≡ ids =
-    deleted_elements-append (map Delete ids) rs ∙ (λ k. deleted_elements-deletions ids k ++ deleted_elements-restorations replica (clock_of c) back k) ∙ append-nil ids in
+    let deletes : deleted_elements (map Delete ids ++ rs) ≡ ids = deleted_elements-revert ids replica (clock_of c) back in
     record {
-      inserted = subst (λ xs. AreComplete (join c (content_of (map Delete ids ++ rs))) xs) (sym inserts) (subst (λ f. AreComplete f (inserted_elements rs)) (sym e_is) (restored_complete back removed.outcome replica (clock_of c) now complete));
+      inserted = subst (λ xs. AreComplete (join c (content_of (map Delete ids ++ rs))) xs) (sym inserts) (subst (λ f. AreComplete f (inserted_elements rs)) done.leads.joined done.restored.complete);
       deleted = subst (λ xs. AreComplete (join c (content_of (map Delete ids ++ rs))) xs) (sym deletes)
           (all_map (λ q. is_complete c q ≡ true) (λ q. is_complete (join c (content_of (map Delete ids ++ rs))) q ≡ true) (λ q h. complete_still c (content_of (map Delete ids ++ rs)) q h) ids (gone_complete c gone));
       apart = subst Apart (sym deletes) (apart_if_once (filter (is_visible c) gone));

@@ -1,5 +1,5 @@
 -- The revert of an edit, on the content that the edit left, gives the text from before it.
-use Rattle.std.proofs.Common.{◌≡◌, ℕ, ◌+◌, ◌<◌, ◌≤◌, true, false, cond, not, ◌&&◌, ◌||◌, nat_lt, List, [], ◌∷◌, ◌++◌, map, filter, take, drop, length, refl, sym, ap, ◌∙◌, subst, arith, lt-ltb, ltb-false, append-nil}
+use Rattle.std.proofs.Common.{◌≡◌, ℕ, ◌+◌, ◌<◌, ◌≤◌, true, false, cond, not, ◌&&◌, ◌||◌, nat_lt, List, [], ◌∷◌, ◌++◌, map, filter, take, drop, length, refl, sym, ap, ◌∙◌, subst, arith, lt-ltb, ltb-false}
 use Rattle.std.specs.Prelude.{Option, Some, None, Ok}
 use Rattle.std.specs.Option.{option_map, option_or, unwrap_or}
 use Rattle.std.specs.List.{list_any, AllByRecursion, filter_map}
@@ -17,7 +17,7 @@ use Rattle.rga_ops.specs.Places.{is_visible, visible}
 use Rattle.rga_ops.specs.Placement.{change_after}
 use Rattle.rga_ops.specs.declared.op.Op.{Op}
 use Rattle.rga_ops.specs.declared.op.Op.TheVariants.{Insert, Delete}
-use Rattle.rga_ops.specs.Splice.{Splice, are_falling, new_characters}
+use Rattle.rga_ops.specs.Splice.{Splice}
 use Rattle.rga_ops.proofs.IdentifierLaws.{is, same_id, is_itself, is_swap, is_id-same}
 use Rattle.rga_ops.proofs.MemberLaws.{all_append, all_map, all_members, all_filter}
 use Rattle.rga_ops.proofs.ContentLaws.{get-join, contains-join, join_assoc, join_nothing, or_none}
@@ -25,18 +25,17 @@ use Rattle.rga_ops.proofs.PathLaws.{is_complete-iff, not_complete_root, inserted
 use Rattle.rga_ops.proofs.OrderLaws.{order_list, order_distinct}
 use Rattle.rga_ops.proofs.ClockLaws.{within_clock}
 use Rattle.rga_ops.proofs.OperationLaws.{content_of-append, get-single}
-use Rattle.rga_ops.proofs.VisibleLaws.{text_long, filtered, visible_elements}
+use Rattle.rga_ops.proofs.VisibleLaws.{filtered, visible_elements}
 use Rattle.rga_ops.proofs.InsertionLaws.{is_root_or_complete, is_complete-insertion, not_complete_before}
 use Rattle.rga_ops.proofs.NewestLaws.{newest_absent, newest_kept, newest_leaf, order-newest}
-use Rattle.rga_doc.specs.LocalEdit.{chain, splice_operations, splices_operations, draft_operations, splices_answer, new_ids, left_of}
+use Rattle.rga_doc.specs.LocalEdit.{chain, splices_operations, draft_operations, splices_answer, new_ids, left_of}
 use Rattle.rga_doc.specs.Revert.{distinct_elements, restorations, revert_operations, are_restorable}
 use Rattle.rga_doc.specs.UndoGroup.{inserted_elements, deleted_elements, element_characters}
-use Rattle.rga_doc.proofs.EditSteps.{shows_long}
-use Rattle.rga_doc.proofs.EditLaws.{allowed, splices_at, splices_drafted}
-use Rattle.rga_doc.proofs.FallingLaws.{falls_first}
+use Rattle.rga_doc.proofs.EditSteps.{newest, insertion_leads}
+use Rattle.rga_doc.proofs.EditLaws.{splices_drafted, editing}
 use Rattle.rga_doc.proofs.RevertSets.{among, AreApart, not_among, apart_if_restorable, elements_of}
-use Rattle.rga_doc.proofs.RevertLaws.{AreComplete, restoration_leads, newest, Removes, removes, all_once, gone_complete, back_complete, complete_by_order}
-use Rattle.rga_doc.proofs.UndoLists.{Reading, reads_same, reads_behind, moved, reads_moved, apart_by_counter, AreNewer, not_among_newer, newer_still, new_ids-newer, inserted_elements-append, deleted_elements-append, inserted_elements-deletions, deleted_elements-deletions, inserted_elements-chain, deleted_elements-chain, contains-operations, get-operations_absent, all_take, all_drop, once_has, deleted_elements-restorations}
+use Rattle.rga_doc.proofs.RevertLaws.{AreComplete, reverts, all_once, gone_complete, complete_by_order}
+use Rattle.rga_doc.proofs.UndoLists.{Reading, reads_same, moved, reads_moved, apart_by_counter, AreNewer, not_among_newer, newer_still, new_ids-newer, inserted_elements-append, deleted_elements-append, inserted_elements-deletions, deleted_elements-deletions, inserted_elements-chain, deleted_elements-chain, contains-operations, get-operations_absent, all_take, all_drop, once_has, deleted_by_revert}
 
 -- ---- complete elements are no newer than the clock
 
@@ -74,8 +73,8 @@ rereads (b ∷ back) f replica last p q now complete apart before after read oth
     let y : Identifier = identifier (last + 1) replica in
     let next : last + 1 ≡ clock_of f + 1 = ap (λ n. n + 1) now in
     let g : Content = join f (single (Insert y x ch)) in
-    let newer : clock_of f < y.counter = newest f y x ch next complete.0 in
-    let leads = restoration_leads f y x ch next complete.0 in
+    let newer : clock_of f < y.counter = newest f y next in
+    let leads = insertion_leads f y x ch next (or_right (is_root x) (is_complete f x) complete.0) in
     let further : AreComplete g (elements_of back) =
     all_map (λ q. is_complete f q ≡ true) (λ q. is_complete g q ≡ true) (λ q h. is_complete-insertion f y x ch (newest_leaf f y newer) q ∙ or_right (is q y && is_root_or_complete f x) (is_complete f q) h) (elements_of back) complete.1 in
     let no_new : AllByRecursion (λ q. is q y ≡ false) (elements_of back) =
@@ -109,24 +108,6 @@ pub record IsEdit (c : Content) (ops : List Op) : Type 0 where
   pub inserts : AreNewer (clock_of c) (inserted_elements ops)
   pub reads : (p : Reading) → ((id : Identifier) → clock_of c < id.counter → p id ≡ None) → filter_map p (order (join c (content_of ops))) ≡ filter_map p (order c)
 
-reads_on : (splices : List Splice) (c : Content) (replica bound : ℕ) (p : Reading) → ((id : Identifier) → clock_of c < id.counter → p id ≡ None) → bound ≤ length (visible c) → are_falling bound splices ≡ true → filter_map p (order (join c (content_of (splices_operations replica c splices)))) ≡ filter_map p (order c)
-reads_on [] c replica bound p hides reaches falling = ap (λ f. filter_map p (order f)) (join_nothing c)
-reads_on (s ∷ splices) c replica bound p hides reaches falling =
-    let falls = falls_first s splices bound falling in
-    let here : s.hi ≤ length (visible c) = omega (arith, falls.within, reaches) in
-    let low : s.lo ≤ length (visible c) = omega (arith, falls.up, here) in
-    let put : List ℕ = s.put in
-    let one = splices_at c replica s.lo s.hi put falls.up here in
-    let own : List Op = splice_operations replica c s.lo s.hi put in
-    let d : Content = join c (content_of own) in
-    let row : List Identifier = new_ids replica (clock_of c) put in
-    let later : clock_of c ≤ clock_of d = omega (arith, one.leads.time, ap clock_of one.leads.joined) in
-    let enough : s.lo ≤ length (visible d) = subst (λ f. s.lo ≤ length (visible f)) one.leads.joined (shows_long c one.outcome s.lo s.hi row put low one.shows) in
-    ap (λ f. filter_map p (order f)) (ap (join c) (content_of-append own (splices_operations replica d splices)) ∙ sym (join_assoc c (content_of own) (content_of (splices_operations replica d splices))))
-    ∙ reads_on splices d replica s.lo p (λ id h. hides id (omega (arith, later, h))) enough falls.further
-    ∙ ap (filter_map p) (ap order (sym one.leads.joined) ∙ one.stands)
-    ∙ reads_behind p (left_of (visible c) s.lo) row (order c) (all_map (λ (id : Identifier). clock_of c < id.counter) (λ id. p id ≡ None) hides row (new_ids-newer replica (clock_of c) put))
-
 all_visible : (c : Content) → AllByRecursion (λ id. is_visible c id ≡ true) (visible c)
 all_visible c = all_members (λ id. is_visible c id ≡ true) (visible c) (λ q m. sym (visible_elements c q) ∙ m)
 
@@ -152,46 +133,31 @@ drafted_inserts replica elements last (s ∷ splices) =
 
 pub splices_edit : (limit replica : ℕ) (c : Content) (splices : List Splice) → splices_answer limit c splices ≡ Ok tt → IsEdit c (splices_operations replica c splices)
 splices_edit limit replica c splices h =
-    let s = allowed limit c (are_falling (length (text c)) splices) (new_characters splices) h in
+    let s = editing limit replica c splices h in
     let made = splices_drafted limit replica c splices h in
     record {
       deletes = subst (λ ops. AllByRecursion (λ id. is_visible c id ≡ true) (deleted_elements ops)) (sym made) (drafted_deletes (λ id. is_visible c id ≡ true) replica (visible c) (clock_of c) splices (all_visible c));
       inserts = subst (λ ops. AreNewer (clock_of c) (inserted_elements ops)) (sym made) (drafted_inserts replica (visible c) (clock_of c) splices);
-      reads = λ p hides. reads_on splices c replica (length (text c)) p hides (omega (arith, text_long c)) s.1;
+      reads = λ p hides. ap (λ d. filter_map p (order d)) (sym s.0.leads.joined) ∙ s.0.keeps p hides;
     }
 
 -- ---- what the restorations insert
 
-abbrev HasRestored : (Identifier → Option Element) → ℕ → ℕ → List (Identifier × ℕ) → Type 0
-HasRestored g replica last [] = Unit {0}
-HasRestored g replica last (b ∷ back) = (g (identifier (last + 1) replica) ≡ Some (element b.0 b.1)) × HasRestored g replica (last + 1) back
-
-restored_weaker : (g h : Identifier → Option Element) (replica last : ℕ) (back : List (Identifier × ℕ)) → ((id : Identifier) → last < id.counter → h id ≡ g id) → HasRestored g replica last back → HasRestored h replica last back
-restored_weaker g h replica last [] same s = tt
-restored_weaker g h replica last (b ∷ back) same s =
-    (same (identifier (last + 1) replica) (omega arith) ∙ s.0, restored_weaker g h replica (last + 1) back (λ id newer. same id (omega (arith, newer))) s.1)
-
 abbrev inserted_in : List Op → Identifier → Option Element
 inserted_in ops id = finite_map.get (content_of ops).inserted id
 
-has_restored : (replica last : ℕ) (back : List (Identifier × ℕ)) → HasRestored (inserted_in (restorations replica last back)) replica last back
-has_restored replica last [] = tt
-has_restored replica last (b ∷ back) =
+-- is read where what they insert is
+reads_restored : (q : Reading) (replica last : ℕ) (back : List (Identifier × ℕ)) → ((id : Identifier) (x : Element) → last < id.counter → inserted_in (restorations replica last back) id ≡ Some x → q id ≡ Some x.ch) → AreRead q replica last back
+reads_restored q replica last [] shows = tt
+reads_restored q replica last (b ∷ back) shows =
     let y : Identifier = identifier (last + 1) replica in
-    let rest : List Op = restorations replica (last + 1) back in (
-      get-join (single (Insert y b.0 b.1)) (content_of rest) y
-          ∙ ap (λ o. option_or o (inserted_in rest y)) (get-single y b.0 b.1 y ∙ ap (λ t. cond t (Some (element b.0 b.1)) None) (is_itself y)),
-      restored_weaker (inserted_in rest) (inserted_in (restorations replica last (b ∷ back))) replica (last + 1) back
-          (λ id newer.
-          get-join (single (Insert y b.0 b.1)) (content_of rest) id
-          ∙ ap (λ o. option_or o (inserted_in rest id)) (get-single y b.0 b.1 id ∙ ap (λ t. cond t (Some (element b.0 b.1)) None) (is_swap id y ∙ apart_by_counter y id newer)))
-          (has_restored replica (last + 1) back),
+    let rest : List Op = restorations replica (last + 1) back in
+    let found : (id : Identifier) → inserted_in (restorations replica last (b ∷ back)) id ≡ option_or (cond (is id y) (Some (element b.0 b.1)) None) (inserted_in rest id) =
+    λ id. get-join (single (Insert y b.0 b.1)) (content_of rest) id ∙ ap (λ o. option_or o (inserted_in rest id)) (get-single y b.0 b.1 id) in (
+      shows (identifier (last + 1) replica) (element b.0 b.1) (omega arith) (found y ∙ ap (λ t. option_or (cond t (Some (element b.0 b.1)) None) (inserted_in rest y)) (is_itself y)),
+      reads_restored q replica (last + 1) back (λ id x newer at. shows id x (omega (arith, newer))
+          (found id ∙ ap (λ t. option_or (cond t (Some (element b.0 b.1)) None) (inserted_in rest id)) (is_swap id y ∙ apart_by_counter y id newer) ∙ at)),
     )
-
-read_restored : (q : Reading) (g : Identifier → Option Element) (replica last : ℕ) (back : List (Identifier × ℕ)) → ((id : Identifier) (x : Element) → last < id.counter → g id ≡ Some x → q id ≡ Some x.ch) → HasRestored g replica last back → AreRead q replica last back
-read_restored q g replica last [] shows s = tt
-read_restored q g replica last (b ∷ back) shows s =
-    (shows (identifier (last + 1) replica) (element b.0 b.1) (omega arith) s.0, read_restored q g replica (last + 1) back (λ id x newer. shows id x (omega (arith, newer))) s.1)
 
 -- ---- the revert of an edit
 
@@ -235,19 +201,8 @@ module _ (replica : ℕ) (c : Content) (ops : List Op) (edit : IsEdit c ops) whe
   was_deleted : (id : Identifier) → finite_set.contains d.deleted id ≡ (finite_set.contains c.deleted id || list_any (is id) (deleted_elements ops))
   was_deleted id = contains-join c (content_of ops) id ∙ ap (λ t. finite_set.contains c.deleted id || t) (contains-operations ops id)
 
-  removed : Removes d gone
-  removed = removes gone d (gone_complete d (inserted_elements ops))
-
-  e_is : e ≡ join removed.outcome (content_of rs)
-  e_is =
-      ap (join d) (content_of-append (map Delete gone) rs) ∙ sym (join_assoc d (content_of (map Delete gone)) (content_of rs))
-      ∙ ap (λ f. join f (content_of rs)) (sym removed.leads.joined)
-
   deleted_e : (id : Identifier) → finite_set.contains e.deleted id ≡ (finite_set.contains d.deleted id || list_any (is id) gone)
-  deleted_e id =
-      contains-join d (content_of (map Delete gone ++ rs)) id
-      ∙ ap (λ t. finite_set.contains d.deleted id || t) (contains-operations (map Delete gone ++ rs) id
-      ∙ ap (list_any (is id)) (deleted_elements-append (map Delete gone) rs ∙ (λ k. deleted_elements-deletions gone k ++ deleted_elements-restorations replica (clock_of d) back k) ∙ append-nil gone))
+  deleted_e = deleted_by_revert d gone replica (clock_of d) back
 
   inserted_e : (id : Identifier) → finite_map.get e.inserted id ≡ option_or (finite_map.get d.inserted id) (inserted_in rs id)
   inserted_e id =
@@ -282,9 +237,8 @@ module _ (replica : ℕ) (c : Content) (ops : List Op) (edit : IsEdit c ops) whe
       ap (λ t. cond t None (option_map (λ (x : Element). x.ch) (finite_map.get e.inserted x))) (deleted_e x ∙ ap (λ t. t || list_any (is x) gone) is_gone)))
 
   read_new : AreRead (shown e) replica (clock_of d) back
-  read_new = read_restored (shown e) (inserted_in rs) replica (clock_of d) back (λ id x newer at.
+  read_new = reads_restored (shown e) replica (clock_of d) back (λ id x newer at.
       shown_as e id x (deleted_e id ∙ (λ k. newest_kept d id newer k || gone_within id newer k)) (inserted_e id ∙ (λ k. option_or (newest_absent d id newer k) (at k))))
-      (has_restored replica (clock_of d) back)
 
   -- an element that the edit inserted and that is complete was deleted again
   is_gone_again : (id : Identifier) → clock_of c < id.counter → is_complete d id ≡ true → list_any (is id) (deleted_elements ops) ≡ false → list_any (is id) gone ≡ true
@@ -322,11 +276,10 @@ module _ (replica : ℕ) (c : Content) (ops : List Op) (edit : IsEdit c ops) whe
 
   pub undo_text : are_restorable d back ≡ true → text e ≡ text c
   undo_text able =
-      let now : clock_of d ≡ clock_of removed.outcome = omega (arith, removed.leads.time) in
-      let complete : AreComplete removed.outcome (elements_of back) =
-      all_map (λ q. is_complete d q ≡ true) (λ q. is_complete removed.outcome q ≡ true) (λ q h. complete_by_order d removed.outcome removed.stays q ∙ h) (elements_of back) (back_complete d back able) in
-      ap (λ f. filter_map (shown e) (order f)) e_is
-      ∙ rereads back removed.outcome replica (clock_of d) before (shown e) now complete (apart_if_restorable d back able) (read_before (deleted_elements ops) edit.deletes) read_after read_new
+      let done = reverts d replica (inserted_elements ops) back able in
+      let removed = done.removed in
+      ap (λ f. filter_map (shown e) (order f)) (sym done.leads.joined ∙ done.restored.leads.joined)
+      ∙ rereads back removed.outcome replica (clock_of d) before (shown e) done.now done.still (apart_if_restorable d back able) (read_before (deleted_elements ops) edit.deletes) read_after read_new
       (λ id h free. read_others id (sym (complete_by_order d removed.outcome removed.stays id) ∙ h) free)
       ∙ ap (filter_map before) removed.stays
       ∙ edit.reads before before_new

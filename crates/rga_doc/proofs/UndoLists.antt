@@ -1,5 +1,5 @@
 -- What lists of elements read as, where elements are put in; and what the lists of an edit's operations have.
-use Rattle.std.proofs.Common.{◌≡◌, ℕ, zero, suc, ◌+◌, ◌<◌, ◌≤◌, true, false, cond, not, ◌&&◌, ◌||◌, List, [], ◌∷◌, ◌++◌, map, filter, take, drop, length, refl, sym, ap, ◌∙◌, subst, arith, true≢false}
+use Rattle.std.proofs.Common.{◌≡◌, ℕ, zero, suc, ◌+◌, ◌<◌, ◌≤◌, true, false, cond, not, ◌&&◌, ◌||◌, List, [], ◌∷◌, ◌++◌, map, filter, take, drop, length, refl, sym, ap, ◌∙◌, subst, arith, true≢false, append-nil}
 use Rattle.std.specs.Prelude.{Option, Some, None}
 use Rattle.std.specs.Option.{option_or}
 use Rattle.std.specs.List.{list_any, AllByRecursion, IsDistinct, filter_map, cons_option}
@@ -7,7 +7,7 @@ use Rattle.std.specs.FinMap as finite_map
 use Rattle.std.specs.FinSet as finite_set
 use Rattle.std.proofs.lemmas.Bool.{false_from_ne_true, or_parts}
 use Rattle.rga_ops.specs.Identifier.{Identifier, identifier, id_cmp, is_id, is_root}
-use Rattle.rga_ops.specs.Content.{Content, element, clock_of, single, content_of}
+use Rattle.rga_ops.specs.Content.{Content, element, clock_of, single, content_of, join}
 use Rattle.rga_ops.specs.Places.{is_visible}
 use Rattle.rga_ops.specs.Placement.{change_after, without}
 use Rattle.rga_ops.specs.declared.op.Op.{Op}
@@ -181,6 +181,18 @@ once_has id (x ∷ xs) m = elim (is id x) as (λ b. is id x ≡ b → (b || list
 pub deleted_elements-restorations : (replica last : ℕ) (back : List (Identifier × ℕ)) → deleted_elements (restorations replica last back) ≡ []
 deleted_elements-restorations replica last [] = refl
 deleted_elements-restorations replica last (b ∷ back) = deleted_elements-restorations replica (last + 1) back
+
+pub deleted_elements-revert : (ids : List Identifier) (replica last : ℕ) (back : List (Identifier × ℕ)) → deleted_elements (map Delete ids ++ restorations replica last back) ≡ ids
+deleted_elements-revert ids replica last back =
+    deleted_elements-append (map Delete ids) (restorations replica last back)
+    ∙ (λ k. deleted_elements-deletions ids k ++ deleted_elements-restorations replica last back k) ∙ append-nil ids
+
+-- what is deleted once a revert was taken
+pub deleted_by_revert : (c : Content) (ids : List Identifier) (replica last : ℕ) (back : List (Identifier × ℕ)) (q : Identifier) → finite_set.contains (join c (content_of (map Delete ids ++ restorations replica last back))).deleted q ≡ (finite_set.contains c.deleted q || list_any (is q) ids)
+deleted_by_revert c ids replica last back q =
+    let ops : List Op = map Delete ids ++ restorations replica last back in
+    contains-join c (content_of ops) q
+    ∙ ap (λ b. finite_set.contains c.deleted q || b) (contains-operations ops q ∙ ap (list_any (is q)) (deleted_elements-revert ids replica last back))
 
 -- ---- how many elements are inserted
 

@@ -1,5 +1,4 @@
 pub mod Characters
-pub mod Complete
 pub mod Document
 pub mod Excerpt
 pub mod Following

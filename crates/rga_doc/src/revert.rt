@@ -1,19 +1,19 @@
 //! Edits that are reverted.
-ghost use Rattle.std.specs.Prelude.{◌≡◌, false, ◌+◌, ◌≤◌, ◌<◌, ◌++◌, filter, map, take, length, Ok, Err, IfOk, IfErr, OnOk, OnErr};
+ghost use Rattle.std.specs.Prelude.{◌≡◌, ◌||◌, not, ◌+◌, ◌≤◌, ◌<◌, ◌++◌, filter, map, take, length, Ok, Err, IfOk, IfErr, OnOk, OnErr};
 ghost use Rattle.indexmap.specs.IndexSet.{contains};
 ghost use Rattle.rga_ops.specs.Prelude.{Identifier, clock_of, content_of, is_id, join, order, text, IsAnswer};
 ghost use Rattle.rga_ops.specs.ListAnswer.{and_check};
+ghost use Rattle.rga_ops.specs.Order.{waiting};
 ghost use Rattle.rga_ops.specs.Places.{is_visible};
+ghost use Rattle.rga_ops.specs.RootPath.{is_complete};
 ghost use Rattle.rga_ops.specs.declared.refusal.Refusal.TheVariants.{Memory};
 ghost use Rattle.rga_store.specs.Taking.{TakesMore};
-ghost use Rattle.rga_doc.specs.Complete.{AreTheComplete};
 ghost use Rattle.rga_doc.specs.LocalEdit.{room_answer, place_answer, counter_answer};
 ghost use Rattle.rga_doc.specs.Revert.{distinct_elements, restorations, revert_operations, are_restorable, revert_answer, put_back};
 
 use crate::doc::Doc;
 use crate::draft::Draft;
 use crate::edit::{check_counters, has_room};
-use crate::element_sets::{Complete, put_in};
 use crate::taking::take_all;
 use indexmap::IndexSet;
 use rga_ops::{Id, Op, Refusal};
@@ -124,8 +124,8 @@ impl<S: TextStore> Doc<S> {
     }
 }
 
-/// What a revert deletes, where it is not refused: those of the elements that are visible, each
-/// once. `Range` and `Clock` as `revert` has them; `Memory`.
+/// What a revert deletes, if it is not refused: those of the elements that are visible, each once.
+/// `Range` and `Clock` as `revert` has them; `Memory`.
 fn check_revert<S: TextStore>(
     alloc: Global,
     store: &S,
@@ -138,60 +138,28 @@ fn check_revert<S: TextStore>(
     ensures visible { IfOk result (λ kept. kept.items
         ≡ distinct_elements (filter (is_visible (S.content store.now)) gone.now)) }
 {
-    let complete = Complete::of(alloc, store)?;
-    check_among(alloc, store, &complete, gone, back)
-}
-
-/// The same by what is complete.
-fn check_among<S: TextStore>(
-    alloc: Global,
-    store: &S,
-    complete: &Complete,
-    gone: &[Id],
-    back: &[(Id, char)],
-) -> Result<Vec<Id>, Refusal>
-    requires complete { AreTheComplete complete.now (S.content store.now) }
-    ensures exact { IsAnswer result (and_check
-        (place_answer (are_restorable (S.content store.now) back.now))
-        (counter_answer (S.content store.now) (length back.now))) }
-    ensures visible { IfOk result (λ kept. kept.items
-        ≡ distinct_elements (filter (is_visible (S.content store.now)) gone.now)) }
-{
-    check_restorable(alloc, store, complete, back)?;
+    let waits = store.waiting_count()?;
+    check_restorable(alloc, store, waits, back)?;
     check_counters(store, back.len())?;
-    collect_visible(alloc, store, complete, gone)
+    collect_visible(alloc, store, waits, gone)
 }
 
 /// `Range` where an element is not complete or stands twice; `Memory`.
 fn check_restorable<S: TextStore>(
     alloc: Global,
     store: &S,
-    complete: &Complete,
+    waits: usize,
     back: &[(Id, char)],
 ) -> Result<(), Refusal>
-    requires complete { AreTheComplete complete.now (S.content store.now) }
+    requires { waits ≡ length (waiting (S.content store.now)) }
     ensures { IsAnswer result (place_answer (are_restorable (S.content store.now) back.now)) }
 {
     let mut seen = IndexSet::new(alloc);
-    check_unseen(store, complete, &mut seen, back)
-}
-
-/// The same where none was seen yet; the elements are seen then.
-fn check_unseen<S: TextStore>(
-    store: &S,
-    complete: &Complete,
-    seen: &mut IndexSet<Id>,
-    back: &[(Id, char)],
-) -> Result<(), Refusal>
-    requires complete { AreTheComplete complete.now (S.content store.now) }
-    requires none { (q : Identifier) → contains is_id seen.old q ≡ false }
-    ensures { IsAnswer result (place_answer (are_restorable (S.content store.now) back.now)) }
-{
     for (element, _) in back {
-        if !complete.has(store, *element) {
+        if !is_in_order(store, waits, *element) {
             return Err(Refusal::Range);
         }
-        if !put_in(seen, *element)? {
+        if !put_in(&mut seen, *element)? {
             return Err(Refusal::Range);
         }
     }
@@ -202,46 +170,53 @@ fn check_unseen<S: TextStore>(
 fn collect_visible<S: TextStore>(
     alloc: Global,
     store: &S,
-    complete: &Complete,
+    waits: usize,
     ids: &[Id],
 ) -> Result<Vec<Id>, Refusal>
-    requires complete { AreTheComplete complete.now (S.content store.now) }
+    requires { waits ≡ length (waiting (S.content store.now)) }
     ensures ok { IfOk result (λ kept. kept.items
         ≡ distinct_elements (filter (is_visible (S.content store.now)) ids.now)) }
     ensures memory { IfErr result (λ e. e ≡ Refusal.Memory) }
 {
     let mut seen = IndexSet::new(alloc);
-    collect_unseen(alloc, store, complete, &mut seen, ids)
-}
-
-/// The same where none was seen yet; the elements are seen then.
-fn collect_unseen<S: TextStore>(
-    alloc: Global,
-    store: &S,
-    complete: &Complete,
-    seen: &mut IndexSet<Id>,
-    ids: &[Id],
-) -> Result<Vec<Id>, Refusal>
-    requires complete { AreTheComplete complete.now (S.content store.now) }
-    requires none { (q : Identifier) → contains is_id seen.old q ≡ false }
-    ensures ok { IfOk result (λ kept. kept.items
-        ≡ distinct_elements (filter (is_visible (S.content store.now)) ids.now)) }
-    ensures memory { IfErr result (λ e. e ≡ Refusal.Memory) }
-{
     let mut kept = Vec::new(alloc);
     for id in ids {
-        if !complete.has(store, *id) {
+        if !is_in_order(store, waits, *id) {
             continue;
         }
         if store.is_deleted(*id) {
             continue;
         }
-        if !put_in(seen, *id)? {
+        if !put_in(&mut seen, *id)? {
             continue;
         }
         kept.push(*id)?;
     }
     Ok(kept)
+}
+
+/// Whether an element is complete: where none waits, each that is inserted is. Takes no memory.
+fn is_in_order<S: TextStore>(store: &S, waits: usize, id: Id) -> bool
+    requires { waits ≡ length (waiting (S.content store.now)) }
+    ensures { result ≡ is_complete (S.content store.now) id }
+{
+    if waits == 0 {
+        return store.get(id).is_some();
+    }
+    if id == Id::ROOT {
+        return false;
+    }
+    store.place_of(id).is_some()
+}
+
+/// Puts an element in, and tells whether it is new. `Memory` alone.
+fn put_in(set: &mut IndexSet<Id>, id: Id) -> Result<bool, Refusal>
+    ensures new { IfOk result (λ new. new ≡ not (contains is_id set.old id)) }
+    ensures members { OnOk result ((q : Identifier) →
+        contains is_id set.new q ≡ (is_id id q || contains is_id set.old q)) }
+    ensures memory { IfErr result (λ e. e ≡ Refusal.Memory) }
+{
+    Ok(set.insert(id)?)
 }
 
 impl Draft {

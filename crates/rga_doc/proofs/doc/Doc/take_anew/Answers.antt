@@ -1,12 +1,10 @@
-use Rattle.std.proofs.Common.{◌≡◌, ℕ, List, length, sym, ap, ◌∙◌}
-use Rattle.std.specs.Prelude.{Ok}
-use Rattle.rga_ops.specs.Content.{Content, join, content_of}
+use Rattle.std.proofs.Common.{◌≡◌, List, length, sym, ap, ◌∙◌}
+use Rattle.rga_ops.specs.Content.{join, content_of}
 use Rattle.rga_ops.specs.ListAnswer.{list_answer}
 use Rattle.rga_ops.specs.Order.{text}
 use Rattle.rga_ops.specs.Splice.{Splice, text_after, are_falling, new_characters}
 use Rattle.rga_doc.specs.Document.{Document}
-use Rattle.rga_doc.specs.LocalEdit.{splices_answer, splices_operations}
-use Rattle.rga_doc.proofs.EditLaws.{allowed, splices_taken, splices_text}
+use Rattle.rga_doc.proofs.EditLaws.{allowed, splices_taken, splices_taken_text}
 use Rattle.rga_doc.proofs.doc.Doc.take_anew.Goals as goal
 
 -- the store takes the operations of splices that are allowed
@@ -18,26 +16,20 @@ take_all-requires g c =
 
 pub spliced-requires : goal.spliced-requires
 spliced-requires g c =
-    let content : Content = g.S.Taker.content c.self.inside.store in
-    let limit : ℕ = g.S.Taker.limit c.self.inside.store in
+    let old : Document = c.args.self.now in
     let splices : List Splice = c.args.splices.now in
-    let all : c.self.inside.listing.characters.items ≡ text content = c.self.invariant.1 (ap (λ (d : Document). d.listed) c.self.view_is ∙ c.requires.listed) in
-    let allowed_here : splices_answer limit content splices ≡ Ok tt = ap (λ (d : Document). splices_answer d.limit d.content splices) c.self.view_is ∙ c.requires.allowed in
+    let all : c.self.inside.listing.characters.items ≡ text old.content = c.self.invariant.1 (ap (λ (d : Document). d.listed) c.self.view_is ∙ c.requires.listed) ∙ ap (λ (d : Document). text d.content) c.self.view_is in
     ap (λ n. are_falling n splices) (ap length all)
-    ∙ (allowed limit content (are_falling (length (text content)) splices) (new_characters splices) allowed_here).1
+    ∙ (allowed old.limit old.content (are_falling (length (text old.content)) splices) (new_characters splices) c.requires.allowed).1
 
 -- the characters are spliced with the text
 pub invariant_of-self : goal.invariant_of-self
 invariant_of-self g c =
-    let content : Content = g.S.Taker.content c.self.inside.store in
-    let limit : ℕ = g.S.Taker.limit c.self.inside.store in
-    let replica : ℕ = c.self.inside.replica in
+    let old : Document = c.args.self.now in
     let splices : List Splice = c.args.splices.now in
-    let all : c.self.inside.listing.characters.items ≡ text content = c.self.invariant.1 (ap (λ (d : Document). d.listed) c.self.view_is ∙ c.requires.listed) in
-    let allowed_here : splices_answer limit content splices ≡ Ok tt = ap (λ (d : Document). splices_answer d.limit d.content splices) c.self.view_is ∙ c.requires.allowed in
-    let ops : c.args.ops.now ≡ splices_operations replica content splices = c.requires.operations ∙ sym (ap (λ (d : Document). splices_operations d.replica d.content splices) c.self.view_is) in
-    let joined : g.S.Taker.content c.take_all.new.store ≡ join content (content_of (splices_operations replica content splices)) =
-    c.take_all.ensures.content c.if-take_all.true ∙ ap (λ done. join content (content_of done)) ops in (
+    let all : c.self.inside.listing.characters.items ≡ text old.content = c.self.invariant.1 (ap (λ (d : Document). d.listed) c.self.view_is ∙ c.requires.listed) ∙ ap (λ (d : Document). text d.content) c.self.view_is in
+    let joined : g.S.Taker.content c.take_all.new.store ≡ join old.content (content_of c.args.ops.now) = c.take_all.ensures.content c.if-take_all.true ∙ ap (λ (d : Document). join d.content (content_of c.args.ops.now)) c.self.view_is in (
       c.self.invariant.0,
-      λ listed. c.in-Ok.ensures.ok ∙ ap (λ xs. text_after xs splices) all ∙ sym (splices_text limit replica content splices allowed_here) ∙ ap text (sym joined),
+      λ listed. c.in-Ok.ensures.ok ∙ ap (λ xs. text_after xs splices) all
+          ∙ sym (splices_taken_text old.limit old.replica old.content (g.S.Taker.content c.take_all.new.store) splices c.args.ops.now c.requires.allowed c.requires.operations joined),
     )

@@ -3,7 +3,7 @@ use Rattle.indexmap.specs.IndexSet.{contains}
 use Rattle.rga_ops.specs.Identifier.{is_id}
 use Rattle.rga_doc.specs.Revert.{are_restorable}
 use Rattle.rga_doc.proofs.RevertSets.{left_able}
-use Rattle.rga_doc.proofs.revert.check_unseen.Given as goal
+use Rattle.rga_doc.proofs.revert.check_restorable.Given as goal
 
 -- what is left decides
 abbrev pub invariant-loop-element : goal.invariant-loop-element

@@ -4,7 +4,7 @@ use Rattle.rga_ops.specs.Identifier.{is_id}
 use Rattle.rga_ops.specs.Places.{is_visible}
 use Rattle.rga_doc.specs.Revert.{distinct_elements}
 use Rattle.rga_doc.proofs.RevertSets.{new_only}
-use Rattle.rga_doc.proofs.revert.collect_unseen.Given as goal
+use Rattle.rga_doc.proofs.revert.collect_visible.Given as goal
 
 -- the new ones of what is left complete those so far
 abbrev pub invariant-loop-id : goal.invariant-loop-id
