@@ -9,7 +9,7 @@ use Rattle.std.proofs.lemmas.Bool.Decides.{nat_tests}
 use Rattle.std.proofs.lemmas.List.{reverse-append}
 use Rattle.std.proofs.lemmas.List.Elements.{filter-append, filter_map-append}
 use Rattle.std.proofs.lemmas.List.Sums.{length-filter, count_by-le-length}
-use Rattle.std.proofs.lemmas.Option.{same_Some, none-some}
+use Rattle.std.proofs.lemmas.Option.{none-some}
 use Rattle.std.specs.Int.{from_bool}
 use Rattle.rga_ops.specs.Identifier.{Identifier, is_id, is_root}
 use Rattle.rga_ops.specs.Content.{Element, Content, IsSound}
@@ -18,15 +18,13 @@ use Rattle.rga_ops.specs.Order.{order, shown, Precedes, IsInOrder}
 use Rattle.rga_ops.specs.Places.{is_visible, up_to, place}
 use Rattle.rga_ops.proofs.IdentifierLaws.{is_id-is, is_id-itself}
 use Rattle.rga_ops.proofs.PathLaws.{root_path-root, root_path-absent, root_path-step, inserted_if_complete}
-use Rattle.rga_ops.proofs.AnswerLaws.{well_formed_insertion}
 use Rattle.rga_ops.proofs.OrderLaws.{order_list, precedes_later}
 use Rattle.rga_ops.proofs.WaitingLaws.{ordered_and_waiting}
-use Rattle.rga_ops.specs.declared.op.Op.TheVariants.{Insert}
 use Rattle.rga_tree.specs.Children.{has_child}
 use Rattle.rga_store.specs.Child.{is_child}
-use Rattle.rga_tree.specs.Preceding.{beginning, visible_up_to, IsLastUnder}
+use Rattle.rga_tree.specs.Preceding.{beginning, visible_up_to, IsLastUnder, IsShownChild}
 use Rattle.rga_store.proofs.StepLaws.{len-keys}
-use Rattle.rga_tree.proofs.PrecedingLaws.{Stands, in_list, behind_root, tail_in_order, complete_if_pathed}
+use Rattle.rga_tree.proofs.PrecedingLaws.{Stands, in_list, behind_root, tail_in_order, complete_if_pathed, proper}
 
 -- ---- the end of the order
 
@@ -124,18 +122,10 @@ shorter c e x before = omega (arith, ap length before, length-append (beginning 
 
 up_to-short : (id : Identifier) (xs : List Identifier) → length (up_to id xs) ≤ length xs
 up_to-short id [] = omega arith
-up_to-short id (x ∷ xs) =
-    elim (is_id x id) as (λ b. length (cond b (x ∷ []) (x ∷ up_to id xs)) ≤ suc (length xs)) [
-      | true ↦ omega arith
-      | false ↦ let rest = up_to-short id xs in omega arith
-    ]
+up_to-short id (x ∷ xs) = let rest = up_to-short id xs in grind arith
 
 beginning-short : (c : Content) (id : Identifier) → length (beginning c id) ≤ length (order c)
-beginning-short c id =
-    elim (is_root id) as (λ b. length (cond b [] (up_to id (order c))) ≤ length (order c)) [
-      | true ↦ omega arith
-      | false ↦ up_to-short id (order c)
-    ]
+beginning-short c id = let rest = up_to-short id (order c) in grind arith
 
 pub few_up_to : (c : Content) (id : Identifier) → length (visible_up_to c id) ≤ finite_map.len c.inserted
 few_up_to c id = omega (arith, length-filter (is_visible c) (beginning c id), count_by-le-length (is_visible c) (beginning c id), beginning-short c id, ordered_and_waiting c, len-keys c)
@@ -172,56 +162,19 @@ is_some-mapped : {A B : Type 0} (f : A → B) (o : Option A) → is_some (option
 is_some-mapped f None = refl
 is_some-mapped f (Some x) = refl
 
--- the parent of an element, and the character that it shows
-abbrev pub element_parent_and_char : Option ℕ → Element → Identifier × Option ℕ
-element_parent_and_char ch y = (y.parent, ch)
-
--- the same of an identifier, if it is inserted
-abbrev pub parent_and_char : Content → Identifier → Option (Identifier × Option ℕ)
-parent_and_char c id = option_map (element_parent_and_char (shown c id)) (finite_map.get c.inserted id)
-
--- a parent and a character, as such an answer
-abbrev given_parent_and_char : Identifier → Option ℕ → Identifier × Option ℕ
-given_parent_and_char p ch = (p, ch)
-
-pub record IsShownChild (c : Content) (x p : Identifier) (ch : Option ℕ) : Type 0 where
-  pub element : Element
-  pub found : finite_map.get c.inserted x ≡ Some element
-  pub parent : element.parent ≡ p
-  pub shows : ch ≡ shown c x
-
-pub shown_child : (c : Content) (x p : Identifier) (ch : Option ℕ) → parent_and_char c x ≡ Some (given_parent_and_char p ch) → IsShownChild c x p ch
-shown_child c x p ch h =
-    elim (finite_map.get c.inserted x) as (λ o. finite_map.get c.inserted x ≡ o → option_map (element_parent_and_char (shown c x)) o ≡ Some (given_parent_and_char p ch) → IsShownChild c x p ch) [
-      | None ↦ λ g h. absurd (none-some _ h)
-      | Some y ↦ λ g h.
-          let same : element_parent_and_char (shown c x) y ≡ given_parent_and_char p ch = same_Some _ _ h in
-          record { element = y; found = g; parent = ap (λ q. q.0) same; shows = sym (ap (λ q. q.1) same) }
-    ] refl h
-
 pub child_of_parent : (c : Content) (x p : Identifier) (ch : Option ℕ) → IsShownChild c x p ch → is_child c p x ≡ true
 child_of_parent c x p ch w =
     ap (λ (o : Option Element). option_map_or (λ y. is_id y.parent p) o false) w.found ∙ ap (λ y. is_id y p) w.parent ∙ is_id-itself p
 
-pub absent : (c : Content) (x : Identifier) → parent_and_char c x ≡ None → finite_map.get c.inserted x ≡ None
-absent c x h =
-    elim (finite_map.get c.inserted x) as (λ o. option_map (element_parent_and_char (shown c x)) o ≡ None → o ≡ None) [
-      | None ↦ λ h. refl
-      | Some y ↦ λ h. absurd (none-some _ (sym h))
-    ] h
-
 -- what stands and is not inserted is the root
-pub root_if_absent : (c : Content) (x : Identifier) → Stands c x → parent_and_char c x ≡ None → is_root x ≡ true
+pub root_if_absent : (c : Content) (x : Identifier) → Stands c x → finite_map.get c.inserted x ≡ None → is_root x ≡ true
 root_if_absent c x stands h =
     elim (is_root x) as (λ b. (b ≡ false → is_complete c x ≡ true) → b ≡ true) [
       | true ↦ λ s. refl
       | false ↦ λ s.
           let there : (y : Element) × (finite_map.get c.inserted x ≡ Some y) = inserted_if_complete c x (s refl) in
-          absurd (none-some _ (sym (absent c x h) ∙ there.1))
+          absurd (none-some _ (sym h ∙ there.1))
     ] stands
-
-proper : (c : Content) → IsSound c → (x : Identifier) (y : Element) → finite_map.get c.inserted x ≡ Some y → (is_root x ≡ false) × (nat_le x.counter y.parent.counter ≡ false)
-proper c sound x y g = well_formed_insertion x y.parent y.ch (sound (Insert x y.parent y.ch) g)
 
 module _ (c : Content) (sound : IsSound c) (x p : Identifier) (ch : Option ℕ) (w : IsShownChild c x p ch) where
   pub no_root : is_root x ≡ false
@@ -239,11 +192,11 @@ module _ (c : Content) (sound : IsSound c) (x p : Identifier) (ch : Option ℕ) 
       ap is_some (root_path-step c x w.element no_root w.found) ∙ is_some-mapped (λ q. q ++ x ∷ []) (root_path c w.element.parent)
       ∙ ap (λ q. is_some (root_path c q)) w.parent
 
-pub reaches_if_root : (c : Content) (x : Identifier) → parent_and_char c x ≡ None → is_root x ≡ is_some (root_path c x)
+pub reaches_if_root : (c : Content) (x : Identifier) → finite_map.get c.inserted x ≡ None → is_root x ≡ is_some (root_path c x)
 reaches_if_root c x h =
     elim (is_root x) as (λ b. is_root x ≡ b → b ≡ is_some (root_path c x)) [
       | true ↦ λ r. ap is_some (sym (root_path-root c x r))
-      | false ↦ λ r. ap is_some (sym (root_path-absent c x r (absent c x h)))
+      | false ↦ λ r. ap is_some (sym (root_path-absent c x r h))
     ] refl
 
 -- what has a root path stands, and what has none has no place

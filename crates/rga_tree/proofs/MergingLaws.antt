@@ -1,5 +1,5 @@
 -- What two sets of nodes know together, and where they conflict, node by node.
-use Rattle.std.proofs.Common.{◌≡◌, ℕ, ◌+◌, ◌<◌, suc, zero, arith, Bool, true, false, cond, not, ◌&&◌, ◌||◌, List, [], ◌∷◌, filter, take, length, slice_get, is_some, refl, sym, ap, ◌∙◌, subst, true≢false, inl, inr, length-append}
+use Rattle.std.proofs.Common.{◌≡◌, ℕ, ◌+◌, ◌<◌, arith, Bool, true, false, cond, not, ◌&&◌, ◌||◌, List, [], ◌∷◌, filter, take, length, slice_get, is_some, refl, sym, ap, ◌∙◌, subst, true≢false, inl, inr, length-append}
 use Rattle.std.specs.Prelude.{Option, Some, None, ◌⊎◌}
 use Rattle.std.specs.Option.{option_map, option_map_or}
 use Rattle.std.specs.List.{position_or_len}
@@ -10,7 +10,7 @@ use Rattle.std.specs.FinSet as finite_set
 use Rattle.std.proofs.lemmas.Bool.{cases_eq, false_from_ne_true}
 use Rattle.std.proofs.lemmas.List.{length-map}
 use Rattle.std.proofs.lemmas.List.Elements.{filter-append}
-use Rattle.std.proofs.lemmas.Option.{same_Some, none-some, slice_get_within}
+use Rattle.std.proofs.lemmas.Option.{same_Some, none-some, slice_get_within, slice_get-map}
 use Rattle.rga_ops.specs.Identifier.{Identifier, id_cmp, is_id, IsLarger}
 use Rattle.rga_ops.specs.Content.{Element, element, Content, known_ids, join}
 use Rattle.rga_ops.specs.ListAnswer.{has_another, is_conflict, least_conflict, IsConflict}
@@ -47,9 +47,7 @@ pub record IsLeastSoFar (p : Identifier → Bool) (ns : Nodes) (count : ℕ) (le
   pub bounds : (i : ℕ) (q : Identifier) → i < count → StandsAt ns i q → p q ≡ true → IsAtMost least q
 
 key_there : (ns : Nodes) (i : ℕ) (k : Identifier) (v : Node) → slice_get ns i ≡ Some (k, v) → StandsAt ns i k
-key_there [] i k v h = absurd (none-some _ h)
-key_there (n ∷ ns) zero k v h = ap (option_map (λ (m : Identifier × Node). m.0)) h
-key_there (n ∷ ns) (suc i) k v h = key_there ns i k v h
+key_there ns i k v h = slice_get-map (λ (n : Identifier × Node). n.0) ns i ∙ ap (option_map (λ (n : Identifier × Node). n.0)) h
 
 -- what is not smaller than what is not smaller
 not_smaller : (a b c : Identifier) → (IsLarger b a → ⊥) → (IsLarger c b → ⊥) → IsLarger c a → ⊥

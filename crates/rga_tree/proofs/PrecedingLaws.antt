@@ -19,6 +19,7 @@ use Rattle.rga_ops.specs.RootPath.IsRootPath.{at_root, below}
 use Rattle.rga_ops.specs.Order.{order, Precedes, IsInOrder}
 use Rattle.rga_ops.specs.Places.{is_visible, up_to, place}
 use Rattle.rga_ops.proofs.IdentifierLaws.{ids_total, ids_exact, is_id-is, is_id-itself}
+use Rattle.rga_ops.proofs.MemberLaws.{of_member}
 use Rattle.rga_ops.proofs.PathLaws.{root_path-is, is-root_path, root_path-root, root_path-step, one_path, one_element, ends, is_complete-iff, path_of_complete, not_complete_root}
 use Rattle.rga_ops.proofs.AnswerLaws.{well_formed_insertion}
 use Rattle.rga_ops.proofs.ClockLaws.{within_clock}
@@ -142,12 +143,7 @@ on_path_child {c} {z} {q} (below x above r g s e) id p up m rest h =
 -- ---- lists of children
 
 pub all_of : (P : Identifier → Type 0) (ks : List Identifier) (m : Identifier) → AllByRecursion P ks → has_child ks m ≡ true → P m
-all_of P [] m h has = absurd (true≢false (sym has))
-all_of P (k ∷ ks) m h has =
-    elim (or_cases (is_id k m) (has_child ks m) has) [
-      | inl t ↦ subst P (is_id-is k m t) h.0
-      | inr t ↦ all_of P ks m h.1 t
-    ]
+all_of P ks m h has = of_member P ks m h (sym (has-any ks m) ∙ has)
 
 oldest_least : (ks : List Identifier) (o : Identifier) → IsRising ks → slice_get ks 0 ≡ Some o → (m : Identifier) → has_child ks m ≡ true → (m ≡ o) ⊎ (id_cmp o m ≡ Less)
 unfolding IsStrictlySortedBy
@@ -253,17 +249,18 @@ descent_start c id h =
       further = λ k u b. u;
     }
 
-module _ (c : Content) (K : Identifier → List Identifier) (w : IsFamily c K) (sound : IsSound c) where
-  proper : (k : Identifier) (x : Element) → finite_map.get c.inserted k ≡ Some x → (is_root k ≡ false) × (nat_le k.counter x.parent.counter ≡ false)
-  proper k x g = well_formed_insertion k x.parent x.ch (sound (Insert k x.parent x.ch) g)
+-- an insertion is not of the root, and its counter is above its parent's
+pub proper : (c : Content) → IsSound c → (k : Identifier) (x : Element) → finite_map.get c.inserted k ≡ Some x → (is_root k ≡ false) × (nat_le k.counter x.parent.counter ≡ false)
+proper c sound k x g = well_formed_insertion k x.parent x.ch (sound (Insert k x.parent x.ch) g)
 
+module _ (c : Content) (K : Identifier → List Identifier) (w : IsFamily c K) (sound : IsSound c) where
   child_in : (p k : Identifier) → has_child (K p) k ≡ true → IsChild c p k
   child_in p k has = child_found c p k (sym (w.children p k) ∙ has)
 
   child_path : (p k : Identifier) (above : Path) → root_path c p ≡ Some above → has_child (K p) k ≡ true → root_path c k ≡ Some (above ++ k ∷ [])
   child_path p k above h has =
       let ch : IsChild c p k = child_in p k has in
-      root_path-step c k ch.element (proper k ch.element ch.found).0 ch.found ∙ ap (option_map (λ q. q ++ k ∷ [])) (ap (root_path c) ch.parent ∙ h)
+      root_path-step c k ch.element (proper c sound k ch.element ch.found).0 ch.found ∙ ap (option_map (λ q. q ++ k ∷ [])) (ap (root_path c) ch.parent ∙ h)
 
   -- where a root path goes on from an element's, it goes on by one of the element's children
   goes_on : (z id : Identifier) (p : Path) (m : Identifier) (rest : Path) → root_path c id ≡ Some p → root_path c z ≡ Some (p ++ m ∷ rest) → has_child (K id) m ≡ true
@@ -321,7 +318,7 @@ module _ (c : Content) (K : Identifier → List Identifier) (w : IsFamily c K) (
   pub descent_smaller : (at o : Identifier) → slice_get (K at) 0 ≡ Some o → clock_of c - o.counter < clock_of c - at.counter
   descent_smaller at o oldest =
       let ch : IsChild c at o = child_in at o (oldest_there (K at) o oldest) in
-      let up : nat_le o.counter at.counter ≡ false = ap (λ (p : Identifier). nat_le o.counter p.counter) (sym ch.parent) ∙ (proper o ch.element ch.found).1 in
+      let up : nat_le o.counter at.counter ≡ false = ap (λ (p : Identifier). nat_le o.counter p.counter) (sym ch.parent) ∙ (proper c sound o ch.element ch.found).1 in
       nearer (clock_of c) o.counter at.counter ((within_clock c).own o ch.element ch.found) up
     where
       nearer : (n o a : ℕ) → o ≤ n → nat_le o a ≡ false → n - o < n - a
@@ -363,7 +360,7 @@ module _ (c : Content) (K : Identifier → List Identifier) (w : IsFamily c K) (
     sibling_complete k next =
         let has : has_child (K p) k ≡ true = (newer_some (K p) x k (w.rising p) next).there in
         let ch : IsChild c p k = child_in p k has in
-        λ j. not ((proper k ch.element ch.found).0 j) && is_some (child_path p k above path_p has j)
+        λ j. not ((proper c sound k ch.element ch.found).0 j) && is_some (child_path p k above path_p has j)
 
     pub last_before : (k e : Identifier) → next_newer x (K p) ≡ Some k → IsLastUnder c k e → IsJustBefore c e x
     last_before k e next last =

@@ -1,6 +1,5 @@
 //! Visible elements counted from an element back through the order, by look-ups. Takes no memory.
 ghost use Rattle.std.specs.Prelude.{◌≡◌, ◌≤◌, ◌++◌, ◌∷◌, [], false, true, length, slice_get, is_some, None, Some, IfSome};
-ghost use Rattle.std.specs.Option.{option_map};
 ghost use Rattle.std.specs.FinMap as finite_map;
 ghost use Rattle.rga_ops.specs.Prelude.{is_root, order, place, visible, IsSound};
 ghost use Rattle.rga_ops.specs.RootPath.{is_complete, root_path};
@@ -8,7 +7,7 @@ ghost use Rattle.rga_ops.specs.Order.{shown};
 ghost use Rattle.rga_ops.specs.Places.{is_visible};
 ghost use Rattle.rga_store.specs.declared.text_store.TheConstants.{MAX_LIMIT};
 ghost use Rattle.rga_tree.specs.Nodes.{content_of_nodes, char_at, AreDistinctNodes};
-ghost use Rattle.rga_tree.specs.Preceding.{beginning, visible_up_to};
+ghost use Rattle.rga_tree.specs.Preceding.{beginning, visible_up_to, IsShownChild};
 ghost use Rattle.rga_tree.specs.Tree.{HasFamilies};
 
 use crate::nodes::{Node, find_node};
@@ -147,8 +146,10 @@ fn parent_and_char(
     id: Id,
 ) -> Option<(Id, Option<char>)>
     requires { AreDistinctNodes nodes.now.entries }
-    ensures { let content = content_of_nodes nodes.now.entries in result ≡ option_map
-        (λ x. (x.parent, shown content id)) (finite_map.get content.inserted id) }
+    ensures shown { let content = content_of_nodes nodes.now.entries in IfSome result
+        (λ p. IsShownChild content id p.0 p.1) }
+    ensures absent { let content = content_of_nodes nodes.now.entries in result ≡ None →
+        finite_map.get content.inserted id ≡ None }
 {
     let node = find_node(nodes, near, id)?;
     *near = near.wrapping_sub(1);
