@@ -52,7 +52,7 @@ deletes (id ∷ ids) c lo hi rest within split at =
     let later = deletes ids d lo (lo + length ids) rest (shows_long c d lo (lo + 1) [] [] within first) further refl in
     record {
       outcome = later.outcome;
-      leads = leads_on c d later.outcome (Delete id ∷ []) (map Delete ids) 0 0 (deletion_leads c id (visible_at c lo id here).0) later.leads;
+      leads = leads_on c d later.outcome (Delete id ∷ []) (map Delete ids) 0 0 0 refl (deletion_leads c id (visible_at c lo id here).0) later.leads;
       shows = shows_on c d later.outcome lo (lo + 1) lo (lo + length ids) (length ids) hi [] [] [] [] within refl (omega arith) refl (omega (arith, at)) first later.shows;
       stays = later.stays ∙ order-deletion c id;
     }
@@ -83,15 +83,12 @@ inserts (ch ∷ put) c replica lo last after now within is =
     let later = inserts put d replica (suc lo) (last + 1) id (next ∙ sym leads.time) (slice_get_within (visible d) lo id here) (sym (ap (λ o. unwrap_or o root) here)) in
     record {
       outcome = later.outcome;
-      leads = subst (λ n. Leads c later.outcome (chain replica last after (ch ∷ put)) n) (one_more (length put)) (leads_on c d later.outcome (Insert id after ch ∷ []) (chain replica (last + 1) id put) 1 (length put) leads later.leads);
+      leads = leads_on c d later.outcome (Insert id after ch ∷ []) (chain replica (last + 1) id put) 1 (length put) (suc (length put)) (omega arith) leads later.leads;
       shows = shows_on c d later.outcome lo lo (suc lo) (suc lo) 0 lo (id ∷ []) row (ch ∷ []) put within refl (omega arith) (omega arith) (omega arith) first later.shows;
       stands =
           later.stands ∙ ap (put_row_behind id row) (order-newest c id newer after ch)
           ∙ put_row_on id row (newest_element c id newer) after (order c) (not_in_order c id after ch lo next at);
     }
-  where
-    one_more : (n : ℕ) → 1 + n ≡ suc n
-    one_more n = omega arith
 
 -- ---- one splice
 
@@ -109,14 +106,10 @@ splice_of c replica lo hi put reaches gone come =
     let after : Identifier = left_of (visible c) lo in
     record {
       outcome = come.outcome;
-      leads = subst (λ n. Leads c come.outcome (splice_operations replica c lo hi put) n) (no_more (length put))
-          (leads_on c gone.outcome come.outcome (map Delete (drop lo (take hi (visible c)))) (chain replica (clock_of c) after put) 0 (length put) gone.leads come.leads);
+      leads = leads_on c gone.outcome come.outcome (map Delete (drop lo (take hi (visible c)))) (chain replica (clock_of c) after put) 0 (length put) (length put) (omega arith) gone.leads come.leads;
       shows = shows_on c gone.outcome come.outcome lo hi lo lo 0 hi [] ids [] put reaches refl (omega arith) (omega arith) (omega arith) gone.shows come.shows;
       stands = come.stands ∙ ap (put_row_behind after ids) gone.stays;
     }
-  where
-    no_more : (n : ℕ) → 0 + n ≡ n
-    no_more n = omega arith
 
 pub splices_at : (c : Content) (replica lo hi : ℕ) (put : List ℕ) → lo ≤ hi → hi ≤ length (visible c) → SplicesAt c replica lo hi put
 splices_at c replica lo hi put up within =
@@ -209,7 +202,7 @@ splices_all (s ∷ splices) c replica bound reaches falling =
     record {
       outcome = later.outcome;
       leads = subst (λ d. Leads c later.outcome (own ++ splices_operations replica d splices) (length s.put + new_characters splices)) one.leads.joined
-          (leads_on c one.outcome later.outcome own (splices_operations replica one.outcome splices) (length s.put) (new_characters splices) one.leads later.leads);
+          (leads_on c one.outcome later.outcome own (splices_operations replica one.outcome splices) (length s.put) (new_characters splices) (length s.put + new_characters splices) refl one.leads later.leads);
       reads = later.reads ∙ ap (λ chars. text_after chars splices) one.shows.characters;
       elements = later.elements ∙ (λ k. elements_after replica (one.leads.time k) (one.shows.elements k) splices);
       keeps = λ p hides.

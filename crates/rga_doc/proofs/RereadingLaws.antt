@@ -52,18 +52,18 @@ module _ (p q : Identifier → Bool) where
 
 -- one more item in front of lists that end alike
 one_in_front : (x : Identifier) (ys zs : List Identifier) (n : ℕ) → drop (length ys - n) ys ≡ drop (length zs - n) zs → drop (suc (length ys) - n) (x ∷ ys) ≡ drop (suc (length zs) - n) (x ∷ zs)
-one_in_front x ys zs n h = by (nat_le n (length ys)) (nat_le n (length zs)) refl refl
+one_in_front x ys zs n h = by (nat_le n (length ys)) refl
   where
-    by : (a b : Bool) → nat_le n (length ys) ≡ a → nat_le n (length zs) ≡ b → drop (suc (length ys) - n) (x ∷ ys) ≡ drop (suc (length zs) - n) (x ∷ zs)
-    by true true t u =
+    by : (a : Bool) → nat_le n (length ys) ≡ a → drop (suc (length ys) - n) (x ∷ ys) ≡ drop (suc (length zs) - n) (x ∷ zs)
+    by true t =
         let few : n ≤ length ys = grind (arith, nat_tests) in
-        let also : n ≤ length zs = grind (arith, nat_tests) in
+        let also : n ≤ length zs = omega (arith, few, length-drop (length ys - n) ys, length-drop (length zs - n) zs, ap length h) in
         let next : suc (length ys) - n ≡ suc (length ys - n) = omega (arith, few) in
         let next_too : suc (length zs) - n ≡ suc (length zs - n) = omega (arith, also) in
         ap (λ m. drop m (x ∷ ys)) next ∙ h ∙ sym (ap (λ m. drop m (x ∷ zs)) next_too)
-    by false false t u =
+    by false t =
         let many : length ys < n = grind (arith, nat_tests) in
-        let also : length zs < n = grind (arith, nat_tests) in
+        let also : length zs < n = omega (arith, many, length-drop (length ys - n) ys, length-drop (length zs - n) zs, ap length h) in
         let none : length ys - n ≡ 0 = omega (arith, many) in
         let none_too : length zs - n ≡ 0 = omega (arith, also) in
         let whole : suc (length ys) - n ≡ 0 = omega (arith, many) in
@@ -71,14 +71,6 @@ one_in_front x ys zs n h = by (nat_le n (length ys)) (nat_le n (length zs)) refl
         ap (λ m. drop m (x ∷ ys)) whole
         ∙ ap (λ r. x ∷ r) (sym (ap (λ m. drop m ys) none) ∙ h ∙ ap (λ m. drop m zs) none_too)
         ∙ sym (ap (λ m. drop m (x ∷ zs)) whole_too)
-    by true false t u =
-        let few : n ≤ length ys = grind (arith, nat_tests) in
-        let many : length zs < n = grind (arith, nat_tests) in
-        absurd (omega (arith, few, many, length-drop (length ys - n) ys, length-drop (length zs - n) zs, ap length h))
-    by false true t u =
-        let many : length ys < n = grind (arith, nat_tests) in
-        let few : n ≤ length zs = grind (arith, nat_tests) in
-        absurd (omega (arith, few, many, length-drop (length ys - n) ys, length-drop (length zs - n) zs, ap length h))
 
 -- and so they end alike, where all that differ stand before
 common_back : (p q : Identifier → Bool) (n : ℕ) (xs : List Identifier) → ((i : ℕ) (x : Identifier) → slice_get (filter p xs) i ≡ Some x → q x ≡ false → i + n < length (filter p xs)) → ((i : ℕ) (x : Identifier) → slice_get (filter q xs) i ≡ Some x → p x ≡ false → i + n < length (filter q xs)) → drop (length (filter p xs) - n) (filter p xs) ≡ drop (length (filter q xs) - n) (filter q xs)

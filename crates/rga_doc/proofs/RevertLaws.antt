@@ -44,7 +44,7 @@ removes (id ∷ ids) c all =
     let later = removes ids d further in
     record {
       outcome = later.outcome;
-      leads = leads_on c d later.outcome (Delete id ∷ []) (map Delete ids) 0 0 (deletion_leads c id all.0) later.leads;
+      leads = leads_on c d later.outcome (Delete id ∷ []) (map Delete ids) 0 0 0 refl (deletion_leads c id all.0) later.leads;
       stays = later.stays ∙ order-deletion c id;
     }
 
@@ -71,13 +71,10 @@ restores (b ∷ back) c replica last now all =
     let later = restores back d replica (last + 1) (next ∙ sym leads.time) further in
     record {
       outcome = later.outcome;
-      leads = subst (λ n. Leads c later.outcome (restorations replica last (b ∷ back)) n) (one_more (length back)) (leads_on c d later.outcome (Insert id b.0 b.1 ∷ []) (restorations replica (last + 1) back) 1 (length back) leads later.leads);
+      leads = leads_on c d later.outcome (Insert id b.0 b.1 ∷ []) (restorations replica (last + 1) back) 1 (length back) (suc (length back)) (omega arith) leads later.leads;
       stands = later.stands ∙ ap (put_back replica (last + 1) back) (order-newest c id newer b.0 b.1);
       complete = (subst (λ e. is_complete e id ≡ true) (sym later.leads.joined) (complete_still d (content_of (restorations replica (last + 1) back)) id here), later.complete);
     }
-  where
-    one_more : (n : ℕ) → 1 + n ≡ suc n
-    one_more n = omega arith
 
 -- ---- the elements of a revert are complete
 
@@ -125,13 +122,9 @@ reverts c replica gone back able =
       now = now;
       still = still;
       restored = restored;
-      leads = subst (λ n. Leads c restored.outcome (revert_operations replica c gone back) n) (no_more (length back))
-          (leads_on c removed.outcome restored.outcome (map Delete (distinct_elements (filter (is_visible c) gone))) (restorations replica (clock_of c) back) 0 (length back) removed.leads restored.leads);
+      leads = leads_on c removed.outcome restored.outcome (map Delete (distinct_elements (filter (is_visible c) gone))) (restorations replica (clock_of c) back) 0 (length back) (length back) (omega arith) removed.leads restored.leads;
       stands = restored.stands ∙ ap (put_back replica (clock_of c) back) removed.stays;
     }
-  where
-    no_more : (n : ℕ) → 0 + n ≡ n
-    no_more n = omega arith
 
 pub revert_taken : (limit replica : ℕ) (c : Content) (gone : List Identifier) (back : List (Identifier × ℕ)) → revert_answer limit c back ≡ Ok tt → list_answer limit c (revert_operations replica c gone back) ≡ Ok tt
 revert_taken limit replica c gone back h =

@@ -111,33 +111,31 @@ pub record IsEdit (c : Content) (ops : List Op) : Type 0 where
 all_visible : (c : Content) → AllByRecursion (λ id. is_visible c id ≡ true) (visible c)
 all_visible c = all_members (λ id. is_visible c id ≡ true) (visible c) (λ q m. sym (visible_elements c q) ∙ m)
 
-drafted_deletes : (P : Identifier → Type 0) (replica : ℕ) (elements : List Identifier) (last : ℕ) (splices : List Splice) → AllByRecursion P elements → AllByRecursion P (deleted_elements (draft_operations replica elements last splices))
-drafted_deletes P replica elements last [] all = tt
-drafted_deletes P replica elements last (s ∷ splices) all =
+-- they delete some of the elements, and insert newer ones
+drafted : (P : Identifier → Type 0) (replica : ℕ) (elements : List Identifier) (last : ℕ) (splices : List Splice) → AllByRecursion P elements
+    → AllByRecursion P (deleted_elements (draft_operations replica elements last splices)) × AreNewer last (inserted_elements (draft_operations replica elements last splices))
+drafted P replica elements last [] all = (tt, tt)
+drafted P replica elements last (s ∷ splices) all =
     let put : List ℕ = s.put in
     let seg : List Identifier = drop s.lo (take s.hi elements) in
-    let row = chain replica last (left_of elements s.lo) put in
+    let after : Identifier = left_of elements s.lo in
+    let row = chain replica last after put in
     let rest : List Op = draft_operations replica elements (last + length put) splices in
-    subst (AllByRecursion P) (sym (deleted_elements-append (map Delete seg ++ row) rest ∙ ap (λ xs. xs ++ deleted_elements rest) (deleted_elements-append (map Delete seg) row ∙ (λ k. deleted_elements-deletions seg k ++ deleted_elements-chain replica last (left_of elements s.lo) put k))))
-    (all_append P (seg ++ []) (deleted_elements rest) (all_append P seg [] (all_drop P s.lo (take s.hi elements) (all_take P s.hi elements all)) tt) (drafted_deletes P replica elements (last + length put) splices all))
-
-drafted_inserts : (replica : ℕ) (elements : List Identifier) (last : ℕ) (splices : List Splice) → AreNewer last (inserted_elements (draft_operations replica elements last splices))
-drafted_inserts replica elements last [] = tt
-drafted_inserts replica elements last (s ∷ splices) =
-    let put : List ℕ = s.put in
-    let seg : List Identifier = drop s.lo (take s.hi elements) in
-    let row = chain replica last (left_of elements s.lo) put in
-    let rest : List Op = draft_operations replica elements (last + length put) splices in
-    subst (AreNewer last) (sym (inserted_elements-append (map Delete seg ++ row) rest ∙ ap (λ xs. xs ++ inserted_elements rest) (inserted_elements-append (map Delete seg) row ∙ (λ k. inserted_elements-deletions seg k ++ inserted_elements-chain replica last (left_of elements s.lo) put k))))
-    (all_append (λ (id : Identifier). last < id.counter) (new_ids replica last put) (inserted_elements rest) (new_ids-newer replica last put) (newer_still last (last + length put) (inserted_elements rest) (omega arith) (drafted_inserts replica elements (last + length put) splices)))
+    let later = drafted P replica elements (last + length put) splices all in (
+      subst (AllByRecursion P) (sym (deleted_elements-append (map Delete seg ++ row) rest ∙ ap (λ xs. xs ++ deleted_elements rest) (deleted_elements-append (map Delete seg) row ∙ (λ k. deleted_elements-deletions seg k ++ deleted_elements-chain replica last after put k))))
+          (all_append P (seg ++ []) (deleted_elements rest) (all_append P seg [] (all_drop P s.lo (take s.hi elements) (all_take P s.hi elements all)) tt) later.0),
+      subst (AreNewer last) (sym (inserted_elements-append (map Delete seg ++ row) rest ∙ ap (λ xs. xs ++ inserted_elements rest) (inserted_elements-append (map Delete seg) row ∙ (λ k. inserted_elements-deletions seg k ++ inserted_elements-chain replica last after put k))))
+          (all_append (λ (id : Identifier). last < id.counter) (new_ids replica last put) (inserted_elements rest) (new_ids-newer replica last put) (newer_still last (last + length put) (inserted_elements rest) (omega arith) later.1)),
+    )
 
 pub splices_edit : (limit replica : ℕ) (c : Content) (splices : List Splice) → splices_answer limit c splices ≡ Ok tt → IsEdit c (splices_operations replica c splices)
 splices_edit limit replica c splices h =
     let s = editing limit replica c splices h in
     let made = splices_drafted limit replica c splices h in
+    let own = drafted (λ id. is_visible c id ≡ true) replica (visible c) (clock_of c) splices (all_visible c) in
     record {
-      deletes = subst (λ ops. AllByRecursion (λ id. is_visible c id ≡ true) (deleted_elements ops)) (sym made) (drafted_deletes (λ id. is_visible c id ≡ true) replica (visible c) (clock_of c) splices (all_visible c));
-      inserts = subst (λ ops. AreNewer (clock_of c) (inserted_elements ops)) (sym made) (drafted_inserts replica (visible c) (clock_of c) splices);
+      deletes = subst (λ ops. AllByRecursion (λ id. is_visible c id ≡ true) (deleted_elements ops)) (sym made) own.0;
+      inserts = subst (λ ops. AreNewer (clock_of c) (inserted_elements ops)) (sym made) own.1;
       reads = λ p hides. ap (λ d. filter_map p (order d)) (sym s.0.leads.joined) ∙ s.0.keeps p hides;
     }
 
