@@ -13,7 +13,7 @@ use Rattle.std.proofs.lemmas.Option.{same_Some, none-some}
 use Rattle.rga_ops.specs.Identifier.{Identifier, id_cmp, is_id}
 use Rattle.rga_ops.specs.Content.{Element, element, join, single}
 use Rattle.rga_ops.specs.Order.{shown}
-use Rattle.rga_ops.proofs.IdentifierLaws.{ids_total, is, is_swap, same_id, is_id-same, is_id-is, is_id-itself}
+use Rattle.rga_ops.proofs.IdentifierLaws.{ids_total, is, is_swap, is_id-same, is_id-is, is_id-itself}
 use Rattle.rga_ops.proofs.ContentLaws.{same_content}
 use Rattle.rga_ops.specs.declared.op.Op.TheVariants.{Insert, Delete}
 use Rattle.indexmap.specs.IndexMap.{IndexMap, insert_entry, set_value_at}
@@ -264,23 +264,3 @@ module _ (ns ms : Nodes) (id : Identifier) (old : Option Node) (new : Node) (apa
       apart_then : (here there : Bool) → cond here false there ≡ (not here && there)
       apart_then true there = refl
       apart_then false there = refl
-
--- where there is no node, neither is there
-module _ (ns : Nodes) (id : Identifier) (apart : AreDistinctNodes ns) (none : lookup (is_id id) ns ≡ None) where
-  pub nothing_uninserted : without_insertion id (content_of_nodes ns) ≡ content_of_nodes ns
-  nothing_uninserted = same_content _ _
-      (λ q. finite_map.get-remove ids_total (content_of_nodes ns).inserted id q
-      ∙ elim (is q id) as (λ b. is q id ≡ b → cond b None (finite_map.get (content_of_nodes ns).inserted q) ≡ finite_map.get (content_of_nodes ns).inserted q) [
-        | true ↦ λ t. sym (ap (finite_map.get (content_of_nodes ns).inserted) (same_id q id t) ∙ inserted_at ns apart id ∙ ap element_of none)
-        | false ↦ λ t. refl
-      ] refl)
-      (λ q. refl)
-
-  pub nothing_undeleted : without_deletion id (content_of_nodes ns) ≡ content_of_nodes ns
-  nothing_undeleted = same_content _ _
-      (λ q. refl)
-      (λ q. finite_set.contains-remove ids_total (content_of_nodes ns).deleted id q
-      ∙ elim (is q id) as (λ b. is q id ≡ b → (not b && finite_set.contains (content_of_nodes ns).deleted q) ≡ finite_set.contains (content_of_nodes ns).deleted q) [
-        | true ↦ λ t. sym (ap (finite_set.contains (content_of_nodes ns).deleted) (same_id q id t) ∙ deleted_at ns apart id ∙ ap mark_of none)
-        | false ↦ λ t. refl
-      ] refl)

@@ -1,5 +1,5 @@
 //! A node for each identifier that is inserted, deleted, or named as a parent.
-ghost use Rattle.std.specs.Prelude.{◌≡◌, ◌++◌, [], false, None, IfOk, IfErr, IfSome, OnOk, OnErr};
+ghost use Rattle.std.specs.Prelude.{◌≡◌, [], true, false, None, IfOk, IfErr, IfSome, OnOk, OnErr};
 ghost use Rattle.std.specs.FinMap as finite_map;
 ghost use Rattle.std.specs.FinSet as finite_set;
 ghost use Rattle.std.specs.Map.{lookup};
@@ -171,6 +171,7 @@ pub(crate) fn mark(nodes: &mut IndexMap<Id, Node>, index: usize, id: Id) -> bool
 
 /// The element of a node goes. Says whether its identifier is deleted.
 pub(crate) fn clear_element(nodes: &mut IndexMap<Id, Node>, id: Id) -> bool
+    requires { finite_map.contains_key (content_of_nodes nodes.old.entries).inserted id ≡ true }
     ensures deleted { let content = content_of_nodes nodes.old.entries in
         result ≡ finite_set.contains content.deleted id }
     ensures content { content_of_nodes nodes.new.entries
@@ -189,6 +190,7 @@ pub(crate) fn clear_element(nodes: &mut IndexMap<Id, Node>, id: Id) -> bool
 
 /// The mark of a node goes. Says whether its identifier is inserted.
 pub(crate) fn clear_mark(nodes: &mut IndexMap<Id, Node>, id: Id) -> bool
+    requires { finite_set.contains (content_of_nodes nodes.old.entries).deleted id ≡ true }
     ensures inserted { let content = content_of_nodes nodes.old.entries in
         result ≡ finite_map.contains_key content.inserted id }
     ensures content { content_of_nodes nodes.new.entries

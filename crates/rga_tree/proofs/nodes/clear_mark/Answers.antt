@@ -1,11 +1,11 @@
-use Rattle.std.proofs.Common.{◌≡◌, false, is_some, refl, sym, ap, ◌∙◌}
+use Rattle.std.proofs.Common.{◌≡◌, false, is_some, refl, sym, ap, ◌∙◌, true≢false}
 use Rattle.std.specs.Prelude.{Some, None}
 use Rattle.std.specs.Option.{option_copied_mut}
 use Rattle.std.specs.Map.{lookup}
 use Rattle.rga_ops.specs.Identifier.{is_id}
 use Rattle.rga_tree.specs.declared.nodes.Node.{Node}
-use Rattle.rga_tree.specs.Nodes.{Nodes, content_of_nodes}
-use Rattle.rga_tree.proofs.NodeLaws.{IsPut, element_of, is_some-mapped, inserted_at, content_undeleted, children_kept, nothing_undeleted}
+use Rattle.rga_tree.specs.Nodes.{Nodes}
+use Rattle.rga_tree.proofs.NodeLaws.{IsPut, element_of, is_some-mapped, inserted_at, mark_of, deleted_at, content_undeleted, children_kept}
 use Rattle.rga_tree.proofs.nodes.clear_mark.Goals as goal
 
 found : (c : goal.After-nodes-in-Some-1) → lookup (is_id c.args.id) c.args.nodes.now.entries ≡ Some c.in-Some.node.now
@@ -33,12 +33,8 @@ pub returns-in-Some-clause-children : goal.returns-in-Some-clause-children
 returns-in-Some-clause-children c =
     children_kept c.args.nodes.now.entries (after c) c.args.id (Some c.in-Some.node.now) (written c) c.get_mut.ensures.unique (c.get_mut.follows.holds (written c)).4 (put c) refl
 
-none : (c : goal.After-nodes-in-None-2-1) → lookup (is_id c.args.id) c.args.nodes.now.entries ≡ None
-none c = sym c.get_mut.ensures.value ∙ ap option_copied_mut c.in-None.is
-
-pub returns-in-None-clause-inserted : goal.returns-in-None-clause-inserted
-returns-in-None-clause-inserted c = sym (ap is_some (inserted_at c.args.nodes.now.entries c.get_mut.ensures.unique c.args.id ∙ ap element_of (none c)))
-
-pub returns-in-None-clause-content : goal.returns-in-None-clause-content
-returns-in-None-clause-content c =
-    ap (λ m. content_of_nodes m.entries) c.get_mut.follows.holds-at-none ∙ sym (nothing_undeleted c.args.nodes.now.entries c.args.id c.get_mut.ensures.unique (none c))
+-- there is a node
+pub returns-in-None : goal.returns-in-None
+returns-in-None c =
+    let none : lookup (is_id c.args.id) c.args.nodes.now.entries ≡ None = sym c.get_mut.ensures.value ∙ ap option_copied_mut c.in-None.is in
+    absurd (true≢false (sym c.requires ∙ deleted_at c.args.nodes.now.entries c.get_mut.ensures.unique c.args.id ∙ ap mark_of none))

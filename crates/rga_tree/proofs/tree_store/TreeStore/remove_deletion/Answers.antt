@@ -8,6 +8,9 @@ use Rattle.rga_store.proofs.WithoutLaws.{one_deletion_known}
 use Rattle.rga_tree.proofs.BackLaws.{tree_without_deletion}
 use Rattle.rga_tree.proofs.tree_store.TreeStore.remove_deletion.Goals as goal
 
+pub clear_mark-inserted-requires : goal.clear_mark-inserted-requires
+clear_mark-inserted-requires c = ap (λ (v : Kept). finite_set.contains v.content.deleted c.args.id) c.self.view_is ∙ c.requires.deleted
+
 pub uncount_unless-requires : goal.uncount_unless-requires
 uncount_unless-requires c =
     subst (λ b. cond b 0 1 ≤ c.self.inside.known) (sym c.clear_mark-inserted.ensures.inserted)

@@ -1,4 +1,4 @@
-use Rattle.std.proofs.Common.{◌≡◌, ◌≤◌, ◌-◌, true, cond, not, ◌&&◌, sym, ap, ◌∙◌, subst}
+use Rattle.std.proofs.Common.{◌≡◌, ◌≤◌, ◌-◌, true, cond, not, ◌&&◌, is_some, sym, ap, ◌∙◌, subst}
 use Rattle.rga_ops.specs.Identifier.{is_id}
 use Rattle.rga_ops.specs.Content.{Content, clock_of}
 use Rattle.rga_store.specs.Kept.{Kept}
@@ -10,6 +10,10 @@ use Rattle.rga_store.proofs.StepLaws.{IsChild, child_found}
 use Rattle.rga_store.proofs.WithoutLaws.{one_inserted, one_insertion_known}
 use Rattle.rga_tree.proofs.BackLaws.{tree_without_insertion}
 use Rattle.rga_tree.proofs.tree_store.TreeStore.remove_insertion.Goals as goal
+
+pub clear_element-deleted-requires : goal.clear_element-deleted-requires
+clear_element-deleted-requires c =
+    ap is_some (child_found (content_of_nodes c.self.inside.nodes.entries) c.args.parent c.args.id (ap (λ (v : Kept). is_child v.content c.args.parent c.args.id) c.self.view_is ∙ c.requires.child)).found
 
 pub overflow_sub-self : goal.overflow_sub-self
 overflow_sub-self c =
