@@ -1,21 +1,13 @@
 use Rattle.std.proofs.Common.{◌≡◌, Bool, true, false, cond, ◌||◌, refl, sym, ap, ◌∙◌}
 use Rattle.std.specs.FinSet as finite_set
-use Rattle.std.proofs.Math.Bool.{or-false}
 use Rattle.indexmap.specs.IndexSet.{contains}
-use Rattle.rga_ops.specs.Identifier.{Identifier, id_cmp, is_id}
-use Rattle.rga_ops.specs.Content.{Content, join, single}
-use Rattle.rga_ops.proofs.IdentifierLaws.{ids_total, is, is_id-same}
-use Rattle.rga_ops.proofs.ContentLaws.{contains-join}
+use Rattle.rga_ops.specs.Identifier.{is_id}
+use Rattle.rga_ops.specs.Content.{Content}
+use Rattle.rga_ops.proofs.IdentifierLaws.{is, is_id-same}
 use Rattle.rga_ops.proofs.TakenLaws.{held_adds_nothing}
 use Rattle.rga_ops.specs.declared.op.Op.TheVariants.{Delete}
+use Rattle.rga_store.proofs.StepLaws.{deleted_now}
 use Rattle.rga_store.proofs.answers.new_operations.deletion_is_new.Goals as goal
-
--- a deletion more
-deleted_next : (d : Content) (id q : Identifier) → finite_set.contains (join d (single (Delete id))).deleted q ≡ (finite_set.contains d.deleted q || is q id)
-deleted_next d id q =
-    contains-join d (single (Delete id)) q
-    ∙ ap (λ b. finite_set.contains d.deleted q || b) (finite_set.contains-insert ids_total (finite_set.empty {R = id_cmp}) id q
-    ∙ ap (λ b. is q id || b) (finite_set.contains-empty id_cmp q) ∙ or-false (is q id))
 
 put_last : (t a b : Bool) → (a || cond t true b) ≡ ((a || b) || t)
 put_last t true b = refl
@@ -36,4 +28,4 @@ returns-clause-added g c = λ d reached q.
     ∙ ap (λ t. cond t true (contains is_id c.args.added.now q)) (is_id-same c.args.id q))
     ∙ put_last (is q c.args.id) (finite_set.contains (g.S.Taker.content c.args.store.now).deleted q) (contains is_id c.args.added.now q)
     ∙ ap (λ b. b || is q c.args.id) (reached q)
-    ∙ sym (deleted_next d c.args.id q)
+    ∙ sym (deleted_now d c.args.id q)

@@ -1,28 +1,18 @@
-use Rattle.std.proofs.Common.{◌≡◌, ℕ, ◌||◌, sym, ap, ◌∙◌, subst}
-use Rattle.std.specs.FinSet as finite_set
-use Rattle.std.proofs.Math.Bool.{or-false}
-use Rattle.rga_ops.specs.Identifier.{Identifier, id_cmp}
-use Rattle.rga_ops.specs.Content.{Content, join, single}
-use Rattle.rga_ops.proofs.ContentLaws.{contains-join}
+use Rattle.std.proofs.Common.{sym, ap, ◌∙◌, subst}
+use Rattle.rga_ops.specs.Content.{join, single}
 use Rattle.rga_ops.proofs.ListSteps.{get-deletion}
-use Rattle.rga_ops.specs.declared.op.Op.TheVariants.{Insert}
 use Rattle.rga_ops.proofs.CaseSteps.{on_ok_map}
 use Rattle.rga_store.proofs.ElementSteps.{pair_of}
+use Rattle.rga_store.proofs.StepLaws.{deleted_then}
 use Rattle.rga_store.specs.Reached.{Reaches}
 use Rattle.rga_store.proofs.answers.new_operations.is_new.Goals as goal
-
--- an insertion leaves the deletions
-contains-insertion : (d : Content) (id parent : Identifier) (ch : ℕ) (q : Identifier) → finite_set.contains (join d (single (Insert id parent ch))).deleted q ≡ finite_set.contains d.deleted q
-contains-insertion d id parent ch q =
-    contains-join d (single (Insert id parent ch)) q ∙ ap (λ b. finite_set.contains d.deleted q || b) (finite_set.contains-empty id_cmp q)
-    ∙ or-false (finite_set.contains d.deleted q)
 
 pub returns-in-Insert-clause-added : goal.returns-in-Insert-clause-added
 returns-in-Insert-clause-added g c =
     on_ok_map c.insertion_is_new.result
     (λ added d reached. subst (λ op. Reaches (g.S.Taker.content c.args.store.now) c.insertion_is_new.new.added c.args.deleted.now (join d (single op))) (sym c.in-Insert.is) (record {
       elements = added d reached.elements;
-      deletions = λ q. reached.deletions q ∙ sym (contains-insertion d c.in-Insert.id c.in-Insert.parent c.in-Insert.ch q);
+      deletions = λ q. reached.deletions q ∙ sym (deleted_then d c.in-Insert.id c.in-Insert.parent c.in-Insert.ch q);
     }))
     c.insertion_is_new.ensures.added
 
