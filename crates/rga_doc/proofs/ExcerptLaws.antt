@@ -16,9 +16,8 @@ use Rattle.rga_doc.specs.Excerpt.{Excerpted, excerpt, begin_of}
 use Rattle.rga_doc.specs.LocalEdit.{left_of, chain, splice_operations_at, draft_operations, splice_operations, splices_operations, splices_answer}
 use Rattle.rga_doc.proofs.SplicedCharacters.{part}
 use Rattle.rga_doc.proofs.SplicedLists.{same_drop_left, left_of-take}
-use Rattle.rga_doc.proofs.EditLaws.{allowed}
+use Rattle.rga_doc.proofs.EditLaws.{allowed, splices_drafted}
 use Rattle.rga_doc.proofs.FallingLaws.{falls_first}
-use Rattle.rga_doc.proofs.EditAnswers.{splice_made, splices_made}
 use Rattle.rga_doc.proofs.AnewLaws.{falling_end, falling_to_end}
 
 -- ---- where falling splices begin
@@ -113,19 +112,18 @@ module _ (xs : List Identifier) (begin end : ℕ) (up : begin ≤ end) (within :
 -- operations that were added to none are those of the splice
 pub splice_by_excerpt : (replica lo hi : ℕ) (c : Content) (put : List ℕ) (ops first : List Op) (e : Excerpted) (own last : ℕ) → lo ≤ hi → hi ≤ length (visible c) → first ≡ [] → own ≡ replica → last ≡ clock_of c → e ≡ excerpt (visible c) lo hi → ops ≡ first ++ splice_operations_at e.items own last lo hi put → ops ≡ splice_operations replica c lo hi put
 splice_by_excerpt replica lo hi c put ops first e own last up within none of_own of_clock is made =
-    splice_made replica lo hi c put ops first (visible c) own last none of_own of_clock refl
-    (made ∙ ap (λ (x : Excerpted). first ++ splice_operations_at x.items own last lo hi put) is
-    ∙ ap (λ xs. first ++ xs) (same_operations (visible c) lo hi up within own last lo hi put (omega arith) up (omega arith)))
+    made ∙ (λ k. none k ++ splice_operations_at (ap (λ (x : Excerpted). x.items) is k) (of_own k) (of_clock k) lo hi put)
+    ∙ same_operations (visible c) lo hi up within replica (clock_of c) lo hi put (omega arith) up (omega arith)
 
 -- and so for several splices
 pub splices_by_excerpt : (limit replica : ℕ) (c : Content) (splices : List Splice) (ops first : List Op) (e : Excerpted) (own last : ℕ) → splices_answer limit c splices ≡ Ok tt → first ≡ [] → own ≡ replica → last ≡ clock_of c → e ≡ excerpt (visible c) (begin_of splices) (end_of splices) → ops ≡ first ++ draft_operations own e.items last splices → ops ≡ splices_operations replica c splices
 splices_by_excerpt limit replica c splices ops first e own last allowed none of_own of_clock is made =
     let falling = falls_in_text limit c splices allowed in
     let up : begin_of splices ≤ end_of splices = begins_before_end splices (length (visible c)) falling in
-    splices_made limit replica c splices ops first (visible c) own last allowed none of_own of_clock refl
-    (made ∙ ap (λ (x : Excerpted). first ++ draft_operations own x.items last splices) is
-    ∙ ap (λ xs. first ++ xs) (same_draft (visible c) (begin_of splices) (end_of splices) up (falling_end splices (length (visible c)) falling) own last (end_of splices) splices
-    (begins_first splices (length (visible c)) falling) (falls_to_end splices (length (visible c)) falling) (omega arith)))
+    made ∙ (λ k. none k ++ draft_operations (of_own k) (ap (λ (x : Excerpted). x.items) is k) (of_clock k) splices)
+    ∙ same_draft (visible c) (begin_of splices) (end_of splices) up (falling_end splices (length (visible c)) falling) replica (clock_of c) (end_of splices) splices
+    (begins_first splices (length (visible c)) falling) (falls_to_end splices (length (visible c)) falling) (omega arith)
+    ∙ sym (splices_drafted limit replica c splices allowed)
 
 -- the splices fall within their excerpt
 pub falls_in_excerpt : (limit : ℕ) (c : Content) (splices : List Splice) (e : Excerpted) → splices_answer limit c splices ≡ Ok tt → e ≡ excerpt (visible c) (begin_of splices) (end_of splices) → are_falling (length e.items) splices ≡ true
