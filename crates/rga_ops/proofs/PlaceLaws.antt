@@ -28,6 +28,7 @@ use Rattle.rga_ops.proofs.InsertionLaws.{contains-insertion, get-inserted}
 use Rattle.rga_ops.proofs.VisibleLaws.{is_kept, visible_is, visible_elements, text_is, characters_within, own_index, place_at}
 use Rattle.rga_ops.proofs.SpliceLaws.{same_characters}
 use Rattle.rga_ops.proofs.DeletionLaws.{visible-deletion, visible-deletion_at, text-deletion_at, character-deletion}
+use Rattle.std.proofs.lemmas.List.Sums.{length-filter, count_by-le-length}
 
 -- ---- lists
 
@@ -53,13 +54,7 @@ twice_filtered p q (x ∷ xs) = elim (p x) as (λ b. p x ≡ b → filter p (con
 ] refl
 
 no_longer : (p : Identifier → Bool) (xs : List Identifier) → length (filter p xs) ≤ length xs
-no_longer p [] = omega arith
-no_longer p (x ∷ xs) =
-    let rest = no_longer p xs in
-    elim (p x) as (λ b. length (cond b (x ∷ filter p xs) (filter p xs)) ≤ suc (length xs)) [
-      | true ↦ omega (arith, rest)
-      | false ↦ omega (arith, rest)
-    ]
+no_longer p xs = omega (arith, length-filter p xs, count_by-le-length p xs)
 
 -- a filter that leaves as many leaves all
 all_left : (p : Identifier → Bool) (xs : List Identifier) → length xs ≡ length (filter p xs) → xs ≡ filter p xs

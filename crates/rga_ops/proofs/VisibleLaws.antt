@@ -5,7 +5,7 @@ use Rattle.std.specs.Option.{option_map}
 use Rattle.std.specs.List.{list_any, filter_map, cons_option, AllByRecursion, position_or_len, IsDistinct, slice_get}
 use Rattle.std.specs.FinMap as finite_map
 use Rattle.std.specs.FinSet as finite_set
-use Rattle.std.proofs.Math.Bool.{and-false}
+use Rattle.std.proofs.Math.Bool.{and-false, and-true}
 use Rattle.std.proofs.lemmas.Bool.{and_parts}
 use Rattle.std.proofs.lemmas.Bool.Decides.{nat_tests}
 use Rattle.std.proofs.lemmas.List.{length-map}
@@ -19,6 +19,7 @@ use Rattle.rga_ops.proofs.IdentifierLaws.{is, same_id, is_id-same, is_id-is, is_
 use Rattle.rga_ops.proofs.PathLaws.{is_complete-iff, not_complete_root, inserted_if_complete}
 use Rattle.rga_ops.proofs.MemberLaws.{all_map, all_members, filter_alike, distinct_filter}
 use Rattle.rga_ops.proofs.OrderLaws.{order_list, order_distinct}
+use Rattle.std.proofs.lemmas.Map.Views.{any-filter_same}
 
 -- ---- the test of an element of the order
 
@@ -59,19 +60,11 @@ text_long c = sym (length-map (text c) Some) ∙ ap length (text_is c) ∙ lengt
 -- ---- which elements are visible
 
 pub filtered : (p : Identifier → Bool) (id : Identifier) (xs : List Identifier) → list_any (is id) (filter p xs) ≡ (list_any (is id) xs && p id)
-filtered p id [] = refl
-filtered p id (x ∷ xs) = elim (p x) as (λ b. p x ≡ b → list_any (is id) (cond b (x ∷ filter p xs) (filter p xs)) ≡ ((is id x || list_any (is id) xs) && p id)) [
-  | true ↦ λ t. elim (is id x) as (λ b. is id x ≡ b → (b || list_any (is id) (filter p xs)) ≡ ((b || list_any (is id) xs) && p id)) [
-    | true ↦ λ s. sym (ap p (same_id id x s) ∙ t)
-    | false ↦ λ s. filtered p id xs
-  ] refl
-  | false ↦ λ t. elim (is id x) as (λ b. is id x ≡ b → list_any (is id) (filter p xs) ≡ ((b || list_any (is id) xs) && p id)) [
-    | true ↦ λ s.
-        let no : p id ≡ false = ap p (same_id id x s) ∙ t in
-        filtered p id xs ∙ ap (λ b. list_any (is id) xs && b) no ∙ and-false (list_any (is id) xs) ∙ sym no
-    | false ↦ λ s. filtered p id xs
-  ] refl
-] refl
+filtered p id xs = any-filter_same (is id) p (p id) (λ x t. ap p (sym (same_id id x t))) xs ∙ swapped (p id) (list_any (is id) xs)
+  where
+    swapped : (a b : Bool) → (a && b) ≡ (b && a)
+    swapped true b = sym (and-true b)
+    swapped false b = sym (and-false b)
 
 pub visible_elements : (c : Content) (id : Identifier) → list_any (is id) (visible c) ≡ is_visible c id
 visible_elements c id =
@@ -100,8 +93,7 @@ characters_within c d w = text_is c ∙ among (visible c) (all_members (λ q. ch
 -- ---- places
 
 any_id : (id : Identifier) (xs : List Identifier) → list_any (λ x. is_id x id) xs ≡ list_any (is id) xs
-any_id id [] = refl
-any_id id (x ∷ xs) = λ k. is_id-same x id k || any_id id xs k
+any_id id xs = ap (λ (p : Identifier → Bool). list_any p xs) (λ k x. is_id-same x id k)
 
 complete_up_to : (c : Content) (id : Identifier) (xs : List Identifier) → AllByRecursion (λ y. is_complete c y ≡ true) xs → AllByRecursion (λ y. is_complete c y ≡ true) (up_to id xs)
 complete_up_to c id [] h = tt
