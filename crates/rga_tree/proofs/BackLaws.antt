@@ -1,5 +1,5 @@
 -- What removing operations again leaves of a tree.
-use Rattle.std.proofs.Common.{◌≡◌, ℕ, ◌-◌, true, cond, not, ◌&&◌, sym, ap, ◌∙◌, subst}
+use Rattle.std.proofs.Common.{◌≡◌, ℕ, ◌-◌, true, cond, not, ◌&&◌, sym, ap, ◌∙◌}
 use Rattle.std.specs.FinMap as finite_map
 use Rattle.std.specs.FinSet as finite_set
 use Rattle.rga_ops.specs.Identifier.{Identifier, is_id}
@@ -9,11 +9,11 @@ use Rattle.rga_store.specs.Rising.{IsRising}
 use Rattle.rga_tree.specs.Children.{has_child}
 use Rattle.rga_tree.specs.Nodes.{Nodes, AreDistinctNodes, content_of_nodes, children_of}
 use Rattle.rga_store.specs.Child.{is_child}
-use Rattle.rga_store.specs.Counted.{IsCounted}
 use Rattle.rga_tree.specs.Tree.{IsFamily, IsTree}
 use Rattle.rga_store.proofs.StepLaws.{IsChild, child_found}
 use Rattle.rga_store.proofs.WithoutLaws.{counted_without_insertion, counted_without_deletion}
 use Rattle.rga_tree.proofs.FamilyLaws.{family_same, child_left}
+use Rattle.rga_tree.proofs.TreeLaws.{tree_of, counted_as}
 
 module _ (ns ms : Nodes) (latest insertions identifiers limit : ℕ) (w : IsTree ns latest insertions identifiers limit) (apart : AreDistinctNodes ms) where
   pub tree_without_insertion : (id parent : Identifier) (sooner less : ℕ) → is_child (content_of_nodes ns) parent id ≡ true
@@ -23,18 +23,12 @@ module _ (ns ms : Nodes) (latest insertions identifiers limit : ℕ) (w : IsTree
   tree_without_insertion id parent sooner less its left children rising is_sooner is_less =
       let c : Content = content_of_nodes ns in
       let found : IsChild c parent id = child_found c parent id its in
-      record {
-        apart = apart;
-        family = subst (λ d. IsFamily d (children_of ms)) (sym left) (record {
-          children = λ p k. children p k ∙ ap (λ b. b && not (is_id parent p && is_id id k)) (w.family.children p k) ∙ sym (child_left c id parent p k its);
-          rising = rising;
-        });
-        counted =
-            subst (λ d. IsCounted d sooner (insertions - 1) less limit) (sym left)
-            (subst (λ n. IsCounted (without_insertion id c) n (insertions - 1) less limit) (sym is_sooner)
-            (subst (λ n. IsCounted (without_insertion id c) (clock_of (without_insertion id c)) (insertions - 1) n limit) (sym is_less)
-            (counted_without_insertion c latest insertions identifiers limit w.counted id found.element found.found)));
-      }
+      tree_of ms (without_insertion id c) sooner (insertions - 1) less limit apart left
+      (record {
+        children = λ p k. children p k ∙ ap (λ b. b && not (is_id parent p && is_id id k)) (w.family.children p k) ∙ sym (child_left c id parent p k its);
+        rising = rising;
+      })
+      (counted_as _ _ sooner (insertions - 1) _ less limit is_sooner is_less (counted_without_insertion c latest insertions identifiers limit w.counted id found.element found.found))
 
   pub tree_without_deletion : (id : Identifier) (sooner less : ℕ) → finite_set.contains (content_of_nodes ns).deleted id ≡ true
       → content_of_nodes ms ≡ without_deletion id (content_of_nodes ns) → ((p : Identifier) → children_of ms p ≡ children_of ns p)
@@ -42,12 +36,5 @@ module _ (ns ms : Nodes) (latest insertions identifiers limit : ℕ) (w : IsTree
   tree_without_deletion id sooner less its left lists is_sooner is_less =
       let c : Content = content_of_nodes ns in
       let same : IsFamily c (children_of ms) = family_same c (children_of ns) (children_of ms) w.family lists in
-      record {
-        apart = apart;
-        family = subst (λ d. IsFamily d (children_of ms)) (sym left) (record { children = same.children; rising = same.rising });
-        counted =
-            subst (λ d. IsCounted d sooner insertions less limit) (sym left)
-            (subst (λ n. IsCounted (without_deletion id c) n insertions less limit) (sym is_sooner)
-            (subst (λ n. IsCounted (without_deletion id c) (clock_of (without_deletion id c)) insertions n limit) (sym is_less)
-            (counted_without_deletion c latest insertions identifiers limit w.counted id its)));
-      }
+      tree_of ms (without_deletion id c) sooner insertions less limit apart left (record { children = same.children; rising = same.rising })
+      (counted_as _ _ sooner insertions _ less limit is_sooner is_less (counted_without_deletion c latest insertions identifiers limit w.counted id its))

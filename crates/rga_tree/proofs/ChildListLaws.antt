@@ -8,7 +8,7 @@ use Rattle.std.specs.declared.cmp.Ordering.TheVariants.{Less, Equal, Greater}
 use Rattle.rga_ops.specs.Identifier.{Identifier, id_cmp, is_id}
 use Rattle.std.specs.List.Sorted.{IsStrictlySortedBy}
 use Rattle.rga_ops.proofs.IdentifierLaws.{ids_total, ids_exact, is, is_itself, is_swap, is_id-same, is_id-is}
-use Rattle.std.proofs.Math.Bool.{or_assoc, or_comm}
+use Rattle.std.proofs.Math.Bool.{or_assoc, or_comm, and-true, and-false}
 use Rattle.std.proofs.lemmas.Map.Views.{any-filter_same}
 use Rattle.rga_store.specs.Rising.{IsRising}
 use Rattle.rga_tree.specs.Children.{has_child, others_than}
@@ -87,7 +87,5 @@ has-others id k xs =
     ∙ and_swap (not (is_id id k)) (has_child xs k)
   where
     and_swap : (a b : Bool) → (a && b) ≡ (b && a)
-    and_swap true true = refl
-    and_swap true false = refl
-    and_swap false true = refl
-    and_swap false false = refl
+    and_swap true b = sym (and-true b)
+    and_swap false b = sym (and-false b)

@@ -7,7 +7,7 @@ use Rattle.std.specs.List.Sorted.{IsStrictlySortedBy}
 use Rattle.std.specs.FinMap as finite_map
 use Rattle.std.specs.FinSet as finite_set
 use Rattle.rga_ops.specs.Identifier.{Identifier, id_cmp, is_id}
-use Rattle.rga_ops.specs.Content.{Element, nothing, join, single}
+use Rattle.rga_ops.specs.Content.{Content, Element, nothing, join, single}
 use Rattle.rga_ops.specs.Answer.{answer}
 use Rattle.rga_ops.proofs.AnswerLaws.{IsNewInsertion, new_insertion}
 use Rattle.rga_ops.specs.declared.op.Op.TheVariants.{Insert, Delete}
@@ -22,14 +22,22 @@ use Rattle.rga_store.proofs.StepLaws.{counted_insertion, counted_deletion}
 use Rattle.rga_tree.proofs.FamilyLaws.{family_insertion, family_deletion, family_same}
 use Rattle.rga_store.proofs.CountedLaws.{counted_nothing}
 
+-- nodes that mean a content are a tree with what that counts
+pub tree_of : (ms : Nodes) (c : Content) (latest insertions identifiers limit : ℕ) → AreDistinctNodes ms → content_of_nodes ms ≡ c → IsFamily c (children_of ms) → IsCounted c latest insertions identifiers limit → IsTree ms latest insertions identifiers limit
+tree_of ms c latest insertions identifiers limit apart means family counted = record {
+  apart = apart;
+  family = subst (λ d. IsFamily d (children_of ms)) (sym means) family;
+  counted = subst (λ d. IsCounted d latest insertions identifiers limit) (sym means) counted;
+}
+
+-- the clock and the number of identifiers by other words
+pub counted_as : (c : Content) (latest later insertions identifiers more limit : ℕ) → later ≡ latest → more ≡ identifiers → IsCounted c latest insertions identifiers limit → IsCounted c later insertions more limit
+counted_as c latest later insertions identifiers more limit time count w = subst (λ n. IsCounted c n insertions more limit) (sym time) (subst (λ n. IsCounted c latest insertions n limit) (sym count) w)
+
 module _ (ns ms : Nodes) (latest insertions identifiers limit : ℕ) (w : IsTree ns latest insertions identifiers limit) (apart : AreDistinctNodes ms) where
   -- it is a tree as before with the same content and the same children
   pub tree_same : content_of_nodes ms ≡ content_of_nodes ns → ((p : Identifier) → children_of ms p ≡ children_of ns p) → IsTree ms latest insertions identifiers limit
-  tree_same same lists = record {
-    apart = apart;
-    family = subst (λ c. IsFamily c (children_of ms)) (sym same) (family_same (content_of_nodes ns) (children_of ns) (children_of ms) w.family lists);
-    counted = subst (λ c. IsCounted c latest insertions identifiers limit) (sym same) w.counted;
-  }
+  tree_same same lists = tree_of ms (content_of_nodes ns) latest insertions identifiers limit apart same (family_same (content_of_nodes ns) (children_of ns) (children_of ms) w.family lists) w.counted
 
   pub tree_insertion : (id parent : Identifier) (ch later more : ℕ) → answer limit (content_of_nodes ns) (Insert id parent ch) ≡ Ok New
       → content_of_nodes ms ≡ join (content_of_nodes ns) (single (Insert id parent ch))
@@ -37,28 +45,17 @@ module _ (ns ms : Nodes) (latest insertions identifiers limit : ℕ) (w : IsTree
       → later ≡ max latest id.counter → more ≡ cond (finite_set.contains (content_of_nodes ns).deleted id) identifiers (identifiers + 1) → IsTree ms later (insertions + 1) more limit
   tree_insertion id parent ch later more answered joined children rising is_later is_more =
       let new : IsNewInsertion limit (content_of_nodes ns) id parent = new_insertion limit (content_of_nodes ns) id parent ch answered in
-      record {
-        apart = apart;
-        family = subst (λ c. IsFamily c (children_of ms)) (sym joined) (family_insertion (content_of_nodes ns) id parent ch (children_of ns) (children_of ms) new.absent w.family children rising);
-        counted =
-            subst (λ c. IsCounted c later (insertions + 1) more limit) (sym joined)
-            (subst (λ n. IsCounted (join (content_of_nodes ns) (single (Insert id parent ch))) n (insertions + 1) more limit) (sym is_later)
-            (subst (λ n. IsCounted (join (content_of_nodes ns) (single (Insert id parent ch))) (max latest id.counter) (insertions + 1) n limit) (sym is_more)
-            (counted_insertion (content_of_nodes ns) latest insertions identifiers limit w.counted id parent ch answered)));
-      }
+      tree_of ms (join (content_of_nodes ns) (single (Insert id parent ch))) later (insertions + 1) more limit apart joined
+      (family_insertion (content_of_nodes ns) id parent ch (children_of ns) (children_of ms) new.absent w.family children rising)
+      (counted_as _ _ later (insertions + 1) _ more limit is_later is_more (counted_insertion (content_of_nodes ns) latest insertions identifiers limit w.counted id parent ch answered))
 
   pub tree_deletion : (id : Identifier) (later more : ℕ) → answer limit (content_of_nodes ns) (Delete id) ≡ Ok New
       → content_of_nodes ms ≡ join (content_of_nodes ns) (single (Delete id)) → ((p : Identifier) → children_of ms p ≡ children_of ns p)
       → later ≡ max latest id.counter → more ≡ cond (finite_map.contains_key (content_of_nodes ns).inserted id) identifiers (identifiers + 1) → IsTree ms later insertions more limit
-  tree_deletion id later more answered joined lists is_later is_more = record {
-    apart = apart;
-    family = subst (λ c. IsFamily c (children_of ms)) (sym joined) (family_deletion (content_of_nodes ns) id (children_of ms) (family_same (content_of_nodes ns) (children_of ns) (children_of ms) w.family lists));
-    counted =
-        subst (λ c. IsCounted c later insertions more limit) (sym joined)
-        (subst (λ n. IsCounted (join (content_of_nodes ns) (single (Delete id))) n insertions more limit) (sym is_later)
-        (subst (λ n. IsCounted (join (content_of_nodes ns) (single (Delete id))) (max latest id.counter) insertions n limit) (sym is_more)
-        (counted_deletion (content_of_nodes ns) latest insertions identifiers limit w.counted id answered)));
-  }
+  tree_deletion id later more answered joined lists is_later is_more =
+      tree_of ms (join (content_of_nodes ns) (single (Delete id))) later insertions more limit apart joined
+      (family_deletion (content_of_nodes ns) id (children_of ms) (family_same (content_of_nodes ns) (children_of ns) (children_of ms) w.family lists))
+      (counted_as _ _ later insertions _ more limit is_later is_more (counted_deletion (content_of_nodes ns) latest insertions identifiers limit w.counted id answered))
 
 -- no nodes mean nothing
 no_family : IsFamily nothing (children_of [])

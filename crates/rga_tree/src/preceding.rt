@@ -48,7 +48,7 @@ pub(crate) fn last_under(nodes: &IndexMap<Id, Node>, id: Id) -> Id
     last
 }
 
-/// It leaves the index behind the parent's at `near`: its oldest child's node mostly stands there.
+/// It leaves the index after the parent's at `near`: its oldest child's node mostly stands there.
 fn oldest_child(nodes: &IndexMap<Id, Node>, near: &mut usize, parent: Id) -> Option<Id>
     ensures { result ≡ slice_get (children_of nodes.now.entries parent) 0 }
 {
