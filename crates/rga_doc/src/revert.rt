@@ -144,7 +144,7 @@ fn check_revert<S: TextStore>(
     collect_visible(alloc, store, waits, gone)
 }
 
-/// `Range` where an element is not complete or stands twice; `Memory`.
+/// `Range` if an element is not complete or stands twice; `Memory`.
 fn check_restorable<S: TextStore>(
     alloc: Global,
     store: &S,
@@ -195,7 +195,7 @@ fn collect_visible<S: TextStore>(
     Ok(kept)
 }
 
-/// Whether an element is complete: where none waits, each that is inserted is. Takes no memory.
+/// Whether an element is complete: if none waits, each that is inserted is. Takes no memory.
 fn is_in_order<S: TextStore>(store: &S, waits: usize, id: Id) -> bool
     requires { waits ≡ length (waiting (S.content store.now)) }
     ensures { result ≡ is_complete (S.content store.now) id }
