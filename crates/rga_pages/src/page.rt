@@ -83,36 +83,16 @@ impl Page {
         ensures memory { IfErr result (λ e. e ≡ Refusal.Memory) }
     {
         if index == 0 {
-            return self.put_first(id, value);
+            self.entries.insert(0, (id, value))?;
+            self.first = id;
+            return Ok(());
         }
         if index < self.entries.as_slice().len() {
-            return self.put_between(index, id, value);
+            self.entries.insert(index, (id, value))?;
+            return Ok(());
         }
         self.entries.reserve(1)?;
         self.entries.push_reserved((id, value));
-        Ok(())
-    }
-
-    /// An entry comes in at the front. `Memory` alone.
-    fn put_first(&mut self, id: Id, value: Record) -> Result<(), Refusal>
-        ensures ok { OnOk result (self.new ≡ insert self.old 0 (id, value)) }
-        ensures err { OnErr result (self.new ≡ self.old) }
-        ensures memory { IfErr result (λ e. e ≡ Refusal.Memory) }
-    {
-        self.entries.insert(0, (id, value))?;
-        self.first = id;
-        Ok(())
-    }
-
-    /// An entry comes in behind the first and before the last. `Memory` alone.
-    fn put_between(&mut self, index: usize, id: Id, value: Record) -> Result<(), Refusal>
-        requires first { 0 < index }
-        requires second { index < length self.old }
-        ensures ok { OnOk result (self.new ≡ insert self.old index (id, value)) }
-        ensures err { OnErr result (self.new ≡ self.old) }
-        ensures memory { IfErr result (λ e. e ≡ Refusal.Memory) }
-    {
-        self.entries.insert(index, (id, value))?;
         Ok(())
     }
 
