@@ -1,5 +1,5 @@
 //! Some entries in a row.
-ghost use Rattle.std.specs.Prelude.{◌≡◌, ◌≤◌, ◌<◌, ◌++◌, ◌∷◌, [], length, take, drop, insert, remove, slice_set, IfOk, IfErr, OnOk, OnErr};
+ghost use Rattle.std.specs.Prelude.{◌≡◌, ◌≤◌, ◌<◌, ◌++◌, length, take, drop, insert, remove, slice_set, IfOk, IfErr, OnOk, OnErr};
 ghost use Rattle.rga_pages.specs.Pages.{BeginsWith};
 
 use crate::entry::Record;
@@ -39,16 +39,6 @@ fn first_of(entries: &[(Id, Record)]) -> Id
 }
 
 impl Page {
-    /// A page of one entry, in room for as many as a page has at most. `Memory` alone.
-    pub(crate) fn of_one(alloc: Global, id: Id, value: Record) -> Result<Page, Refusal>
-        ensures ok { IfOk result (λ p. p ≡ (id, value) ∷ []) }
-        ensures memory { IfErr result (λ e. e ≡ Refusal.Memory) }
-    {
-        let mut entries = Vec::with_capacity(alloc, MOST)?;
-        entries.push((id, value))?;
-        Ok(Page { entries, first: id })
-    }
-
     /// A page of some entries, in room for as many as a page has at most. `Memory` alone.
     pub(crate) fn of_some(alloc: Global, some: &[(Id, Record)]) -> Result<Page, Refusal>
         ensures ok { IfOk result (λ p. p ≡ some.now) }

@@ -58,7 +58,7 @@ fn put_first(alloc: Global, pages: &mut Vec<Page>, id: Id, value: Record) -> Res
     ensures filled { AreFilledPages pages.new.items }
     ensures memory { IfErr result (λ e. e ≡ Refusal.Memory) }
 {
-    let page = Page::of_one(alloc, id, value)?;
+    let page = Page::of_some(alloc, &[(id, value)])?;
     put_page(pages, 0, page)
 }
 
@@ -165,7 +165,7 @@ fn put_own(
     ensures filled { AreFilledPages pages.new.items }
     ensures memory { IfErr result (λ e. e ≡ Refusal.Memory) }
 {
-    let own = Page::of_one(alloc, id, value)?;
+    let own = Page::of_some(alloc, &[(id, value)])?;
     put_page(pages, page + 1, own)
 }
 
