@@ -1,5 +1,5 @@
 -- Entries in the order of their identifiers: what is below one, and what a change makes of them.
-use Rattle.std.proofs.Common.{◌≡◌, ℕ, is_some, ◌<◌, ◌≤◌, suc, zero, true, false, cond, [], ◌∷◌, ◌++◌, length, take, drop, slice_index_or, refl, sym, ap, ◌∙◌, arith, true≢false}
+use Rattle.std.proofs.Common.{◌≡◌, ℕ, is_some, ◌<◌, suc, zero, true, false, cond, [], ◌∷◌, ◌++◌, length, take, slice_index_or, refl, sym, ap, ◌∙◌, arith, true≢false}
 use Rattle.std.specs.Prelude.{Some, None}
 use Rattle.std.specs.Cmp.{tied_itself, eq_by_cmp_equiv}
 use Rattle.std.specs.Ordering.{is_gt, is_lt, is_eq, ordering_reverse, match_ordering}
@@ -9,12 +9,14 @@ use Rattle.std.specs.BTreeMap.{insert_entry}
 use Rattle.std.specs.List.{AllByRecursion}
 use Rattle.std.specs.List.Sorted.{IsStrictlySortedBy}
 use Rattle.std.specs.Map.{keys_of, remove_entry, set_value}
-use Rattle.std.proofs.lemmas.Map.{lookup-remove_entry, lookup-set_value}
+use Rattle.std.proofs.lemmas.List.Elements.{All-from_recursion, recursion_from_All}
+use Rattle.std.proofs.lemmas.Map.{lookup-remove_entry}
+use Rattle.std.proofs.lemmas.Map.Views.{All-keys-insert_entry, All-map-remove_entry}
 use Rattle.std.proofs.lemmas.Map.Keys.{IsDistinct-from_sorted}
 use Rattle.rga_ops.specs.Identifier.{Identifier, id_cmp}
 use Rattle.rga_ops.proofs.IdentifierLaws.{ids_total, ids_exact, is, is_itself, is_swap, same_id}
 use Rattle.rga_pages.specs.declared.entry.Record.{Record}
-use Rattle.rga_pages.specs.Pages.{Entries, AreOrdered, AreBelow, StartsFrom, StartsAbove, Updates, record_of}
+use Rattle.rga_pages.specs.Pages.{Entries, AreOrdered, AreBelow, StartsAbove, Updates, record_of}
 
 -- ---- comparing
 
@@ -105,18 +107,6 @@ module _ (id : Identifier) where
 
   -- ---- what starts where it is
 
-  pub from_end : (es : Entries) (i : ℕ) → length es ≤ i → StartsFrom id (drop i es)
-  from_end [] zero w = tt
-  from_end [] (suc i) w = tt
-  from_end (e ∷ es) zero w = absurd (omega arith)
-  from_end (e ∷ es) (suc i) w = from_end es i (omega arith)
-
-  pub above_end : (es : Entries) (i : ℕ) → length es ≤ i → StartsAbove id (drop i es)
-  above_end [] zero w = tt
-  above_end [] (suc i) w = tt
-  above_end (e ∷ es) zero w = absurd (omega arith)
-  above_end (e ∷ es) (suc i) w = above_end es i (omega arith)
-
   pub above_some : (xs ys : Entries) → 0 < length xs → StartsAbove id xs → StartsAbove id (xs ++ ys)
   above_some [] ys w a = absurd (omega arith)
   above_some (x ∷ xs) ys w a = a
@@ -141,13 +131,7 @@ module _ (id : Identifier) (value : Record) where
   insert_over (x ∷ xs) y ys a e = step x (xs ++ y ∷ ys) Greater (greater (id_cmp id x.0) a.0) ∙ ap (λ r. x ∷ r) (insert_over xs y ys a.1 e)
 
   all_inserted : (P : Identifier → Type 0) (es : Entries) → P id → AllByRecursion P (keys_of es) → AllByRecursion P (keys_of (insert_entry id_cmp es id value))
-  all_inserted P [] p a = (p, tt)
-  all_inserted P (e ∷ es) p a =
-      elim (id_cmp id e.0) as (λ o. AllByRecursion P (keys_of (match_ordering o ((id, value) ∷ e ∷ es) ((e.0, value) ∷ es) (e ∷ insert_entry id_cmp es id value)))) [
-        | Less ↦ (p, a)
-        | Equal ↦ a
-        | Greater ↦ (a.0, all_inserted P es p a.1)
-      ]
+  all_inserted P es p a = recursion_from_All P (keys_of (insert_entry id_cmp es id value)) (All-keys-insert_entry id_cmp id value P es (All-from_recursion P (keys_of es) a) p)
 
   all_less : (b : Identifier) (es : Entries) → id_cmp id b ≡ Less → AllByRecursion (λ y. id_cmp b y ≡ Less) (keys_of es) → AllByRecursion (λ y. id_cmp id y ≡ Less) (keys_of es)
   all_less b [] h a = tt
@@ -237,12 +221,7 @@ module _ (id : Identifier) where
   record_absent (x ∷ xs) ys h a k = ap (λ t. cond t (Some x.1) (record_of id (xs ++ ys))) (passes x a.0) ∙ record_absent xs ys h.1 a.1 k
 
   all_left : (P : Identifier → Type 0) (es : Entries) → AllByRecursion P (keys_of es) → AllByRecursion P (keys_of (remove_entry (is id) es))
-  all_left P [] a = tt
-  all_left P (e ∷ es) a =
-      elim (is id e.0) as (λ b. AllByRecursion P (keys_of (cond b es (e ∷ remove_entry (is id) es)))) [
-        | true ↦ a.1
-        | false ↦ (a.0, all_left P es a.1)
-      ]
+  all_left P es a = recursion_from_All P (keys_of (remove_entry (is id) es)) (All-map-remove_entry (is id) (λ (e : Identifier × Record). e.0) P es (All-from_recursion P (keys_of es) a))
 
   pub ordered_remove : (es : Entries) → AreOrdered es → AreOrdered (remove_entry (is id) es)
   unfolding IsStrictlySortedBy
@@ -263,9 +242,6 @@ module _ (id : Identifier) where
         | true ↦ λ k. absurd (true≢false (ap is_some k))
         | false ↦ λ k. ap (λ r. e ∷ r) (remove_none es k)
       ] h
-
-  pub updates_set : (value : Record) (es : Entries) → is_some (record_of id es) ≡ true → Updates es (set_value (is id) es value) id (Some value)
-  updates_set value es some q = lookup-set_value (eq_by_cmp_equiv ids_total) (is id) (λ x y t. ap (λ k. is k y) (same_id id x t)) q value es some
 
   pub set_none : (value : Record) (es : Entries) → record_of id es ≡ None → set_value (is id) es value ≡ es
   set_none value [] h = refl

@@ -4,7 +4,7 @@ use Rattle.std.specs.Prelude.{Some, None, insert, remove, slice_set}
 use Rattle.std.specs.BTreeMap.{insert_entry}
 use Rattle.std.specs.Cmp.{tied_itself}
 use Rattle.std.specs.Ordering.{is_lt, is_gt}
-use Rattle.std.proofs.lemmas.List.{take_more, drop_more}
+use Rattle.std.proofs.lemmas.List.{get_or_default, length-drop, take_more, drop_more}
 use Rattle.std.specs.List.Sorted.{IsStrictlySortedBy}
 use Rattle.std.specs.Map.{remove_entry, set_value}
 use Rattle.rga_ops.specs.Identifier.{Identifier, id_cmp}
@@ -12,23 +12,15 @@ use Rattle.rga_ops.proofs.IdentifierLaws.{is, ids_total}
 use Rattle.rga_pages.specs.declared.entry.Record.{Record}
 use Rattle.rga_pages.specs.Pages.{Entries, record_of, entries_in, entries_before, entries_behind, AreOrdered, AreBelow, StartsAbove, StartsAt, AreFilledPages, ArePages, IsSpot}
 use Rattle.rga_pages.proofs.EntryLaws.{not_less, ordered_front, before_below, above_append, above_some, below_append, insert_between, insert_over, set_between, ordered_insert, remove_between, ordered_remove, record_between, record_absent}
-use Rattle.rga_pages.proofs.PlaceLaws.{starts_at, one_up, page_at, place_at, parted, before_is, behind_is, index_there, Stood, stood, put_there, set_there, removed_there, page_gone, drop_some}
+use Rattle.rga_pages.proofs.PlaceLaws.{one_up, place_at, parted, before_is, behind_is, index_there, Stood, stood, put_there, set_there, removed_there, page_gone}
 
 pub no_pages : ArePages []
 unfolding IsStrictlySortedBy
 no_pages = record { ordered = tt; filled = tt }
 
--- no pages have no records
-none_flat : (ps : List Entries) → length ps ≡ 0 → ps ≡ []
-none_flat [] h = refl
-none_flat (x ∷ xs) h = absurd (omega arith)
-
-pub empty : (ps : List Entries) → length ps ≡ 0 → entries_in ps ≡ []
-empty ps h = ap entries_in (none_flat ps h)
-
 module _ (ps : List Entries) (p i : ℕ) (id : Identifier) (d : Entries) (w : p < length ps) where
   abbrev the_page : slice_index_or ps p [] ≡ slice_index_or ps p d
-  the_page = page_at ps p [] d w
+  the_page = get_or_default ps p [] d w
 
   -- in the page in which it must be
   pub spot_in : (found : Bool) → AreBelow id (entries_in (take p ps)) → StartsAbove id (entries_in (drop (p + 1) ps))
@@ -50,13 +42,13 @@ module _ (ps : List Entries) (p i : ℕ) (id : Identifier) (d : Entries) (w : p 
     below = subst (AreBelow id) (sym (before_is ps p i d w)) (below_append id (entries_in (take p ps)) (take i (slice_index_or ps p d)) below here);
     there = λ t. subst (λ y. StartsAt id (drop i y)) (sym the_page) (there t);
     absent = λ f. subst (StartsAbove id) (sym (behind_is ps p i d w))
-        (above_some id (drop i (slice_index_or ps p d)) (entries_in (drop (suc p) ps)) (drop_some i (slice_index_or ps p d) within) (absent f));
+        (above_some id (drop i (slice_index_or ps p d)) (entries_in (drop (suc p) ps)) (omega (arith, length-drop i (slice_index_or ps p d), within)) (absent f));
   }
 
   -- where it is seen
   pub spot_there : (e : Identifier × Record) → i < length (slice_index_or ps p d) → (slice_index_or (slice_index_or ps p d) i e).0 ≡ id → AreOrdered (entries_in ps) → IsSpot ps p i true id
   spot_there e h is ordered =
-      let there : StartsAt id (drop i (slice_index_or ps p d)) = starts_at (slice_index_or ps p d) i e id h is in
+      let there : StartsAt id (drop i (slice_index_or ps p d)) = subst (StartsAt id) (sym (drop_more (slice_index_or ps p d) i e h)) is in
       let stands : Stood ps p i id = stood ps p i id d w there in
       let parts : AreOrdered (entries_before ps p i ++ stands.entry ∷ entries_behind ps p (suc i)) = subst AreOrdered (parted ps p i ∙ ap (λ r. entries_before ps p i ++ r) stands.behind_it) ordered in
       record {
@@ -125,11 +117,6 @@ module _ (ps : List Entries) (p i : ℕ) (id : Identifier) (d : Entries) (w : p 
   -- ---- where it would come in
 
   module _ (spot : IsSpot ps p i false id) where
-    pub record_none : AreOrdered (entries_in ps) → record_of id (entries_in ps) ≡ None
-    record_none ordered =
-        ap (record_of id) (parted ps p i)
-        ∙ record_absent id (entries_before ps p i) (entries_behind ps p i) (subst AreOrdered (parted ps p i) ordered) spot.below (spot.absent refl)
-
     put_is : (value : Record) → entries_before ps p i ++ (id, value) ∷ entries_behind ps p i ≡ insert_entry id_cmp (entries_in ps) id value
     put_is value = sym (insert_between id value (entries_before ps p i) (entries_behind ps p i) spot.below (spot.absent refl)) ∙ ap (λ es. insert_entry id_cmp es id value) (sym (parted ps p i))
 
@@ -138,6 +125,11 @@ module _ (ps : List Entries) (p i : ℕ) (id : Identifier) (d : Entries) (w : p 
 
     pub own_spot : (value : Record) (qs : List Entries) → entries_in qs ≡ entries_before ps p i ++ (id, value) ∷ entries_behind ps p i → entries_in qs ≡ insert_entry id_cmp (entries_in ps) id value
     own_spot value qs h = h ∙ put_is value
+
+pub record_none : {ps : List Entries} {p i : ℕ} {found : Bool} {id : Identifier} → IsSpot ps p i found id → found ≡ false → AreOrdered (entries_in ps) → record_of id (entries_in ps) ≡ None
+record_none {ps = ps} {p = p} {i = i} {id = id} spot none ordered =
+    ap (record_of id) (parted ps p i)
+    ∙ record_absent id (entries_before ps p i) (entries_behind ps p i) (subst AreOrdered (parted ps p i) ordered) spot.below (spot.absent none)
 
 -- ---- what is kept
 

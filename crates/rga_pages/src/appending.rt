@@ -1,6 +1,6 @@
 //! Entries come in behind all others.
 ghost use Rattle.std.specs.Prelude.{◌≡◌, ◌<◌, ◌++◌, length, vec_len, vec_capacity, true, IfErr, OnOk, OnErr};
-ghost use Rattle.rga_pages.specs.Pages.{entries_in, AreBelow, AreFilledPages, ArePages, AreOrdered};
+ghost use Rattle.rga_pages.specs.Pages.{entries_in, AreFilledPages, ArePages, AreOrdered};
 
 use crate::entry::Record;
 use crate::page::{MOST, Page};
@@ -73,21 +73,12 @@ pub(crate) fn can_follow(pages: &Vec<Page>, entries: &[(Id, Record)]) -> bool
     if entries.len() == 0 {
         return true;
     }
-    is_above_all(pages, entries[0].0)
-}
-
-/// Whether an identifier is above all that have records.
-fn is_above_all(pages: &Vec<Page>, id: Id) -> bool
-    requires ordered { AreOrdered (entries_in pages.now.items) }
-    requires filled { AreFilledPages pages.now.items }
-    ensures { result ≡ true → AreBelow id (entries_in pages.now.items) }
-{
     let count = pages.len();
     if count == 0 {
         return true;
     }
-    let entries = pages[count - 1].entries();
-    is_behind(entries, entries.len(), id)
+    let last = pages[count - 1].entries();
+    is_behind(last, last.len(), entries[0].0)
 }
 
 /// Where the last entry stands.

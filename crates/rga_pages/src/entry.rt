@@ -112,12 +112,9 @@ impl Record {
         ensures { result ≡ record self.now { block = block; index = index } }
     {
         Record {
-            parent_counter: self.parent_counter,
-            ch: self.ch,
             block,
-            parent_replica: self.parent_replica,
             index,
-            deleted: self.deleted,
+            ..*self
         }
     }
 
@@ -139,13 +136,6 @@ impl Record {
     fn with_mark(&self, deleted: bool) -> Record
         ensures { result ≡ record self.now { deleted = deleted } }
     {
-        Record {
-            parent_counter: self.parent_counter,
-            ch: self.ch,
-            block: self.block,
-            parent_replica: self.parent_replica,
-            index: self.index,
-            deleted,
-        }
+        Record { deleted, ..*self }
     }
 }

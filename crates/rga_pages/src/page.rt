@@ -1,5 +1,5 @@
 //! Some entries in a row.
-ghost use Rattle.std.specs.Prelude.{◌≡◌, ◌≤◌, ◌<◌, ◌++◌, ◌∷◌, [], length, take, drop, insert, remove, slice_set, IfOk, IfErr, OnOk, OnErr};
+ghost use Rattle.std.specs.Prelude.{◌≡◌, ◌≤◌, ◌<◌, ◌++◌, length, take, drop, insert, remove, slice_set, IfOk, IfErr, OnOk, OnErr};
 ghost use Rattle.rga_pages.specs.Pages.{BeginsWith};
 
 use crate::entry::Record;
@@ -39,16 +39,6 @@ fn first_of(entries: &[(Id, Record)]) -> Id
 }
 
 impl Page {
-    /// A page of one entry, in room for as many as a page has at most. `Memory` alone.
-    pub(crate) fn of_one(alloc: Global, id: Id, value: Record) -> Result<Page, Refusal>
-        ensures ok { IfOk result (λ p. p ≡ (id, value) ∷ []) }
-        ensures memory { IfErr result (λ e. e ≡ Refusal.Memory) }
-    {
-        let mut entries = Vec::with_capacity(alloc, MOST)?;
-        entries.push((id, value))?;
-        Ok(Page { entries, first: id })
-    }
-
     /// A page of some entries, in room for as many as a page has at most. `Memory` alone.
     pub(crate) fn of_some(alloc: Global, some: &[(Id, Record)]) -> Result<Page, Refusal>
         ensures ok { IfOk result (λ p. p ≡ some.now) }
@@ -83,36 +73,16 @@ impl Page {
         ensures memory { IfErr result (λ e. e ≡ Refusal.Memory) }
     {
         if index == 0 {
-            return self.put_first(id, value);
+            self.entries.insert(0, (id, value))?;
+            self.first = id;
+            return Ok(());
         }
         if index < self.entries.as_slice().len() {
-            return self.put_between(index, id, value);
+            self.entries.insert(index, (id, value))?;
+            return Ok(());
         }
         self.entries.reserve(1)?;
         self.entries.push_reserved((id, value));
-        Ok(())
-    }
-
-    /// An entry comes in at the front. `Memory` alone.
-    fn put_first(&mut self, id: Id, value: Record) -> Result<(), Refusal>
-        ensures ok { OnOk result (self.new ≡ insert self.old 0 (id, value)) }
-        ensures err { OnErr result (self.new ≡ self.old) }
-        ensures memory { IfErr result (λ e. e ≡ Refusal.Memory) }
-    {
-        self.entries.insert(0, (id, value))?;
-        self.first = id;
-        Ok(())
-    }
-
-    /// An entry comes in behind the first and before the last. `Memory` alone.
-    fn put_between(&mut self, index: usize, id: Id, value: Record) -> Result<(), Refusal>
-        requires first { 0 < index }
-        requires second { index < length self.old }
-        ensures ok { OnOk result (self.new ≡ insert self.old index (id, value)) }
-        ensures err { OnErr result (self.new ≡ self.old) }
-        ensures memory { IfErr result (λ e. e ≡ Refusal.Memory) }
-    {
-        self.entries.insert(index, (id, value))?;
         Ok(())
     }
 

@@ -11,7 +11,7 @@ use crate::entry::Record;
 use crate::page::Page;
 use crate::putting::{has_room, insert, insert_in_full, overwrite, write};
 use crate::removing::remove_at;
-use crate::search::{end_for, find, record_at};
+use crate::search::{end_for, find, find_record};
 use crate::spot::Spot;
 use rga_ops::{Id, Refusal};
 use std::alloc::Global;
@@ -58,11 +58,11 @@ impl Pages {
         ensures value { result ≡ record_of id self.now }
         ensures ordered { AreOrdered self.now }
     {
-        if self.pages.as_slice().len() == 0 {
-            return None;
+        let mut last = self.last;
+        match find_record(&self.pages, &mut last, id) {
+            Some(found) => Some(found.1),
+            None => None,
         }
-        let spot = find(&self.pages, self.last, id);
-        record_at(&self.pages, spot, id)
     }
 
     /// The record of an identifier, for which the next look-ups are quick. Takes no memory.
@@ -71,12 +71,10 @@ impl Pages {
         ensures ordered { AreOrdered self.old }
         ensures same { self.new ≡ self.old }
     {
-        if self.pages.as_slice().len() == 0 {
-            return None;
+        match find_record(&self.pages, &mut self.last, id) {
+            Some(found) => Some(found.1),
+            None => None,
         }
-        let spot = find(&self.pages, self.last, id);
-        self.last = spot;
-        record_at(&self.pages, spot, id)
     }
 
     /// An identifier gets its record. `Memory` alone, which changes nothing, and only where it had
@@ -159,13 +157,8 @@ impl Pages {
             Updates self.old self.new id (Some value) }
         ensures ordered { AreOrdered self.new }
     {
-        if self.pages.as_slice().len() == 0 {
-            return;
-        }
-        let spot = find(&self.pages, self.last, id);
-        if spot.found {
-            overwrite(&mut self.pages, spot, id, value);
-            self.last = spot;
+        if let Some(found) = find_record(&self.pages, &mut self.last, id) {
+            overwrite(&mut self.pages, found.0, id, value);
         }
     }
 
@@ -177,16 +170,8 @@ impl Pages {
         ensures ordered { AreOrdered self.new }
         ensures was_ordered { AreOrdered self.old }
     {
-        if self.pages.as_slice().len() == 0 {
-            return;
-        }
-        let spot = find(&self.pages, self.last, id);
-        self.last = spot;
-        if !spot.found {
-            return;
-        }
-        if let Some(record) = record_at(&self.pages, spot, id) {
-            overwrite(&mut self.pages, spot, id, record.moved(block, index));
+        if let Some(found) = find_record(&self.pages, &mut self.last, id) {
+            overwrite(&mut self.pages, found.0, id, found.1.moved(block, index));
         }
     }
 
@@ -198,18 +183,10 @@ impl Pages {
         ensures ordered { AreOrdered self.new }
         ensures was_ordered { AreOrdered self.old }
     {
-        if self.pages.as_slice().len() == 0 {
-            return None;
-        }
-        let spot = find(&self.pages, self.last, id);
-        self.last = spot;
-        if !spot.found {
-            return None;
-        }
-        match record_at(&self.pages, spot, id) {
-            Some(record) => {
-                overwrite(&mut self.pages, spot, id, record.marked());
-                Some(record)
+        match find_record(&self.pages, &mut self.last, id) {
+            Some(found) => {
+                overwrite(&mut self.pages, found.0, id, found.1.marked());
+                Some(found.1)
             }
             None => None,
         }
@@ -225,24 +202,15 @@ impl Pages {
         ensures ordered { AreOrdered self.new }
         ensures was_ordered { AreOrdered self.old }
     {
-        if self.pages.as_slice().len() == 0 {
-            return false;
-        }
-        let spot = find(&self.pages, self.last, id);
-        self.last.page = spot.page;
-        self.last.index = spot.index;
-        if !spot.found {
-            return false;
-        }
-        match record_at(&self.pages, spot, id) {
-            Some(record) => {
-                if record.deleted {
+        match find_record(&self.pages, &mut self.last, id) {
+            Some(found) => {
+                if found.1.deleted {
                     return false;
                 }
-                if record.ch.is_none() {
+                if found.1.ch.is_none() {
                     return false;
                 }
-                overwrite(&mut self.pages, spot, id, record.marked());
+                overwrite(&mut self.pages, found.0, id, found.1.marked());
                 true
             }
             None => false,
@@ -255,12 +223,8 @@ impl Pages {
         ensures updates { Updates self.old self.new id None }
         ensures ordered { AreOrdered self.new }
     {
-        if self.pages.as_slice().len() == 0 {
-            return;
-        }
-        let spot = find(&self.pages, self.last, id);
-        if spot.found {
-            remove_at(&mut self.pages, spot, id);
+        if let Some(found) = find_record(&self.pages, &mut self.last, id) {
+            remove_at(&mut self.pages, found.0, id);
         }
     }
 

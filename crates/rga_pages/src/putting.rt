@@ -1,10 +1,10 @@
 //! An entry comes in, or takes the place of one with its identifier.
-ghost use Rattle.std.specs.Prelude.{◌≡◌, ◌≤◌, ◌<◌, ◌+◌, ◌++◌, ◌∷◌, [], None, length, vec_len, slice_index_or, insert, false, true, IfErr, OnOk, OnErr};
+ghost use Rattle.std.specs.Prelude.{◌≡◌, ◌≤◌, ◌<◌, ◌+◌, ◌++◌, ◌∷◌, [], None, Some, length, vec_len, slice_index_or, insert, false, true, IfErr, OnOk, OnErr};
 ghost use Rattle.std.specs.BTreeMap.{insert_entry};
 ghost use Rattle.std.specs.Map.{set_value};
 ghost use Rattle.std.specs.Ordering.{eq_by_cmp};
 ghost use Rattle.rga_ops.specs.Identifier.{id_cmp};
-ghost use Rattle.rga_pages.specs.Pages.{entries_in, record_of, entries_before, entries_behind, AreFilledPages, ArePages, IsSpot};
+ghost use Rattle.rga_pages.specs.Pages.{entries_in, record_of, entries_before, entries_behind, AreFilledPages, ArePages, IsSpot, Updates};
 
 use crate::entry::Record;
 use crate::page::{MOST, Page};
@@ -58,7 +58,7 @@ fn put_first(alloc: Global, pages: &mut Vec<Page>, id: Id, value: Record) -> Res
     ensures filled { AreFilledPages pages.new.items }
     ensures memory { IfErr result (λ e. e ≡ Refusal.Memory) }
 {
-    let page = Page::of_one(alloc, id, value)?;
+    let page = Page::of_some(alloc, &[(id, value)])?;
     put_page(pages, 0, page)
 }
 
@@ -104,6 +104,8 @@ pub(crate) fn overwrite(pages: &mut Vec<Page>, at: Spot, id: Id, value: Record)
         ≡ insert_entry id_cmp (entries_in pages.old.items) id value }
     ensures replaced { entries_in pages.new.items
         ≡ set_value (eq_by_cmp id_cmp id) (entries_in pages.old.items) value }
+    ensures updates { Updates (entries_in pages.old.items) (entries_in pages.new.items) id
+        (Some value) }
     ensures kept { ArePages pages.new.items }
 {
     pages[at.page].set(at.index, id, value);
@@ -163,7 +165,7 @@ fn put_own(
     ensures filled { AreFilledPages pages.new.items }
     ensures memory { IfErr result (λ e. e ≡ Refusal.Memory) }
 {
-    let own = Page::of_one(alloc, id, value)?;
+    let own = Page::of_some(alloc, &[(id, value)])?;
     put_page(pages, page + 1, own)
 }
 
@@ -186,9 +188,8 @@ fn cut_for(index: usize) -> usize
 fn cut_page(alloc: Global, pages: &mut Vec<Page>, page: usize, cut: usize) -> Result<(), Refusal>
     requires filled { AreFilledPages pages.old.items }
     requires page { page < vec_len pages.old }
-    requires full { MOST ≤ length (slice_index_or pages.old.items page []) }
     requires first { 0 < cut }
-    requires second { cut < MOST }
+    requires second { cut < length (slice_index_or pages.old.items page []) }
     ensures flat { entries_in pages.new.items ≡ entries_in pages.old.items }
     ensures filled { AreFilledPages pages.new.items }
     ensures some { 0 < vec_len pages.new }
@@ -216,9 +217,8 @@ fn has_room_behind(pages: &Vec<Page>, page: usize, cut: usize) -> bool
 fn spill(alloc: Global, pages: &mut Vec<Page>, page: usize, cut: usize) -> Result<(), Refusal>
     requires filled { AreFilledPages pages.old.items }
     requires page { page + 1 < vec_len pages.old }
-    requires full { MOST ≤ length (slice_index_or pages.old.items page []) }
     requires first { 0 < cut }
-    requires second { cut < MOST }
+    requires second { cut < length (slice_index_or pages.old.items page []) }
     ensures flat { entries_in pages.new.items ≡ entries_in pages.old.items }
     ensures filled { AreFilledPages pages.new.items }
     ensures some { 0 < vec_len pages.new }
@@ -235,9 +235,8 @@ fn spill(alloc: Global, pages: &mut Vec<Page>, page: usize, cut: usize) -> Resul
 fn halve(alloc: Global, pages: &mut Vec<Page>, page: usize, cut: usize) -> Result<(), Refusal>
     requires filled { AreFilledPages pages.old.items }
     requires page { page < vec_len pages.old }
-    requires full { MOST ≤ length (slice_index_or pages.old.items page []) }
     requires first { 0 < cut }
-    requires second { cut < MOST }
+    requires second { cut < length (slice_index_or pages.old.items page []) }
     ensures flat { entries_in pages.new.items ≡ entries_in pages.old.items }
     ensures filled { AreFilledPages pages.new.items }
     ensures some { 0 < vec_len pages.new }

@@ -1,8 +1,8 @@
 //! Where an identifier is.
-ghost use Rattle.std.specs.Prelude.{◌≡◌, ◌≤◌, ◌<◌, ◌+◌, length, vec_len, true, false, take, drop, IfSome};
+ghost use Rattle.std.specs.Prelude.{◌≡◌, ◌≤◌, ◌<◌, ◌+◌, length, vec_len, true, false, take, drop, None, Some, IfSome};
 ghost use Rattle.std.specs.Ordering.{is_gt, is_lt};
 ghost use Rattle.rga_ops.specs.Identifier.{id_cmp};
-ghost use Rattle.rga_pages.specs.Pages.{entries_in, record_of, AreOrdered, AreBelow, StartsFrom, StartsAbove, StartsAt, AreFilledPages, IsSpot};
+ghost use Rattle.rga_pages.specs.Pages.{entries_in, record_of, AreOrdered, AreBelow, StartsFrom, StartsAbove, StartsAt, AreFilledPages, ArePages, IsSpot};
 
 use crate::entry::Record;
 use crate::page::{MOST, Page};
@@ -331,18 +331,6 @@ fn go_on(entries: &[(Id, Record)], from: usize, id: Id) -> usize
     index
 }
 
-/// The first index whose entry is not below an identifier; the end where there is none. It is
-/// looked for on both sides of an index.
-fn index_in(entries: &[(Id, Record)], beside: usize, id: Id) -> usize
-    requires { AreOrdered entries.now }
-    ensures within { result ≤ length entries.now }
-    ensures below { AreBelow id (take result entries.now) }
-    ensures from { StartsFrom id (drop result entries.now) }
-{
-    let from = go_back(entries, beside, id);
-    go_on(entries, from, id)
-}
-
 /// Where an identifier is in the page in which it must be, looked for on both sides of an index.
 fn find_in(pages: &Vec<Page>, page: usize, beside: usize, id: Id) -> Spot
     requires ordered { AreOrdered (entries_in pages.now.items) }
@@ -353,20 +341,31 @@ fn find_in(pages: &Vec<Page>, page: usize, beside: usize, id: Id) -> Spot
     ensures spot { IsSpot pages.now.items result.page result.index result.found id }
 {
     let entries = pages[page].entries();
-    let index = index_in(entries, beside, id);
+    let from = go_back(entries, beside, id);
+    let index = go_on(entries, from, id);
     let found = is_at(entries, index, id);
     Spot { page, index, found }
 }
 
-/// The record at the spot of an identifier, if it is there.
-pub(crate) fn record_at(pages: &Vec<Page>, at: Spot, id: Id) -> Option<Record>
-    requires ordered { AreOrdered (entries_in pages.now.items) }
-    requires page { at.page < vec_len pages.now }
-    requires spot { IsSpot pages.now.items at.page at.index at.found id }
-    ensures { result ≡ record_of id (entries_in pages.now.items) }
+/// The spot and the record of an identifier, if it has one. The spot is the place that was used last
+/// then, also where it has none.
+#[inline(always)]
+pub(crate) fn find_record(pages: &Vec<Page>, last: &mut Spot, id: Id) -> Option<(Spot, Record)>
+    requires { ArePages pages.now.items }
+    ensures page { IfSome result (λ found. found.0.page < vec_len pages.now) }
+    ensures spot { IfSome result (λ found.
+        IsSpot pages.now.items found.0.page found.0.index true id) }
+    ensures record { IfSome result (λ found.
+        record_of id (entries_in pages.now.items) ≡ Some found.1) }
+    ensures none { result ≡ None → record_of id (entries_in pages.now.items) ≡ None }
 {
-    if at.found {
-        return Some(pages[at.page].entries()[at.index].1);
+    if pages.as_slice().len() == 0 {
+        return None;
+    }
+    let spot = find(pages, *last, id);
+    *last = spot;
+    if spot.found {
+        return Some((spot, pages[spot.page].entries()[spot.index].1));
     }
     None
 }

@@ -1,5 +1,5 @@
 -- How the links of records' elements grow record by record, and that what is read along them is the text.
-use Rattle.std.proofs.Common.{◌≡◌, ◌≤◌, ◌<◌, ℕ, suc, true, false, cond, ◌||◌, List, [], ◌∷◌, ◌++◌, map, length, get_or, is_some, refl, sym, ap, ◌∙◌, subst, true≢false, arith}
+use Rattle.std.proofs.Common.{◌≡◌, ◌≤◌, ◌<◌, ℕ, true, false, cond, ◌||◌, List, [], ◌∷◌, ◌++◌, map, length, get_or, is_some, refl, sym, ap, ◌∙◌, subst, true≢false, arith}
 use Rattle.std.specs.Prelude.{Option, Some, None, SomeIff}
 use Rattle.std.specs.Char.{IsScalar}
 use Rattle.std.specs.Option.{option_map}
@@ -54,10 +54,6 @@ codes_push [] [] x o h last = (last, tt)
 codes_push [] (p ∷ os) x o h last = absurd h
 codes_push (y ∷ xs) [] x o h last = absurd h
 codes_push (y ∷ xs) (p ∷ os) x o h last = (h.0, codes_push xs os x o h.1 last)
-
--- there is a link for each, and one for the root
-pub links_counted : (es : Entries) (shown next : List ℕ) → AreLinks es shown next → length next ≡ suc (length es)
-links_counted es shown next l = omega (arith, l.linked.counted, length-map es (λ e. e.0))
 
 module _ (es : Entries) (codes next : List ℕ) (l : AreLinks es codes next) (e : Identifier × Record) (code : ℕ) (of : SomeIff (shown_of e.1) (IsScalar code) code) (s : AreSoundRecords (es ++ e ∷ [])) where
   abbrev codes_more : AreCodes (codes ++ code ∷ []) (map (λ d. shown_of d.1) (es ++ e ∷ []))

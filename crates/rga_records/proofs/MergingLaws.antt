@@ -6,6 +6,7 @@ use Rattle.std.specs.List.{filter_map, AllByRecursion}
 use Rattle.std.specs.FinMap as finite_map
 use Rattle.std.specs.FinMap.{find as find_key}
 use Rattle.std.specs.FinSet as finite_set
+use Rattle.std.proofs.lemmas.List.Sums.{length-filter, count_by-le-length}
 use Rattle.rga_ops.specs.Identifier.{Identifier, id_cmp}
 use Rattle.rga_ops.specs.Content.{Element, Content, nothing, known_ids, join}
 use Rattle.rga_ops.specs.Operations.{insertion_of}
@@ -72,13 +73,12 @@ unknown_few c es h =
     ap (λ d. finite_set.len (known_ids d)) (sym (nothing_join (content_of_records es))) ∙ unknown_counted nothing es h in
     let all : length (unknown_ids nothing es) ≡ length (ids_of_records_where is_meaningful es) = all_left (ids_of_records_where is_meaningful es) in
     let none : finite_set.len (known_ids nothing) ≡ 0 = known_nothing in
-    omega (arith, known, all, none, fewer (λ q. not (finite_set.contains (known_ids c) q)) (ids_of_records_where is_meaningful es))
+    omega (arith, known, all, none, fewer (ids_of_records_where is_meaningful es))
   where
-    fewer : (p : Identifier → Bool) (xs : List Identifier) → length (filter p xs) ≤ length xs
-    fewer p [] = omega arith
-    fewer p (x ∷ xs) =
-        let rest : length (filter p xs) ≤ length xs = fewer p xs in
-        elim (p x) as (λ b. length (cond b (x ∷ filter p xs) (filter p xs)) ≤ length (x ∷ xs)) [ true ↦ omega arith | false ↦ omega arith ]
+    fewer : (xs : List Identifier) → length (filter (λ q. not (finite_set.contains (known_ids c) q)) xs) ≤ length xs
+    fewer xs =
+        let p : Identifier → Bool = λ q. not (finite_set.contains (known_ids c) q) in
+        omega (arith, length-filter p xs, count_by-le-length p xs)
 
     empty_there : (q : Identifier) → finite_map.get nothing.inserted q ≡ None
     empty_there q = finite_map.get-empty id_cmp q

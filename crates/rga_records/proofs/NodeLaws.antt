@@ -94,7 +94,7 @@ module _ (ps : List Entries) (q i : ℕ) (id : Identifier) (p k : ℕ) (w : p < 
 
   -- nor is what is not found
   pub node_absent : IsSpot ps p k false id → AreOrdered (entries_in ps) → list_any (λ x. is_id x id) (keys_of before) ≡ false
-  node_absent s ordered = none_recorded id before (entries_behind ps q i) (ap (record_of id) (sym (parted ps q i)) ∙ record_none ps p k id [] w s ordered)
+  node_absent s ordered = none_recorded id before (entries_behind ps q i) (ap (record_of id) (sym (parted ps q i)) ∙ record_none s refl ordered)
 
   -- what is found earlier has its node
   pub node_found : (s : IsSpot ps p k true id) (node : ℕ) → node ≡ suc (length at) → node < suc (length before) → is_root id ≡ false → IsNodeOf id (keys_of before) (Some node)

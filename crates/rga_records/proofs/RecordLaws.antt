@@ -64,14 +64,6 @@ pub some_inserted : (o : Option Record) → is_some (element_of o) ≡ true → 
 some_inserted None h = absurd (true≢false (sym h))
 some_inserted (Some v) h = refl
 
-pub not_true : (b : Bool) → not b ≡ true → b ≡ false
-not_true true h = absurd (true≢false (sym h))
-not_true false h = refl
-
-pub not_false : (b : Bool) → not b ≡ false → b ≡ true
-not_false true h = refl
-not_false false h = absurd (true≢false h)
-
 -- no identifier has two records
 abbrev pub AreApart : Entries → Type 0
 AreApart es = IsDistinct is (keys_of es)

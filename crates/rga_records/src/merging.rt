@@ -3,7 +3,7 @@ ghost use Rattle.std.specs.Prelude.{◌≡◌, ◌+◌, ◌≤◌, false, length
 ghost use Rattle.std.specs.List.{filter_map};
 ghost use Rattle.std.specs.Option.{option_map_or};
 ghost use Rattle.rga_ops.specs.Content.{join, known_count};
-ghost use Rattle.rga_ops.specs.ListAnswer.{has_another, least_conflict};
+ghost use Rattle.rga_ops.specs.ListAnswer.{has_another};
 ghost use Rattle.rga_pages.specs.Pages.{entries_in};
 ghost use Rattle.rga_records.specs.Records.{content_of_records, first_conflicting, insertion_of_record, unknown_ids};
 ghost use Rattle.rga_store.specs.declared.text_store.TheConstants.{MAX_LIMIT};
@@ -12,17 +12,8 @@ use crate::entries::{find_element, is_known, is_record_known};
 use rga_ops::{Id, Op};
 use rga_pages::{Page, Pages, Record};
 
-/// The least identifier that names two insertions, one in each: the first, since they rise.
-pub(crate) fn least_conflict(own: &Pages, others: &Pages) -> Option<Id>
-    ensures { let here = content_of_records own.now in
-        let there = content_of_records others.now in
-        result ≡ least_conflict here there }
-{
-    first_conflict(own, others.pages())
-}
-
 /// The first identifier that names an insertion in pages and another in the records.
-fn first_conflict(own: &Pages, pages: &Vec<Page>) -> Option<Id>
+pub(crate) fn first_conflict(own: &Pages, pages: &Vec<Page>) -> Option<Id>
     ensures { let insertions = filter_map insertion_of_record (entries_in pages.now.items) in
         result ≡ first_conflicting (content_of_records own.now) insertions }
 {

@@ -1,38 +1,13 @@
 //! A content as a list of operations.
-ghost use Rattle.std.specs.Prelude.{◌≡◌, IfOk, IfErr};
-ghost use Rattle.rga_ops.specs.Operations.{operations};
-ghost use Rattle.rga_records.specs.Records.{content_of_records};
-
-use crate::telling::{tell_deletions, tell_insertions};
 use rga_ops::{Id, Op, Refusal};
-use rga_pages::{Page, Pages, Record};
+use rga_pages::{Page, Record};
 use rga_store::Listener;
-use std::alloc::Global;
 use std::marker::Model;
-
-/// The insertions by rising identifier, of which there may be so many, and then the deletions by
-/// rising identifier. There is room for all at first, so that the list is not moved while it grows.
-pub(crate) fn operations_of(
-    alloc: Global,
-    entries: &Pages,
-    inserted: usize,
-) -> Result<Vec<Op>, Refusal>
-    ensures ok { IfOk result (λ ops. ops.items ≡ operations (content_of_records entries.now)) }
-    ensures memory { IfErr result (λ e. e ≡ Refusal.Memory) }
-{
-    let room = inserted.saturating_add(count_marked(entries.pages()));
-    let mut told = Told {
-        ops: Vec::with_capacity(alloc, room)?,
-    };
-    tell_insertions(entries, &mut told)?;
-    tell_deletions(entries, &mut told)?;
-    Ok(told.ops)
-}
 
 /// The operations that were told, in turn.
 #[derive(Drop)]
-struct Told {
-    ops: Vec<Op>,
+pub(crate) struct Told {
+    pub(crate) ops: Vec<Op>,
 }
 
 impl Model for Told {
@@ -61,7 +36,7 @@ impl Listener for Told {
 }
 
 /// How many records are marked.
-fn count_marked(pages: &Vec<Page>) -> usize {
+pub(crate) fn count_marked(pages: &Vec<Page>) -> usize {
     let mut count = 0usize;
     for page in pages {
         count = count.saturating_add(count_marked_in(page.entries()));

@@ -19,10 +19,10 @@ use crate::entries::{
     add_element, clear_element, clear_mark, find_element, found_or_new, is_known, is_marked, mark,
     mark_inserted, near_of, set_element, set_near,
 };
-use crate::merging::{count_unknown, least_conflict};
-use crate::operations::operations_of;
+use crate::merging::{count_unknown, first_conflict};
+use crate::operations::{Told, count_marked};
 use crate::taking::remove_from;
-use crate::telling::{tell_both, tell_deletions, tell_insertions};
+use crate::telling::{Deaf, tell_pages};
 use crate::walking::text_of;
 use rga_ops::{Found, Id, Op, Refusal};
 use rga_pages::Pages;
@@ -431,12 +431,21 @@ impl Records {
     }
 
     /// The content as operations: the insertions by rising identifier, and then the deletions by
-    /// rising identifier. `Memory` alone.
+    /// rising identifier. There is room for all at first, so that the list is not moved while it
+    /// grows. `Memory` alone.
     pub fn ops(&self, alloc: Global) -> Result<Vec<Op>, Refusal>
         ensures ok { IfOk result (λ ops. ops.items ≡ operations self.now.content) }
         ensures memory { IfErr result (λ e. e ≡ Refusal.Memory) }
     {
-        operations_of(alloc, &self.entries, self.inserted)
+        let room = self
+            .inserted
+            .saturating_add(count_marked(self.entries.pages()));
+        let mut told = Told {
+            ops: Vec::with_capacity(alloc, room)?,
+        };
+        self.tell_insertions(&mut told)?;
+        self.tell_deletions(&mut told)?;
+        Ok(told.ops)
     }
 
     /// The characters of the visible elements, in order, in UTF-8. The elements are put in order
@@ -457,7 +466,7 @@ impl Records {
             (L.hears listener.old (insertions self.now.content) listener.new) }
         ensures memory { IfErr result (λ e. e ≡ Refusal.Memory) }
     {
-        tell_insertions(&self.entries, listener)
+        self.tell_both(listener, &mut Deaf)
     }
 
     /// Tells the deletions by rising identifier, without a list of them. `Memory` where the listener
@@ -467,7 +476,7 @@ impl Records {
             (L.hears listener.old (deletions self.now.content) listener.new) }
         ensures memory { IfErr result (λ e. e ≡ Refusal.Memory) }
     {
-        tell_deletions(&self.entries, listener)
+        self.tell_both(&mut Deaf, listener)
     }
 
     /// Tells one listener the insertions and another the deletions, each by rising identifier, in
@@ -483,14 +492,15 @@ impl Records {
             (M.hears of_deletions.old (deletions self.now.content) of_deletions.new) }
         ensures memory { IfErr result (λ e. e ≡ Refusal.Memory) }
     {
-        tell_both(&self.entries, of_insertions, of_deletions)
+        tell_pages(self.entries.pages(), of_insertions, of_deletions)
     }
 
-    /// The least identifier that names two insertions, one in each. Takes no memory.
+    /// The least identifier that names two insertions, one in each: the first, since they rise.
+    /// Takes no memory.
     pub fn least_conflict(&self, other: &Records) -> Option<Id>
         ensures { result ≡ least_conflict self.now.content other.now.content }
     {
-        least_conflict(&self.entries, &other.entries)
+        first_conflict(&self.entries, other.entries.pages())
     }
 
     /// How many identifiers the other records know and these do not. Takes no memory.

@@ -1,50 +1,16 @@
 //! A content, told as operations one by one.
 ghost use Rattle.std.specs.Prelude.{◌≡◌, ◌∷◌, [], map, IfErr, OnOk};
 ghost use Rattle.std.specs.List.{filter_map};
-ghost use Rattle.rga_ops.specs.Operations.{insertions, deletions, insertion_of};
+ghost use Rattle.rga_ops.specs.Operations.{insertion_of};
 ghost use Rattle.rga_pages.specs.Pages.{entries_in};
-ghost use Rattle.rga_records.specs.Records.{content_of_records, insertion_of_record, marked_record_ids};
+ghost use Rattle.rga_records.specs.Records.{insertion_of_record, marked_record_ids};
 
 use rga_ops::{Id, Op, Refusal};
-use rga_pages::{Page, Pages, Record};
+use rga_pages::{Page, Record};
 use rga_store::Listener;
 
-/// Tells the insertions by rising identifier. `Memory` where the listener answers it.
-pub(crate) fn tell_insertions<L: Listener>(entries: &Pages, listener: &mut L) -> Result<(), Refusal>
-    ensures ok { let content = content_of_records entries.now in
-        OnOk result (L.hears listener.old (insertions content) listener.new) }
-    ensures memory { IfErr result (λ e. e ≡ Refusal.Memory) }
-{
-    tell_both(entries, listener, &mut Deaf)
-}
-
-/// Tells the deletions by rising identifier. `Memory` where the listener answers it.
-pub(crate) fn tell_deletions<L: Listener>(entries: &Pages, listener: &mut L) -> Result<(), Refusal>
-    ensures ok { let content = content_of_records entries.now in
-        OnOk result (L.hears listener.old (deletions content) listener.new) }
-    ensures memory { IfErr result (λ e. e ≡ Refusal.Memory) }
-{
-    tell_both(entries, &mut Deaf, listener)
-}
-
-/// Tells one listener the insertions and another the deletions, each by rising identifier, in one
-/// pass. `Memory` where a listener answers it.
-pub(crate) fn tell_both<L: Listener, M: Listener>(
-    entries: &Pages,
-    of_insertions: &mut L,
-    of_deletions: &mut M,
-) -> Result<(), Refusal>
-    ensures insertions { let content = content_of_records entries.now in
-        OnOk result (L.hears of_insertions.old (insertions content) of_insertions.new) }
-    ensures deletions { let content = content_of_records entries.now in
-        OnOk result (M.hears of_deletions.old (deletions content) of_deletions.new) }
-    ensures memory { IfErr result (λ e. e ≡ Refusal.Memory) }
-{
-    tell_pages(entries.pages(), of_insertions, of_deletions)
-}
-
 /// Tells the operations of the records, in their order.
-fn tell_pages<L: Listener, M: Listener>(
+pub(crate) fn tell_pages<L: Listener, M: Listener>(
     pages: &Vec<Page>,
     of_insertions: &mut L,
     of_deletions: &mut M,
@@ -108,7 +74,7 @@ fn tell_deletion<L: Listener>(entry: &(Id, Record), listener: &mut L) -> Result<
 
 /// What keeps nothing of what it is told.
 #[derive(Drop)]
-struct Deaf;
+pub(crate) struct Deaf;
 
 impl Listener for Deaf {
     ghost hears = { λ s ops t. Unit {0} };

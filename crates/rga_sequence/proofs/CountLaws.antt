@@ -1,8 +1,9 @@
 -- How many entries are visible in a list that changes, and which these are.
-use Rattle.std.proofs.Common.{min, ◌≡◌, ℕ, ◌+◌, ◌-◌, ◌<◌, ◌≤◌, suc, zero, Bool, true, false, cond, not, List, [], ◌∷◌, ◌++◌, length, take, drop, slice_index_or, refl, sym, ap, ◌∙◌, arith, append_assoc, length-append}
+use Rattle.std.proofs.Common.{min, ◌≡◌, ℕ, ◌+◌, ◌-◌, ◌<◌, ◌≤◌, suc, zero, Bool, true, false, cond, not, List, [], ◌∷◌, ◌++◌, length, take, drop, slice_index_or, refl, sym, ap, ◌∙◌, arith, append_assoc, length-append, drop-cons}
 use Rattle.std.specs.Prelude.{remove}
 use Rattle.std.specs.List.{slice_get}
-use Rattle.std.proofs.lemmas.List.{append-nil, take_more, drop_more, map-append, take-append-drop, drop-take, length-take-le, take_min}
+use Rattle.std.proofs.lemmas.List.{append-nil, take_more, drop_more, map-append, take-append-drop, drop-take, length-take, length-take-le, take_min, length-map, take-map, drop-map, drop_all}
+use Rattle.std.proofs.lemmas.List.Sums.{length-filter, count_by-le-length}
 use Rattle.std.proofs.lemmas.List.Elements.{filter-append}
 use Rattle.rga_ops.specs.Identifier.{Identifier}
 use Rattle.rga_sequence.specs.declared.entry.Entry.{Entry}
@@ -18,23 +19,11 @@ ids_both xs ys = ap ids (visible_both xs ys) ∙ map-append (λ e. e.id) (visibl
 pub count_both : (xs ys : List Entry) → visible_count (xs ++ ys) ≡ visible_count xs + visible_count ys
 count_both xs ys = ap length (visible_both xs ys) ∙ length-append (visible_entries xs) (visible_entries ys)
 
-length_ids : (xs : List Entry) → length (ids xs) ≡ length xs
-length_ids [] = refl
-length_ids (x ∷ xs) = ap (λ n. suc n) (length_ids xs)
-
 pub count_ids : (xs : List Entry) → length (visible_ids xs) ≡ visible_count xs
-count_ids xs = length_ids (visible_entries xs)
+count_ids xs = length-map (visible_entries xs) (λ (e : Entry). e.id)
 
 pub count_within : (xs : List Entry) → visible_count xs ≤ length xs
-count_within [] = omega arith
-count_within (x ∷ xs) =
-    elim x.deleted as (λ b. length (cond (not b) (x ∷ visible_entries xs) (visible_entries xs)) ≤ suc (length xs)) [
-      | true ↦ let rest : visible_count xs ≤ length xs = count_within xs in omega arith
-      | false ↦ let rest : visible_count xs ≤ length xs = count_within xs in omega arith
-    ]
-
-one_first : (x : Entry) (xs : List Entry) → visible_count (x ∷ xs) ≡ visible_count (x ∷ []) + visible_count xs
-one_first x xs = count_both (x ∷ []) xs
+count_within xs = omega (arith, length-filter (λ (e : Entry). not e.deleted) xs, count_by-le-length (λ (e : Entry). not e.deleted) xs)
 
 -- where as many are visible as there are, these are all
 pub all_visible : (xs : List Entry) → length xs ≤ visible_count xs → visible_entries xs ≡ xs
@@ -59,30 +48,15 @@ count_put xs i es =
     omega (arith, parts, count_both (take i xs) (drop i xs), count_both (take i xs) (es ++ drop i xs), count_both es (drop i xs))
 
 pub count_remove : (xs : List Entry) (i : ℕ) (x : Entry) → i < length xs → x ≡ slice_index_or xs i x → visible_count xs ≡ visible_count (remove xs i) + visible_count (x ∷ [])
-count_remove [] i x w is = absurd (omega arith)
-count_remove (y ∷ xs) zero x w is =
-    one_first y xs ∙ ap (λ e. visible_count (e ∷ []) + visible_count xs) (sym is) ∙ swap (visible_count (x ∷ [])) (visible_count xs)
-  where
-    swap : (n m : ℕ) → n + m ≡ m + n
-    swap n m = omega arith
-count_remove (y ∷ xs) (suc i) x w is =
-    one_first y xs
-    ∙ ap (λ n. visible_count (y ∷ []) + n) (count_remove xs i x (omega arith) is)
-    ∙ step (visible_count (y ∷ [])) (visible_count (remove xs i)) (visible_count (x ∷ []))
-    ∙ ap (λ n. n + visible_count (x ∷ [])) (sym (one_first y (remove xs i)))
-  where
-    step : (n m k : ℕ) → n + (m + k) ≡ (n + m) + k
-    step n m k = omega arith
+count_remove xs i x w is =
+    let parts : visible_count (take i xs ++ drop i xs) ≡ visible_count xs = ap visible_count (take-append-drop i xs) in
+    let rest : visible_count (drop i xs) ≡ visible_count (x ∷ drop (suc i) xs) = ap visible_count (drop-cons xs i x w ∙ ap (λ e. e ∷ drop (suc i) xs) (sym is)) in
+    omega (arith, parts, rest, count_both (take i xs) (drop i xs), count_both (take i xs) (drop (suc i) xs), count_both (x ∷ []) (drop (suc i) xs))
 
 pub length_insert : (xs : List Entry) (i : ℕ) (es : List Entry) → length (insert_all xs i es) ≡ length xs + length es
 length_insert xs i es =
     let parts : length (take i xs ++ drop i xs) ≡ length xs = ap length (take-append-drop i xs) in
     omega (arith, parts, length-append (take i xs) (drop i xs), length-append (take i xs) (es ++ drop i xs), length-append es (drop i xs))
-
-pub length_remove : (xs : List Entry) (i : ℕ) → i < length xs → length (remove xs i) + 1 ≡ length xs
-length_remove [] i w = absurd (omega arith)
-length_remove (x ∷ xs) zero w = omega arith
-length_remove (x ∷ xs) (suc i) w = let rest : length (remove xs i) + 1 ≡ length xs = length_remove xs i (omega arith) in omega arith
 
 pub length_marked : (mark : Bool) (xs : List Entry) (i : ℕ) → length (mark_at_index mark i xs) ≡ length xs
 length_marked mark [] i = refl
@@ -133,25 +107,17 @@ element_later bs i k j b w is h =
 
 -- ---- a range
 
-drop_none : (n : ℕ) → drop {A = Identifier} n [] ≡ []
-drop_none zero = refl
-drop_none (suc n) = refl
-
-take_none : (n : ℕ) → take {A = Identifier} n [] ≡ []
-take_none zero = refl
-take_none (suc n) = refl
-
 pub none_left : (lo hi : ℕ) (xs : List Identifier) → hi ≤ lo → drop lo (take hi xs) ≡ []
-none_left lo zero xs h = drop_none lo
-none_left zero (suc hi) xs h = absurd (omega arith)
-none_left (suc lo) (suc hi) [] h = refl
-none_left (suc lo) (suc hi) (x ∷ xs) h = none_left lo hi xs (omega arith)
+none_left lo hi xs h = drop_all lo (take hi xs) (omega (arith, length-take hi xs, h))
+
+pub range_none : (xs : List Identifier) (lo hi : ℕ) → length xs ≤ lo → drop lo (take hi xs) ≡ []
+range_none xs lo hi h = drop_all lo (take hi xs) (omega (arith, length-take hi xs, h))
 
 pub range_both : (xs ys : List Identifier) (lo hi lo_left hi_left : ℕ) → lo_left ≡ lo - length xs → hi_left ≡ hi - length xs → drop lo (take hi (xs ++ ys)) ≡ drop lo (take hi xs) ++ drop lo_left (take hi_left ys)
 range_both [] ys lo hi lo_left hi_left e f =
     let same : lo ≡ lo_left = omega arith in
     let too : hi ≡ hi_left = omega arith in
-    (λ k. drop (same k) (take (too k) ys)) ∙ ap (λ r. r ++ drop lo_left (take hi_left ys)) (sym (ap (drop lo) (take_none hi) ∙ drop_none lo))
+    (λ k. drop (same k) (take (too k) ys)) ∙ ap (λ r. r ++ drop lo_left (take hi_left ys)) (sym (range_none [] lo hi (omega arith)))
 range_both (x ∷ xs) ys lo zero lo_left hi_left e f =
     let over : hi_left ≡ 0 = omega arith in
     sym (append-nil (drop {A = Identifier} lo [])) ∙ ap (λ r. drop {A = Identifier} lo [] ++ r) (sym (none_left lo_left hi_left ys (omega (arith, over))))
@@ -161,27 +127,13 @@ range_both (x ∷ xs) ys (suc lo) (suc hi) lo_left hi_left e f = range_both xs y
 
 pub ids_range : (xs : List Entry) (lo hi end : ℕ) → lo ≤ end → end ≡ min hi (length xs) → ids (take (end - lo) (drop lo xs)) ≡ drop lo (take hi (ids xs))
 ids_range xs lo hi end h e =
-    part xs lo (end - lo)
+    sym (ap (take (end - lo)) (drop-map (λ (x : Entry). x.id) lo xs) ∙ take-map (λ (x : Entry). x.id) (end - lo) (drop lo xs))
     ∙ sym (drop-take lo (end - lo) (ids xs))
-    ∙ ap (λ n. drop lo (take n (ids xs))) (up lo end h ∙ e ∙ ap (min hi) (sym (length_ids xs)))
+    ∙ ap (λ n. drop lo (take n (ids xs))) (up lo end h ∙ e ∙ ap (min hi) (sym (length-map xs (λ (x : Entry). x.id))))
     ∙ ap (drop lo) (take_min hi (ids xs))
   where
-    part : (ys : List Entry) (i n : ℕ) → ids (take n (drop i ys)) ≡ take n (drop i (ids ys))
-    part ys zero zero = refl
-    part [] zero (suc n) = refl
-    part (y ∷ ys) zero (suc n) = ap (λ r. y.id ∷ r) (part ys zero n)
-    part [] (suc i) zero = refl
-    part [] (suc i) (suc n) = refl
-    part (y ∷ ys) (suc i) n = part ys i n
-
     up : (i n : ℕ) → i ≤ n → i + (n - i) ≡ n
     up i n w = omega arith
-
-pub range_none : (xs : List Identifier) (lo hi : ℕ) → length xs ≤ lo → drop lo (take hi xs) ≡ []
-range_none [] lo hi h = ap (drop lo) (take_none hi) ∙ drop_none lo
-range_none (x ∷ xs) lo zero h = drop_none lo
-range_none (x ∷ xs) zero (suc hi) h = absurd (omega arith)
-range_none (x ∷ xs) (suc lo) (suc hi) h = range_none xs lo hi (omega arith)
 
 -- ---- before a place
 
@@ -196,14 +148,8 @@ flat_both (x ∷ xs) ys = ap (λ r. x ++ r) (flat_both xs ys) ∙ sym (append_as
 
 pub count_one_more : (bs : Blocks) (i : ℕ) (b : List Entry) → i < length bs → b ≡ slice_index_or bs i b → visible_count (flat (take (i + 1) bs)) ≡ visible_count (flat (take i bs)) + visible_count b
 count_one_more bs i b w is =
-    ap (λ xs. visible_count (flat xs)) (take_more bs i b w)
-    ∙ ap visible_count (flat_both (take i bs) (slice_index_or bs i b ∷ []))
-    ∙ ap (λ x. visible_count (flat (take i bs) ++ (x ++ []))) (sym is)
-    ∙ count_both (flat (take i bs)) (b ++ [])
-    ∙ ap (λ n. visible_count (flat (take i bs)) + n) (count_both b [] ∙ none (visible_count b))
-  where
-    none : (n : ℕ) → n + 0 ≡ n
-    none n = omega arith
+    let more : flat (take (i + 1) bs) ≡ flat (take i bs) ++ (b ++ []) = ap flat (take_more bs i b w ∙ ap (λ x. take i bs ++ x ∷ []) (sym is)) ∙ flat_both (take i bs) (b ∷ []) in
+    omega (arith, ap visible_count more, count_both (flat (take i bs)) (b ++ []), ap visible_count (append-nil b))
 
 pub count_before : (bs : Blocks) (b i : ℕ) (x : List Entry) → x ≡ slice_index_or bs b x → b < length bs → visible_count (before bs b i) ≡ visible_count (flat (take b bs)) + visible_count (take i x)
 count_before bs b i x is w =
@@ -212,11 +158,6 @@ count_before bs b i x is w =
 
 -- a beginning has no more than all
 pub count_beginning : (bs : Blocks) (i : ℕ) → visible_count (flat (take i bs)) ≤ length (flat bs)
-count_beginning bs zero = omega arith
-count_beginning [] (suc i) = omega arith
-count_beginning (x ∷ xs) (suc i) =
-    let rest : visible_count (flat (take i xs)) ≤ length (flat xs) = count_beginning xs i in
-    let here : visible_count x ≤ length x = count_within x in
-    let both : visible_count (x ++ flat (take i xs)) ≡ visible_count x + visible_count (flat (take i xs)) = count_both x (flat (take i xs)) in
-    let all : length (x ++ flat xs) ≡ length x + length (flat xs) = length-append x (flat xs) in
-    omega arith
+count_beginning bs i =
+    let whole : length (flat (take i bs) ++ flat (drop i bs)) ≡ length (flat bs) = ap length (sym (flat_both (take i bs) (drop i bs)) ∙ ap flat (take-append-drop i bs)) in
+    omega (arith, whole, count_within (flat (take i bs)), length-append (flat (take i bs)) (flat (drop i bs)))

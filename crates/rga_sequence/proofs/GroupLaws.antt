@@ -1,22 +1,20 @@
 -- What is noted of groups of blocks: how it stays where blocks change, and what is counted by it.
-use Rattle.std.proofs.Common.{nat_lt, min, ◌≡◌, ℕ, suc, zero, true, false, ◌+◌, ◌-◌, ◌*◌, ◌≤◌, ◌<◌, List, [], ◌∷◌, ◌++◌, length, take, drop, slice_index_or, refl, sym, ap, ◌∙◌, subst, arith, length-append}
+use Rattle.std.proofs.Common.{nat_lt, min, ◌≡◌, ℕ, suc, zero, true, false, ◌+◌, ◌-◌, ◌*◌, ◌≤◌, ◌<◌, List, [], ◌∷◌, ◌++◌, length, take, drop, slice_index_or, refl, sym, ap, ◌∙◌, subst, arith, length-append, add-one}
 use Rattle.std.specs.Prelude.{insert, remove, slice_get, slice_set, sum}
 use Rattle.rga_ops.specs.Identifier.{Identifier}
-use Rattle.std.proofs.lemmas.List.{length-set, length-take, length-take-le, take-append-drop, take-take, take-set-le, get_or-take, get_or-set_same, get_or-set_other}
+use Rattle.std.proofs.lemmas.List.{get_or_default, get_or_append_left, get_or_push, take_at, length-set, length-take, length-take-le, take-append-drop, take-take, take-set-le, get_or-take, get_or-set_same, get_or-set_other}
 use Rattle.std.proofs.lemmas.List.Sums.{sum_by_more}
 use Rattle.rga_sequence.specs.declared.entry.Entry.{Entry}
 use Rattle.rga_sequence.specs.declared.groups.TheConstants.{GROUP}
 use Rattle.rga_sequence.specs.Entries.{visible_count, visible_ids}
 use Rattle.rga_sequence.specs.Blocks.{Blocks, flat, cut_in, AreNotes, IsCount, AreCounts}
-use Rattle.rga_sequence.proofs.PlaceLaws.{lt_so, le_so, block_at}
+use Rattle.rga_sequence.proofs.PlaceLaws.{lt_so, le_so}
 use Rattle.rga_sequence.proofs.CountLaws.{flat_both, count_both, count_ids, count_one_more, ids_both, slice_back, range_both, range_none}
 
 -- ---- blocks that come or go stand behind a beginning that stays
 
 pub take_insert : (bs : Blocks) (b : ℕ) (y : List Entry) → b ≤ length bs → take b (insert bs b y) ≡ take b bs
-take_insert bs zero y w = refl
-take_insert [] (suc b) y w = absurd (omega arith)
-take_insert (x ∷ bs) (suc b) y w = ap (λ r. x ∷ r) (take_insert bs b y (omega arith))
+take_insert bs b y w = take_at (take b bs) (y ∷ drop b bs) b (length-take-le b bs w)
 
 pub take_remove : (bs : Blocks) (b : ℕ) → take b (remove bs b) ≡ take b bs
 take_remove bs zero = refl
@@ -41,25 +39,16 @@ notes_taken IsNoted n notes bs all k d w =
     let fewer : length (take n notes) ≡ min n (length notes) = length-take n notes in
     subst (λ x. IsNoted x (k * GROUP) (k * GROUP + GROUP) bs) (sym (get_or-take n notes k d (omega (arith, fewer, w)))) (all k d (omega (arith, fewer, w)))
 
-before_push : {A : Type 0} (xs : List A) (x : A) (k : ℕ) (d : A) → k < length xs → slice_index_or (xs ++ x ∷ []) k d ≡ slice_index_or xs k d
-before_push [] x k d w = absurd (omega arith)
-before_push (y ∷ xs) x zero d w = refl
-before_push (y ∷ xs) x (suc k) d w = before_push xs x k d (omega arith)
-
-at_push : {A : Type 0} (xs : List A) (x d : A) → slice_index_or (xs ++ x ∷ []) (length xs) d ≡ x
-at_push [] x d = refl
-at_push (y ∷ xs) x d = at_push xs x d
-
 pub notes_more : {A : Type 0} (IsNoted : A → ℕ → ℕ → Blocks → Type 0) (notes : List A) (x : A) (bs : Blocks) → AreNotes IsNoted notes bs → IsNoted x (length notes * GROUP) (length notes * GROUP + GROUP) bs → AreNotes IsNoted (notes ++ x ∷ []) bs
 notes_more {A} IsNoted notes x bs all one k d w =
     let more : length (notes ++ x ∷ []) ≡ length notes + 1 = length-append notes (x ∷ []) in
     elim (nat_lt k (length notes)) as (λ t. nat_lt k (length notes) ≡ t → IsNoted (slice_index_or (notes ++ x ∷ []) k d) (k * GROUP) (k * GROUP + GROUP) bs) [
       | true ↦ λ t. let v : k < length notes = lt_so k (length notes) t in
-          subst (λ m. IsNoted m (k * GROUP) (k * GROUP + GROUP) bs) (sym (before_push notes x k d v)) (all k d v)
+          subst (λ m. IsNoted m (k * GROUP) (k * GROUP + GROUP) bs) (sym (get_or_append_left notes (x ∷ []) d k v)) (all k d v)
       | false ↦ λ t. let past : length notes ≤ k = le_so k (length notes) t in
           let last : length notes ≡ k = omega (arith, past, more, w) in
           subst (λ n. IsNoted (slice_index_or (notes ++ x ∷ []) n d) (n * GROUP) (n * GROUP + GROUP) bs) last
-          (subst (λ m. IsNoted m (length notes * GROUP) (length notes * GROUP + GROUP) bs) (sym (at_push notes x d)) one)
+          (subst (λ m. IsNoted m (length notes * GROUP) (length notes * GROUP + GROUP) bs) (sym (get_or_push notes x d (length notes) refl)) one)
     ] refl
 
 -- ---- counts
@@ -159,7 +148,7 @@ count_of_block counts bs b g d all v first last =
     omega (arith, count_at counts bs g d all v, count_part bs (g * GROUP) b first, count_one_more bs b (slice_index_or bs b []) within (is_block within), count_part bs (b + 1) (g * GROUP + GROUP) (omega (arith, last)))
   where
     is_block : b < length bs → slice_index_or bs b [] ≡ slice_index_or bs b (slice_index_or bs b [])
-    is_block w = block_at bs b [] (slice_index_or bs b []) w
+    is_block w = get_or_default bs b [] (slice_index_or bs b []) w
 
 -- the first groups have as many as are counted
 pub sum_counts : (counts : List ℕ) (bs : Blocks) (g : ℕ) → AreCounts counts bs → g ≤ length counts → sum (take g counts) ≡ visible_count (flat (take (g * GROUP) bs))
@@ -167,15 +156,12 @@ sum_counts counts bs zero all w = refl
 sum_counts counts bs (suc g) all w =
     let within : g < length counts = omega (arith, w) in
     let sooner : sum (take g counts) ≡ visible_count (flat (take (g * GROUP) bs)) = sum_counts counts bs g all (omega (arith, w)) in
-    ap (λ n. sum (take n counts)) (one_up g)
+    ap (λ n. sum (take n counts)) (sym (add-one g))
     ∙ sum_by_more (λ n. n) counts g 0 within
     ∙ ap (λ n. n + slice_index_or counts g 0) sooner
     ∙ sym (count_at counts bs g 0 all within)
     ∙ ap (λ n. visible_count (flat (take n bs))) (next g)
   where
-    one_up : (n : ℕ) → suc n ≡ n + 1
-    one_up n = omega arith
-
     next : (n : ℕ) → n * GROUP + GROUP ≡ suc n * GROUP
     next n = omega arith
 

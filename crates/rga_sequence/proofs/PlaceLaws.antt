@@ -1,8 +1,8 @@
 -- Places in a list in blocks.
 use Rattle.std.proofs.lemmas.Bool.Decides.{nat_tests}
-use Rattle.std.proofs.Common.{nat_lt, true, false, subst, ◌≡◌, ℕ, ◌+◌, ◌-◌, ◌<◌, ◌≤◌, suc, zero, List, [], ◌∷◌, ◌++◌, length, take, drop, slice_index_or, refl, sym, ap, ◌∙◌, append_assoc, arith}
+use Rattle.std.proofs.Common.{nat_lt, true, false, subst, ◌≡◌, ℕ, ◌+◌, ◌-◌, ◌<◌, ◌≤◌, suc, zero, List, [], ◌∷◌, ◌++◌, length, take, drop, slice_index_or, refl, sym, ap, ◌∙◌, append_assoc, arith, add-one}
 use Rattle.std.specs.Prelude.{insert, slice_set}
-use Rattle.std.proofs.lemmas.List.{append-nil, take-take, drop-drop, drop_all, take_all, length-drop}
+use Rattle.std.proofs.lemmas.List.{append-nil, take-take, drop-drop, drop_all, take_all, length-take, length-drop}
 use Rattle.rga_sequence.specs.declared.entry.Entry.{Entry}
 use Rattle.rga_sequence.specs.Entries.{put_entry_past_larger}
 use Rattle.rga_sequence.specs.Blocks.{Blocks, flat, before, behind, IsPlace, larger_at_front, insert_all, cut_in}
@@ -44,13 +44,7 @@ cut_is (x ∷ xs) (suc b) cut d e w = ap (λ r. x ∷ r) (cut_is xs b cut d e (o
 
 pub early_place : (bs : Blocks) (b i cut : ℕ) → IsPlace bs b i → IsPlace bs b cut → i ≤ cut → IsPlace (cut_in bs b cut) b i
 early_place [] b i cut p q h = absurd p
-early_place (x ∷ xs) zero i cut p q h = within i cut x p q h
-  where
-    within : (i cut : ℕ) (x : List Entry) → i ≤ length x → cut ≤ length x → i ≤ cut → i ≤ length (take cut x)
-    within zero cut x p q h = omega arith
-    within (suc i) zero x p q h = absurd (omega arith)
-    within (suc i) (suc cut) [] p q h = absurd (omega arith)
-    within (suc i) (suc cut) (y ∷ x) p q h = let rest : i ≤ length (take cut x) = within i cut x (omega arith) (omega arith) (omega arith) in omega arith
+early_place (x ∷ xs) zero i cut p q h = omega (arith, length-take cut x, p, h)
 early_place (x ∷ xs) (suc b) i cut p q h = early_place xs b i cut p q h
 
 pub early_before : (bs : Blocks) (b i cut : ℕ) → i ≤ cut → before (cut_in bs b cut) b i ≡ before bs b i
@@ -137,20 +131,12 @@ front_place [] b w = absurd (omega arith)
 front_place (x ∷ xs) zero w = omega arith
 front_place (x ∷ xs) (suc b) w = front_place xs b (omega arith)
 
-pub block_at : (bs : Blocks) (b : ℕ) (d e : List Entry) → b < length bs → slice_index_or bs b d ≡ slice_index_or bs b e
-block_at [] b d e w = absurd (omega arith)
-block_at (x ∷ xs) zero d e w = refl
-block_at (x ∷ xs) (suc b) d e w = block_at xs b d e (omega arith)
-
 pub cut_flat : (bs : Blocks) (b cut : ℕ) → flat (cut_in bs b cut) ≡ flat bs
 cut_flat [] b cut = refl
 cut_flat (x ∷ xs) zero cut = sym (append_assoc (take cut x) (drop cut x) (flat xs)) ∙ ap (λ y. y ++ flat xs) (drop_early zero cut x (omega arith))
 cut_flat (x ∷ xs) (suc b) cut = ap (λ r. x ++ r) (cut_flat xs b cut)
 
 -- ---- with numbers as code has them
-
-one_up : (b : ℕ) → suc b ≡ b + 1
-one_up b = omega arith
 
 pub lt_so : (a b : ℕ) → nat_lt a b ≡ true → a < b
 lt_so a b h = grind (arith, nat_tests)
@@ -162,10 +148,10 @@ full : (bs : Blocks) (b i : ℕ) (d : List Entry) → IsPlace bs b i → length 
 full bs b i d p h = let most : i ≤ length (slice_index_or bs b d) = index_within bs b i d p in omega arith
 
 pub on_before : (bs : Blocks) (b i : ℕ) (d : List Entry) → IsPlace bs b i → length (slice_index_or bs b d) ≤ i → b + 1 < length bs → before bs b i ≡ before bs (b + 1) 0
-on_before bs b i d p h w = ap (λ n. before bs b n) (full bs b i d p h) ∙ next_before bs b d (omega arith) ∙ ap (λ n. before bs n 0) (one_up b)
+on_before bs b i d p h w = ap (λ n. before bs b n) (full bs b i d p h) ∙ next_before bs b d (omega arith) ∙ ap (λ n. before bs n 0) (sym (add-one b))
 
 pub on_behind : (bs : Blocks) (b i : ℕ) (d : List Entry) → IsPlace bs b i → length (slice_index_or bs b d) ≤ i → b + 1 < length bs → behind bs b i ≡ behind bs (b + 1) 0
-on_behind bs b i d p h w = ap (λ n. behind bs b n) (full bs b i d p h) ∙ next_behind bs b d (omega arith) ∙ ap (λ n. behind bs n 0) (one_up b)
+on_behind bs b i d p h w = ap (λ n. behind bs b n) (full bs b i d p h) ∙ next_behind bs b d (omega arith) ∙ ap (λ n. behind bs n 0) (sym (add-one b))
 
 pub at_end : (bs : Blocks) (b i : ℕ) (d : List Entry) (entry : Entry) → IsPlace bs b i → length (slice_index_or bs b d) ≤ i → b < length bs → length bs ≤ b + 1 → put_entry_past_larger entry (behind bs b i) ≡ entry ∷ behind bs b i
 at_end bs b i d entry p h w e =
@@ -182,13 +168,13 @@ back_behind bs b c i j d next front end w =
     ap (λ n. behind bs b n) end ∙ next_behind bs b d (omega (arith, next, w)) ∙ ap (λ n. behind bs n 0) next ∙ ap (λ n. behind bs c n) (sym front)
 
 pub moved_place : (bs : Blocks) (b i cut : ℕ) → IsPlace bs b i → cut ≤ i → IsPlace (cut_in bs b cut) (b + 1) (i - cut)
-moved_place bs b i cut p h = subst (λ n. IsPlace (cut_in bs b cut) n (i - cut)) (one_up b) (late_place bs b i cut p h)
+moved_place bs b i cut p h = subst (λ n. IsPlace (cut_in bs b cut) n (i - cut)) (sym (add-one b)) (late_place bs b i cut p h)
 
 pub moved_before : (bs : Blocks) (b i cut : ℕ) → cut ≤ i → IsPlace bs b i → before (cut_in bs b cut) (b + 1) (i - cut) ≡ before bs b i
-moved_before bs b i cut h p = ap (λ n. before (cut_in bs b cut) n (i - cut)) (sym (one_up b)) ∙ late_before bs b i cut h p
+moved_before bs b i cut h p = ap (λ n. before (cut_in bs b cut) n (i - cut)) (add-one b) ∙ late_before bs b i cut h p
 
 pub moved_behind : (bs : Blocks) (b i cut : ℕ) → cut ≤ i → IsPlace bs b i → behind (cut_in bs b cut) (b + 1) (i - cut) ≡ behind bs b i
-moved_behind bs b i cut h p = ap (λ n. behind (cut_in bs b cut) n (i - cut)) (sym (one_up b)) ∙ late_behind bs b i cut h p
+moved_behind bs b i cut h p = ap (λ n. behind (cut_in bs b cut) n (i - cut)) (add-one b) ∙ late_behind bs b i cut h p
 
 pub halved : (bs : Blocks) (b cut : ℕ) (d e : List Entry) → b < length bs → slice_set (insert bs (b + 1) (drop cut (slice_index_or bs b d))) b (take cut (slice_index_or (insert bs (b + 1) (drop cut (slice_index_or bs b d))) b e)) ≡ cut_in bs b cut
-halved bs b cut d e w = ap (λ n. slice_set (insert bs n (drop cut (slice_index_or bs b d))) b (take cut (slice_index_or (insert bs n (drop cut (slice_index_or bs b d))) b e))) (sym (one_up b)) ∙ cut_is bs b cut d e w
+halved bs b cut d e w = ap (λ n. slice_set (insert bs n (drop cut (slice_index_or bs b d))) b (take cut (slice_index_or (insert bs n (drop cut (slice_index_or bs b d))) b e))) (add-one b) ∙ cut_is bs b cut d e w

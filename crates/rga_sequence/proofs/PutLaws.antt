@@ -1,5 +1,7 @@
 -- Blocks into which an entry comes or from which one goes: what stands in them, apart and in no empty block.
-use Rattle.std.proofs.Common.{◌≡◌, ℕ, ◌+◌, ◌-◌, ◌<◌, ◌≤◌, suc, zero, Bool, true, false, cond, not, ◌||◌, List, [], ◌∷◌, ◌++◌, length, take, drop, slice_index_or, refl, sym, ap, ◌∙◌, subst, arith, true≢false, append_assoc, length-drop}
+use Rattle.std.proofs.Common.{◌≡◌, ℕ, ◌+◌, ◌-◌, ◌<◌, ◌≤◌, suc, zero, Bool, true, false, cond, not, ◌||◌, List, [], ◌∷◌, ◌++◌, length, take, drop, slice_index_or, refl, sym, ap, ◌∙◌, subst, arith, true≢false, append_assoc, length-drop, add-one}
+use Rattle.std.proofs.lemmas.List.{length-take, take_all, drop_all, nil_from_length}
+use Rattle.std.proofs.lemmas.List.Edits.{length-remove}
 use Rattle.std.specs.Prelude.{insert, remove, slice_set}
 use Rattle.std.specs.List.{AllByRecursion, IsDistinct}
 use Rattle.rga_ops.specs.Identifier.{Identifier, is_id}
@@ -86,32 +88,16 @@ filled_remove (x ∷ xs) (suc b) f = (f.0, filled_remove xs b f.1)
 
 pub filled_cut : (bs : Blocks) (b cut : ℕ) (d : List Entry) → AreFilled bs → 0 < cut → cut < length (slice_index_or bs b d) → AreFilled (cut_in bs b cut)
 filled_cut [] b cut d f h w = tt
-filled_cut (x ∷ xs) zero cut d f h w = (front cut x h w, (back cut x w, f.1))
-  where
-    front : (n : ℕ) (y : List Entry) → 0 < n → n < length y → 0 < length (take n y)
-    front zero y h w = absurd (omega arith)
-    front (suc n) [] h w = absurd (omega arith)
-    front (suc n) (z ∷ y) h w = omega arith
-
-    back : (n : ℕ) (y : List Entry) → n < length y → 0 < length (drop n y)
-    back zero y w = w
-    back (suc n) [] w = absurd (omega arith)
-    back (suc n) (z ∷ y) w = back n y (omega arith)
+filled_cut (x ∷ xs) zero cut d f h w =
+    let within : cut < length x = w in
+    (omega (arith, length-take cut x, h, within), (omega (arith, length-drop cut x, within), f.1))
 filled_cut (x ∷ xs) (suc b) cut d f h w = (f.0, filled_cut xs b cut d f.1 h w)
 
 -- ---- what stands in blocks that change
 
 own_there : (bs : Blocks) (b : ℕ) (es d : List Entry) → b < length bs → flat (insert bs (suc b) es) ≡ before bs b (length (slice_index_or bs b d)) ++ (es ++ behind bs b (length (slice_index_or bs b d)))
 own_there [] b es d w = absurd (omega arith)
-own_there (x ∷ xs) zero es d w = (λ k. all x k ++ (es ++ (none x k ++ flat xs)))
-  where
-    all : (y : List Entry) → y ≡ take (length y) y
-    all [] = refl
-    all (z ∷ y) = ap (λ r. z ∷ r) (all y)
-
-    none : (y : List Entry) → [] ≡ drop (length y) y
-    none [] = refl
-    none (z ∷ y) = none y
+own_there (x ∷ xs) zero es d w = (λ k. sym (take_all (length x) x (omega arith)) k ++ (es ++ (sym (drop_all (length x) x (omega arith)) k ++ flat xs)))
 own_there (x ∷ xs) (suc b) es d w =
     ap (λ r. x ++ r) (own_there xs b es d (omega arith))
     ∙ sym (append_assoc x (before xs b (length (slice_index_or xs b d))) (es ++ behind xs b (length (slice_index_or xs b d))))
@@ -124,22 +110,16 @@ removed_there (x ∷ xs) (suc b) i d w = ap (λ r. x ++ r) (removed_there xs b i
 -- a block of one entry goes with it
 pub block_gone : (bs : Blocks) (b i : ℕ) (d : List Entry) → b < length bs → length (slice_index_or bs b d) ≡ 1 → i < 1 → flat (remove bs b) ≡ before bs b i ++ behind bs b (suc i)
 block_gone [] b i d w one h = absurd (omega arith)
-block_gone (x ∷ xs) zero i d w one h = go x i one h
-  where
-    go : (y : List Entry) (i : ℕ) → length y ≡ 1 → i < 1 → flat xs ≡ take i y ++ (drop (suc i) y ++ flat xs)
-    go [] i one h = absurd (omega arith)
-    go (z ∷ []) zero one h = refl
-    go (z ∷ []) (suc i) one h = absurd (omega arith)
-    go (z ∷ u ∷ y) i one h = absurd (omega arith)
+block_gone (x ∷ xs) zero i d w one h =
+    let single : length x ≡ 1 = one in
+    let there : i < length x = omega (arith, single, h) in
+    ap (λ y. y ++ flat xs) (sym (nil_from_length (remove x i) (omega (arith, length-remove x i there, single)))) ∙ append_assoc (take i x) (drop (suc i) x) (flat xs)
 block_gone (x ∷ xs) (suc b) i d w one h = ap (λ r. x ++ r) (block_gone xs b i d (omega arith) one h) ∙ sym (append_assoc x (before xs b i) (behind xs b (suc i)))
 
 -- ---- with numbers as code has them
 
-one_up : (n : ℕ) → suc n ≡ n + 1
-one_up n = omega arith
-
 pub own_at : (bs : Blocks) (b : ℕ) (es d : List Entry) → b < length bs → flat (insert bs (b + 1) es) ≡ before bs b (length (slice_index_or bs b d)) ++ (es ++ behind bs b (length (slice_index_or bs b d)))
-own_at bs b es d w = ap (λ n. flat (insert bs n es)) (sym (one_up b)) ∙ own_there bs b es d w
+own_at bs b es d w = ap (λ n. flat (insert bs n es)) (add-one b) ∙ own_there bs b es d w
 
 pub own_front : (bs : Blocks) (b : ℕ) (es : List Entry) → b < length bs → flat (insert bs b es) ≡ before bs b 0 ++ (es ++ behind bs b 0)
 own_front [] b es w = absurd (omega arith)
@@ -148,14 +128,9 @@ own_front (x ∷ xs) (suc b) es w = ap (λ r. x ++ r) (own_front xs b es (omega 
 
 -- ---- both blocks of a cut one have room
 
-length_take : (n : ℕ) (xs : List Entry) → length (take n xs) ≤ n
-length_take zero xs = omega arith
-length_take (suc n) [] = omega arith
-length_take (suc n) (x ∷ xs) = let rest : length (take n xs) ≤ n = length_take n xs in omega arith
-
 pub room_first : (bs : Blocks) (b cut : ℕ) → length (slice_index_or (cut_in bs b cut) b []) ≤ cut
 room_first [] b cut = omega arith
-room_first (x ∷ xs) zero cut = length_take cut x
+room_first (x ∷ xs) zero cut = omega (arith, length-take cut x)
 room_first (x ∷ xs) (suc b) cut = room_first xs b cut
 
 room_next : (bs : Blocks) (b cut : ℕ) → length (slice_index_or (cut_in bs b cut) (suc b) []) ≤ length (slice_index_or bs b []) - cut
@@ -164,7 +139,7 @@ room_next (x ∷ xs) zero cut = omega (arith, length-drop cut x)
 room_next (x ∷ xs) (suc b) cut = room_next xs b cut
 
 pub room_second : (bs : Blocks) (b cut : ℕ) → length (slice_index_or (cut_in bs b cut) (b + 1) []) ≤ length (slice_index_or bs b []) - cut
-room_second bs b cut = subst (λ n. length (slice_index_or (cut_in bs b cut) n []) ≤ length (slice_index_or bs b []) - cut) (one_up b) (room_next bs b cut)
+room_second bs b cut = subst (λ n. length (slice_index_or (cut_in bs b cut) n []) ≤ length (slice_index_or bs b []) - cut) (sym (add-one b)) (room_next bs b cut)
 
 -- ---- a block is a part of all
 

@@ -1,8 +1,9 @@
 -- What stands where an identifier does: one entry, with no other of that identifier before or behind it.
-use Rattle.std.proofs.Common.{◌≡◌, ℕ, ◌+◌, ◌<◌, suc, zero, Bool, true, false, cond, not, ◌||◌, List, [], ◌∷◌, ◌++◌, length, take, drop, slice_index_or, refl, sym, ap, ◌∙◌, subst, arith, true≢false, append_assoc}
+use Rattle.std.proofs.Common.{◌≡◌, ℕ, ◌+◌, ◌<◌, ◌≤◌, suc, zero, Bool, true, false, cond, not, ◌||◌, List, [], ◌∷◌, ◌++◌, length, take, drop, slice_index_or, refl, sym, ap, ◌∙◌, subst, arith, true≢false, append_assoc, add-one}
 use Rattle.std.specs.Prelude.{Some, None, slice_set}
 use Rattle.std.specs.List.{slice_get, AllByRecursion, IsDistinct}
-use Rattle.std.proofs.lemmas.Option.{same_Some, none-some}
+use Rattle.std.proofs.lemmas.Option.{same_Some, none-some, slice_get_within}
+use Rattle.std.proofs.lemmas.List.{length-map}
 use Rattle.std.proofs.lemmas.List.Folds.{list_any-append}
 use Rattle.rga_ops.specs.Identifier.{Identifier, is_id, is_root}
 use Rattle.rga_ops.proofs.IdentifierLaws.{is_swap, is_id-same, is_id-itself}
@@ -10,9 +11,6 @@ use Rattle.rga_sequence.specs.declared.entry.Entry.{Entry}
 use Rattle.rga_sequence.specs.Entries.{ids, has, entry_of, entries_up_to, change_after_entry, change_behind_entry, without_entry, as_marked, mark_entry, AreApart}
 use Rattle.rga_sequence.specs.Blocks.{Blocks, flat, before, behind, mark_at_index, IsPlace, Stands}
 use Rattle.rga_sequence.proofs.PlaceLaws.{parted}
-
-one_up : (n : ℕ) → suc n ≡ n + 1
-one_up n = omega arith
 
 pub id_swap : (a b : Identifier) → is_id a b ≡ false → is_id b a ≡ false
 id_swap a b h = is_id-same b a ∙ is_swap a b ∙ sym (is_id-same a b) ∙ h
@@ -149,27 +147,24 @@ at (x ∷ xs) (suc b) i id h =
     record { entry = f.entry; named = f.named; rest = f.rest; front = ap (λ r. x ++ r) f.front ∙ sym (append_assoc x (before xs b i) (f.entry ∷ [])); got = f.got; marked = λ mark d. ap (λ r. x ++ r) (f.marked mark d) ∙ sym (append_assoc x (before xs b i) (as_marked mark f.entry ∷ behind xs b (suc i))) }
 
 within : (xs : List Entry) (i : ℕ) (id : Identifier) → slice_get (ids xs) i ≡ Some id → i < length xs
-within [] i id h = absurd (none-some id h)
-within (x ∷ xs) zero id h = omega arith
-within (x ∷ xs) (suc i) id h = let l : i < length xs = within xs i id h in omega arith
+within xs i id h = omega (arith, slice_get_within (ids xs) i id h, length-map xs (λ (e : Entry). e.id))
 
 pub index_there : (bs : Blocks) (b i : ℕ) (id : Identifier) (d : List Entry) → Stands bs b i id → i < length (slice_index_or bs b d)
 index_there [] b i id d h = absurd h
 index_there (x ∷ xs) zero i id d h = within x i id h
 index_there (x ∷ xs) (suc b) i id d h = index_there xs b i id d h
 
-pub place_there : (bs : Blocks) (b i : ℕ) (id : Identifier) → Stands bs b i id → IsPlace bs b i
-place_there [] b i id h = absurd h
-place_there (x ∷ xs) zero i id h = let l : i < length x = within x i id h in omega arith
-place_there (x ∷ xs) (suc b) i id h = place_there xs b i id h
+-- there, and directly behind, are places
+places : (bs : Blocks) (b i j : ℕ) (id : Identifier) → Stands bs b i id → j ≤ suc i → IsPlace bs b j
+places [] b i j id h w = absurd h
+places (x ∷ xs) zero i j id h w = let l : i < length x = within x i id h in omega arith
+places (x ∷ xs) (suc b) i j id h w = places xs b i j id h w
 
-behind_place : (bs : Blocks) (b i : ℕ) (id : Identifier) → Stands bs b i id → IsPlace bs b (suc i)
-behind_place [] b i id h = absurd h
-behind_place (x ∷ xs) zero i id h = let l : i < length x = within x i id h in omega arith
-behind_place (x ∷ xs) (suc b) i id h = behind_place xs b i id h
+pub place_there : (bs : Blocks) (b i : ℕ) (id : Identifier) → Stands bs b i id → IsPlace bs b i
+place_there bs b i id h = places bs b i i id h (omega arith)
 
 pub place_behind : (bs : Blocks) (b i : ℕ) (id : Identifier) → Stands bs b i id → IsPlace bs b (i + 1)
-place_behind bs b i id h = subst (λ n. IsPlace bs b n) (one_up i) (behind_place bs b i id h)
+place_behind bs b i id h = places bs b i (i + 1) id h (omega arith)
 
 pub stands_in : (bs : Blocks) (b i : ℕ) (id : Identifier) (d : List Entry) → b < length bs → slice_get (ids (slice_index_or bs b d)) i ≡ Some id → Stands bs b i id
 stands_in [] b i id d w e = absurd (omega arith)
@@ -213,7 +208,7 @@ change_there id f bs b i other apart h =
     ∙ change_between id f (before bs b i) s.entry (behind bs b (suc i)) s.named s.none_before
     ∙ sym (append_assoc (before bs b i) (s.entry ∷ []) (f (behind bs b (suc i))))
     ∙ ap (λ r. r ++ f (behind bs b (suc i))) (sym s.front)
-    ∙ ap (λ n. before bs b n ++ f (behind bs b n)) (one_up i)
+    ∙ ap (λ n. before bs b n ++ f (behind bs b n)) (sym (add-one i))
 
 pub change_at_front : (id : Identifier) (f : List Entry → List Entry) (bs : Blocks) → is_root id ≡ true → 0 < length bs → change_behind_entry id f (flat bs) ≡ before bs 0 0 ++ f (behind bs 0 0)
 change_at_front id f [] root w = absurd (omega arith)
@@ -247,7 +242,7 @@ up_to_there id bs b i apart h =
     ap (entries_up_to id) s.whole
     ∙ up_to_between id (before bs b i) s.entry (behind bs b (suc i)) s.named s.none_before
     ∙ sym s.front
-    ∙ ap (before bs b) (one_up i)
+    ∙ ap (before bs b) (sym (add-one i))
 
 -- ---- what is not found
 
@@ -263,4 +258,4 @@ none_in_blocks id (x ∷ xs) (suc b) d w none other =
     ] here)
 
 pub none_one_more : (id : Identifier) (bs : Blocks) (b : ℕ) (d : List Entry) → b < length bs → has id (flat (take b bs)) ≡ false → has id (slice_index_or bs b d) ≡ false → has id (flat (take (b + 1) bs)) ≡ false
-none_one_more id bs b d w none other = ap (λ n. has id (flat (take n bs))) (sym (one_up b)) ∙ none_in_blocks id bs b d w none other
+none_one_more id bs b d w none other = ap (λ n. has id (flat (take n bs))) (add-one b) ∙ none_in_blocks id bs b d w none other

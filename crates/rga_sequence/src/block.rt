@@ -189,12 +189,14 @@ impl Block {
         lo: usize,
         hi: usize,
     ) -> Result<(), Refusal>
-        requires some { lo < hi }
-        requires within { lo < visible_count self.now }
+        requires { lo < hi }
         ensures ok { OnOk result (list.new.items
             ≡ list.old.items ++ drop lo (take hi (visible_ids self.now))) }
         ensures memory { IfErr result (λ e. e ≡ Refusal.Memory) }
     {
+        if lo >= self.visible {
+            return Ok(());
+        }
         let entries = self.entries.as_slice();
         if self.visible >= entries.len() {
             return push_id_range(list, entries, lo, hi);

@@ -1,7 +1,7 @@
 //! What blocks have: how many entries, which are visible, and their text.
 ghost use Rattle.std.specs.Prelude.{◌≡◌, ◌<◌, ◌+◌, ◌^◌, ◌++◌, length, slice_get, vec_len, take, drop, IfOk, IfErr, OnOk};
 ghost use Rattle.rga_sequence.specs.Entries.{ids, entries_up_to, visible_count, visible_ids, visible_text};
-ghost use Rattle.rga_sequence.specs.Blocks.{flat, before, IsPlace, Stands, IsSequence, AreCounts};
+ghost use Rattle.rga_sequence.specs.Blocks.{flat, Stands, IsSequence, AreCounts};
 
 use crate::block::{Block, MOST};
 use crate::counts::{InGroup, count_before, group_with};
@@ -23,18 +23,6 @@ pub(crate) fn len(blocks: &Vec<Block>) -> usize
     count
 }
 
-/// How many entries before a place are visible.
-pub(crate) fn visible_before(blocks: &Vec<Block>, counts: &Vec<usize>, at: Place) -> usize
-    requires fits { length (flat blocks.now.items) < 2 ^ 64 }
-    requires block { at.block < vec_len blocks.now }
-    requires place { IsPlace blocks.now.items at.block at.index }
-    requires counts { AreCounts counts.now.items blocks.now.items }
-    ensures { result ≡ visible_count (before blocks.now.items at.block at.index) }
-{
-    let count = count_before(blocks, counts, at.block);
-    count + blocks[at.block].visible_before(at.index)
-}
-
 /// How many visible entries are that at a place or stand before it.
 pub(crate) fn place_at(blocks: &Vec<Block>, counts: &Vec<usize>, at: Place, id: Id) -> usize
     requires fits { length (flat blocks.now.items) < 2 ^ 64 }
@@ -45,14 +33,8 @@ pub(crate) fn place_at(blocks: &Vec<Block>, counts: &Vec<usize>, at: Place, id: 
     requires counts { AreCounts counts.now.items blocks.now.items }
     ensures { result ≡ visible_count (entries_up_to id (flat blocks.now.items)) }
 {
-    visible_before(
-        blocks,
-        counts,
-        Place {
-            block: at.block,
-            index: at.index + 1,
-        },
-    )
+    let count = count_before(blocks, counts, at.block);
+    count + blocks[at.block].visible_before(at.index + 1)
 }
 
 /// The k-th visible entry of some blocks.
@@ -79,19 +61,6 @@ pub(crate) fn element_at(blocks: &Vec<Block>, counts: &Vec<usize>, k: usize) -> 
     element_in(&blocks.as_slice()[group * GROUP..], rest)
 }
 
-/// A block's visible entries from the lo-th to the one before the hi-th go behind a list.
-fn push_part(list: &mut Vec<Id>, block: &Block, lo: usize, hi: usize) -> Result<(), Refusal>
-    requires { lo < hi }
-    ensures ok { OnOk result (list.new.items
-        ≡ list.old.items ++ drop lo (take hi (visible_ids block.now))) }
-    ensures memory { IfErr result (λ e. e ≡ Refusal.Memory) }
-{
-    if lo >= block.visible_len() {
-        return Ok(());
-    }
-    block.push_visible(list, lo, hi)
-}
-
 /// The visible entries of some blocks from the lo-th to the one before the hi-th go behind a list.
 fn push_elements(list: &mut Vec<Id>, blocks: &[Block], lo: usize, hi: usize) -> Result<(), Refusal>
     ensures ok { OnOk result (list.new.items
@@ -104,7 +73,7 @@ fn push_elements(list: &mut Vec<Id>, blocks: &[Block], lo: usize, hi: usize) -> 
         if end <= skip {
             return Ok(());
         }
-        push_part(list, block, skip, end)?;
+        block.push_visible(list, skip, end)?;
         skip = skip.saturating_sub(block.visible_len());
         end = end.saturating_sub(block.visible_len());
     }

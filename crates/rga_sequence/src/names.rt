@@ -34,32 +34,6 @@ pub(crate) fn near_at(blocks: &Vec<Block>, at: Place) -> Near {
     }
 }
 
-/// A further name. Where there is no room its block is looked for among all.
-pub(crate) fn add_name(names: &mut Vec<usize>) {
-    let _room = names.push(0);
-}
-
-/// The names of the two parts of a block.
-#[derive(Clone, Copy)]
-pub(crate) struct PartNames {
-    pub(crate) first: usize,
-    pub(crate) second: usize,
-}
-
-/// The part that has fewer entries gets the name that is new.
-pub(crate) fn names_of_parts(old: usize, new: usize, is_first_fewer: bool) -> PartNames {
-    if is_first_fewer {
-        return PartNames {
-            first: new,
-            second: old,
-        };
-    }
-    PartNames {
-        first: old,
-        second: new,
-    }
-}
-
 /// The blocks from an index on stand where they stand now.
 pub(crate) fn renumber(names: &mut Vec<usize>, blocks: &Vec<Block>, from: usize)
     ensures { vec_len names.new ≡ vec_len names.old }

@@ -10,7 +10,7 @@ use crate::counts::recount;
 use crate::entry::Entry;
 use crate::finding::Hints;
 use crate::groups::Groups;
-use crate::names::{name_at, names_of_parts};
+use crate::names::name_at;
 use crate::place::Place;
 use crate::scans::least_of;
 use crate::skipping::{behind_parent, skip};
@@ -242,10 +242,15 @@ fn cut_block(
     ensures memory { IfErr result (λ e. e ≡ Refusal.Memory) }
 {
     let second = blocks[block].len() - cut;
-    let names = names_of_parts(name_at(blocks, block), name, cut < second);
-    let tail = blocks[block].tail(alloc, cut, names.second)?;
+    let old = name_at(blocks, block);
+    let (first_name, second_name) = if cut < second {
+        (name, old)
+    } else {
+        (old, name)
+    };
+    let tail = blocks[block].tail(alloc, cut, second_name)?;
     put_block(blocks, block + 1, tail)?;
-    blocks[block].cut(cut, names.first);
+    blocks[block].cut(cut, first_name);
     groups.forget_from(block);
     Ok(())
 }

@@ -9,7 +9,7 @@ use crate::entry::Entry;
 use crate::finding::{entries_of, entry_at, find};
 use crate::groups::Groups;
 use crate::listing;
-use crate::names::{add_name, hints_of, near_at, renumber};
+use crate::names::{hints_of, near_at, renumber};
 use crate::near::Near;
 use crate::place::Place;
 use crate::putting::{MOST_AT_ONCE, put_behind};
@@ -115,7 +115,8 @@ impl Sequence {
                 new_block: None,
             });
         }
-        add_name(&mut self.names);
+        // Where there is no room for the name, its block is looked for among all.
+        let _room = self.names.push(0);
         // Where a block was cut, it may be the one before that has the new name.
         renumber(&mut self.names, &self.blocks, at.block.saturating_sub(1));
         note_counts(&self.blocks, &mut self.groups.counts);

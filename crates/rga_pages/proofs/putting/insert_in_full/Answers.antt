@@ -1,23 +1,22 @@
-use Rattle.std.proofs.Common.{◌≡◌, ◌≤◌, ◌<◌, [], List, length, slice_index_or, ap, ◌∙◌, subst, arith}
+use Rattle.std.proofs.Common.{◌≡◌, ◌≤◌, ◌<◌, [], List, length, slice_index_or, refl, ap, ◌∙◌, subst, arith}
+use Rattle.std.proofs.lemmas.List.{get_or_default}
 use Rattle.std.specs.BTreeMap.{insert_entry}
 use Rattle.rga_ops.specs.Identifier.{id_cmp}
 use Rattle.rga_pages.specs.Pages.{Entries, entries_in}
 use Rattle.rga_ops.proofs.CaseSteps.{on_err_always}
-use Rattle.rga_pages.proofs.PlaceLaws.{page_at, index_within}
+use Rattle.rga_pages.proofs.PlaceLaws.{index_within}
 use Rattle.rga_pages.proofs.SpotLaws.{own_spot, record_none, inserted_pages}
 use Rattle.rga_pages.proofs.putting.insert_in_full.Goals as goal
 
 pub put_own-requires-clause-end : goal.put_own-requires-clause-end
 put_own-requires-clause-end c =
     let ps : List Entries = c.args.pages.now.items in
-    let same : length c.entries.result.now ≡ length (slice_index_or ps c.args.at.page []) = ap length (c.entries.ensures ∙ c.index.ensures ∙ page_at ps c.args.at.page c.index.result.now [] (subst (λ n. c.args.at.page < n) c.args.pages.now.ok.0 c.requires.page)) in
+    let same : length c.entries.result.now ≡ length (slice_index_or ps c.args.at.page []) = ap length (c.entries.ensures ∙ c.index.ensures ∙ get_or_default ps c.args.at.page c.index.result.now [] (subst (λ n. c.args.at.page < n) c.args.pages.now.ok.0 c.requires.page)) in
     let most : c.args.at.index ≤ length (slice_index_or ps c.args.at.page []) = index_within ps c.args.at.page c.args.at.index [] c.requires.spot.place in
     omega (arith, same, most, c.if-at-entries.true)
 
 pub returns-in_err-put_own-clause-absent : goal.returns-in_err-put_own-clause-absent
-returns-in_err-put_own-clause-absent c =
-    on_err_always c.from_residual.result
-    (record_none c.args.pages.now.items c.args.at.page c.args.at.index c.args.id [] (subst (λ n. c.args.at.page < n) c.args.pages.now.ok.0 c.requires.page) c.requires.spot c.requires.kept.ordered)
+returns-in_err-put_own-clause-absent c = on_err_always c.from_residual.result (record_none c.requires.spot refl c.requires.kept.ordered)
 
 own_is : (c : goal.After-struct_known-then-at-entries-1) → entries_in c.put_own.new.pages.items ≡ insert_entry id_cmp (entries_in c.args.pages.now.items) c.args.id c.args.value
 own_is c =
@@ -32,6 +31,4 @@ returns-then-at-entries-clause-kept c =
     inserted_pages c.args.pages.now.items c.put_own.new.pages.items c.args.id c.args.value c.requires.kept (own_is c) c.put_own.ensures.filled
 
 pub returns-in_err-cut_page-clause-absent : goal.returns-in_err-cut_page-clause-absent
-returns-in_err-cut_page-clause-absent c =
-    on_err_always c.from_residual-in_err-cut_page.result
-    (record_none c.args.pages.now.items c.args.at.page c.args.at.index c.args.id [] (subst (λ n. c.args.at.page < n) c.args.pages.now.ok.0 c.requires.page) c.requires.spot c.requires.kept.ordered)
+returns-in_err-cut_page-clause-absent c = on_err_always c.from_residual-in_err-cut_page.result (record_none c.requires.spot refl c.requires.kept.ordered)

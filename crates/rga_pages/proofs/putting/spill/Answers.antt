@@ -1,8 +1,7 @@
-use Rattle.std.proofs.Common.{◌≡◌, ◌≤◌, ◌<◌, ◌+◌, ◌++◌, [], ℕ, suc, List, length, take, drop, slice_index_or, slice_set, sym, ap, ◌∙◌, subst, arith}
-use Rattle.std.proofs.lemmas.List.{length-append}
-use Rattle.rga_pages.specs.declared.page.TheConstants.{MOST}
+use Rattle.std.proofs.Common.{◌≡◌, ◌<◌, ◌+◌, ◌++◌, [], ℕ, suc, List, length, take, drop, slice_index_or, slice_set, sym, ap, ◌∙◌, subst, arith}
+use Rattle.std.proofs.lemmas.List.{get_or_default, length-append, length-set, length-take, length-drop}
 use Rattle.rga_pages.specs.Pages.{Entries, entries_in, AreFilledPages}
-use Rattle.rga_pages.proofs.PlaceLaws.{one_up, page_at, spilled, length_set, filled_set, filled_at, take_some, drop_some}
+use Rattle.rga_pages.proofs.PlaceLaws.{one_up, spilled, filled_set, filled_at}
 use Rattle.rga_pages.proofs.putting.spill.Goals as goal
 
 -- the page behind has what stood from the index on in front
@@ -28,10 +27,9 @@ returns-clause-filled c =
     let p : ℕ = c.args.page in
     let qs : List Entries = slice_set ps (p + 1) c.extend.new.self in
     let w : p < length ps = subst (λ n. p < n) c.args.pages.now.ok.0 (omega (arith, c.requires.page)) in
-    let full : MOST ≤ length (slice_index_or ps p c.index.result.now) = subst (λ y. MOST ≤ length y) (page_at ps p [] c.index.result.now w) c.requires.full in
-    let some : 0 < length (drop c.args.cut (slice_index_or ps p c.index.result.now)) = drop_some c.args.cut (slice_index_or ps p c.index.result.now) (omega (arith, full, c.requires.second)) in
+    let within : c.args.cut < length (slice_index_or ps p c.index.result.now) = subst (λ y. c.args.cut < length y) (get_or_default ps p [] c.index.result.now w) c.requires.second in
     let long : length c.extend.new.self ≡ length (drop c.args.cut (slice_index_or ps p c.index.result.now)) + length (slice_index_or ps (p + 1) c.index-2.result.now) = ap length (behind c) ∙ length-append (drop c.args.cut (slice_index_or ps p c.index.result.now)) (slice_index_or ps (p + 1) c.index-2.result.now) in
-    let both : AreFilledPages qs = filled_set ps (p + 1) c.extend.new.self c.requires.filled (omega (arith, some, long)) in
-    let there : p < length qs = subst (λ n. p < n) (sym (length_set ps (p + 1) c.extend.new.self)) w in
-    filled_set qs p c.cut.new.self both
-    (subst (λ y. 0 < length y) (sym c.cut.ensures) (take_some c.args.cut c.index_mut-2.result.now c.requires.first (subst (λ y. 0 < length y) (sym c.index_mut-2.ensures.value) (filled_at qs p c.index_mut-2.result.now both there))))
+    let both : AreFilledPages qs = filled_set ps (p + 1) c.extend.new.self c.requires.filled (omega (arith, within, long, length-drop c.args.cut (slice_index_or ps p c.index.result.now))) in
+    let there : p < length qs = subst (λ n. p < n) (sym (length-set ps (p + 1) c.extend.new.self)) w in
+    let some : 0 < length c.index_mut-2.result.now = subst (λ y. 0 < length y) (sym c.index_mut-2.ensures.value) (filled_at qs p c.index_mut-2.result.now both there) in
+    filled_set qs p c.cut.new.self both (subst (λ y. 0 < length y) (sym c.cut.ensures) (omega (arith, length-take c.args.cut c.index_mut-2.result.now, some, c.requires.first)))

@@ -1,10 +1,11 @@
-use Rattle.std.proofs.Common.{◌≡◌, ℕ, ◌≤◌, ◌<◌, [], List, length, slice_set, sym, ap, ◌∙◌, subst}
+use Rattle.std.proofs.Common.{◌≡◌, ℕ, ◌≤◌, ◌<◌, List, length, slice_set, sym, ap, ◌∙◌, subst}
 use Rattle.std.specs.Prelude.{insert}
+use Rattle.std.proofs.lemmas.List.{set-get_or}
 use Rattle.std.specs.BTreeMap.{insert_entry}
 use Rattle.rga_ops.specs.Identifier.{id_cmp}
 use Rattle.rga_pages.specs.Pages.{Entries, entries_in, ArePages, IsSpot}
 use Rattle.rga_ops.proofs.CaseSteps.{on_ok_map, on_err_always, either_way}
-use Rattle.rga_pages.proofs.PlaceLaws.{index_within, filled_set, insert_some, set_same}
+use Rattle.rga_pages.proofs.PlaceLaws.{index_within, filled_set, insert_some}
 use Rattle.rga_pages.proofs.SpotLaws.{put_spot, record_none, inserted_pages}
 use Rattle.rga_pages.proofs.putting.write.Goals as goal
 
@@ -26,9 +27,7 @@ returns-clause-ok c =
 
 pub returns-clause-absent : goal.returns-clause-absent
 returns-clause-absent c =
-    on_err_always c.put.result
-    (record_none c.args.pages.now.items c.args.at.page c.args.at.index c.args.id [] (subst (λ n. c.args.at.page < n) c.args.pages.now.ok.0 c.requires.page)
-    (subst (λ b. IsSpot c.args.pages.now.items c.args.at.page c.args.at.index b c.args.id) c.if-at.false c.requires.spot) c.requires.kept.ordered)
+    on_err_always c.put.result (record_none c.requires.spot c.if-at.false c.requires.kept.ordered)
 
 pub returns-clause-kept : goal.returns-clause-kept
 returns-clause-kept c =
@@ -39,4 +38,4 @@ returns-clause-kept c =
     let w : p < length ps = subst (λ n. p < n) c.args.pages.now.ok.0 c.requires.page in
     either_way (λ y. ArePages (slice_set ps p y)) c.put.result c.put.new.self new old c.put.ensures.ok c.put.ensures.err
     (inserted_pages ps (slice_set ps p new) c.args.id c.args.value c.requires.kept (put_is c) (filled_set ps p new c.requires.kept.filled (insert_some old c.args.at.index (c.args.id, c.args.value))))
-    (subst ArePages (sym (set_same ps p old c.index_mut.ensures.value)) c.requires.kept)
+    (subst ArePages (sym (ap (slice_set ps p) c.index_mut.ensures.value ∙ set-get_or ps p old)) c.requires.kept)

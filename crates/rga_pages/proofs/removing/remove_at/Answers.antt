@@ -1,9 +1,11 @@
 use Rattle.std.proofs.Common.{◌≡◌, ◌<◌, ◌+◌, List, length, slice_set, sym, ap, ◌∙◌, subst, arith}
 use Rattle.std.specs.Prelude.{remove}
+use Rattle.std.proofs.lemmas.List.{get_or_default}
+use Rattle.std.proofs.lemmas.List.Edits.{length-remove}
 use Rattle.std.specs.Map.{remove_entry}
 use Rattle.rga_ops.proofs.IdentifierLaws.{is}
 use Rattle.rga_pages.specs.Pages.{Entries, entries_in, AreFilledPages}
-use Rattle.rga_pages.proofs.PlaceLaws.{page_at, filled_set, filled_remove, length_remove}
+use Rattle.rga_pages.proofs.PlaceLaws.{filled_set, filled_remove}
 use Rattle.rga_pages.proofs.SpotLaws.{index_found, remove_spot, remove_page, removed_pages}
 use Rattle.rga_pages.proofs.removing.remove_at.Goals as goal
 
@@ -35,8 +37,8 @@ returns-clause-kept c =
     let w : c.args.at.page < length ps = subst (λ n. c.args.at.page < n) c.args.pages.now.ok.0 c.requires.page in
     let old : Entries = c.index_mut.result.now in
     let there : c.args.at.index < length old = subst (λ y. c.args.at.index < length y) (sym c.index_mut.ensures.value) (index_found ps c.args.at.page c.args.at.index c.args.id old w c.requires.spot) in
-    let same : c.entries.result.now ≡ old = c.entries.ensures ∙ c.index.ensures ∙ page_at ps c.args.at.page c.index.result.now old w ∙ sym c.index_mut.ensures.value in
-    let less : length (remove old c.args.at.index) + 1 ≡ length old = length_remove old c.args.at.index there in
+    let same : c.entries.result.now ≡ old = c.entries.ensures ∙ c.index.ensures ∙ get_or_default ps c.args.at.page c.index.result.now old w ∙ sym c.index_mut.ensures.value in
+    let less : length (remove old c.args.at.index) + 1 ≡ length old = length-remove old c.args.at.index there in
     removed_pages ps (slice_set ps c.args.at.page c.remove-2.new.self) c.args.id c.requires.kept (gone_is c)
     (filled_set ps c.args.at.page c.remove-2.new.self c.requires.kept.filled
     (subst (λ y. 0 < length y) (sym c.remove-2.ensures) (omega (arith, less, ap length same, c.if-entries-eq1.false, there))))

@@ -1,8 +1,7 @@
-use Rattle.std.proofs.Common.{◌≡◌, ◌≤◌, ◌<◌, ◌+◌, ◌-◌, ℕ, false, List, length, take, slice_index_or, sym, ◌∙◌, subst, arith, true≢false}
-use Rattle.std.proofs.lemmas.List.{take_all}
-use Rattle.rga_pages.specs.Pages.{Entries, AreOrdered, AreBelow, StartsAbove}
-use Rattle.rga_pages.proofs.EntryLaws.{above_end}
-use Rattle.rga_pages.proofs.PlaceLaws.{page_ordered, page_below, filled_at, none_left}
+use Rattle.std.proofs.Common.{◌≡◌, ◌≤◌, ◌<◌, ◌+◌, ◌-◌, ℕ, false, List, length, take, slice_index_or, sym, ap, ◌∙◌, subst, arith, true≢false}
+use Rattle.std.proofs.lemmas.List.{take_all, drop_all}
+use Rattle.rga_pages.specs.Pages.{Entries, entries_in, AreOrdered, AreBelow, StartsAbove}
+use Rattle.rga_pages.proofs.PlaceLaws.{page_ordered, page_below, filled_at}
 use Rattle.rga_pages.proofs.SpotLaws.{spot_in}
 use Rattle.rga_pages.proofs.search.end_for.Goals as goal
 
@@ -25,8 +24,8 @@ returns-then-is_behind-clause-spot c =
     let last : length ps ≤ p + 1 = omega (arith, c.if-count-eq0.false, c.len-count.ensures, c.args.pages.now.ok.0) in
     spot_in ps p (length page) c.args.id d w false
     (page_below ps p d c.requires.ordered w c.args.id (filled_at ps p d c.requires.filled w) (subst (AreBelow c.args.id) (take_all (length page) (slice_index_or ps p d) all) here))
-    (subst (StartsAbove c.args.id) (sym (none_left ps (p + 1) last)) tt)
+    (subst (StartsAbove c.args.id) (sym (ap entries_in (drop_all (p + 1) ps last))) tt)
     (subst (λ y. length page ≤ length y) is (omega arith))
     here
     (λ t. absurd (true≢false (sym t)))
-    (λ f. above_end c.args.id (slice_index_or ps p d) (length page) all)
+    (λ f. subst (StartsAbove c.args.id) (sym (drop_all (length page) (slice_index_or ps p d) all)) tt)

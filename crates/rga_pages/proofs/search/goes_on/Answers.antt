@@ -1,13 +1,14 @@
 use Rattle.std.proofs.Common.{take, sym, ap, ◌∙◌, subst, arith}
+use Rattle.std.proofs.lemmas.List.{drop_all}
 use Rattle.std.specs.Ordering.{is_gt}
 use Rattle.rga_ops.specs.Identifier.{id_cmp}
-use Rattle.rga_pages.specs.Pages.{AreBelow}
-use Rattle.rga_pages.proofs.EntryLaws.{take_below, from_end}
+use Rattle.rga_pages.specs.Pages.{AreBelow, StartsFrom}
+use Rattle.rga_pages.proofs.EntryLaws.{take_below}
 use Rattle.rga_pages.proofs.PlaceLaws.{one_up}
 use Rattle.rga_pages.proofs.search.goes_on.Goals as goal
 
 pub returns-then-index-entries-clause-from : goal.returns-then-index-entries-clause-from
-returns-then-index-entries-clause-from c = λ f. from_end c.args.id c.args.entries.now c.args.index (omega (arith, c.if-index-entries.true))
+returns-then-index-entries-clause-from c = λ f. subst (StartsFrom c.args.id) (sym (drop_all c.args.index c.args.entries.now (omega (arith, c.if-index-entries.true)))) tt
 
 pub returns-clause-below : goal.returns-clause-below
 returns-clause-below c = λ t.

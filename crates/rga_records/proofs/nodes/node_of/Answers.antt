@@ -3,7 +3,7 @@ use Rattle.std.proofs.lemmas.Bool.{not-true, not-false}
 use Rattle.std.specs.Prelude.{None}
 use Rattle.rga_ops.specs.Identifier.{Identifier, root}
 use Rattle.rga_pages.specs.declared.entry.Record.{Record}
-use Rattle.rga_pages.proofs.PlaceLaws.{page_at}
+use Rattle.std.proofs.lemmas.List.{get_or_default}
 use Rattle.rga_pages.proofs.SpotLaws.{spot_there}
 use Rattle.rga_pages.specs.Pages.{Entries, IsSpot, entries_in, entries_before}
 use Rattle.rga_records.proofs.NodeLaws.{fewer_before, length_before, node_absent, node_found, node_in_page, node_later}
@@ -23,7 +23,7 @@ returns-in-Some c =
     let k : ℕ = c.in-Some.near in
     let w : q < length ps = omega (arith, c.requires.some, c.requires.few, c.args.pages.now.ok.0) in
     let is : c.entries.result.now ≡ slice_index_or ps q c.index.result.now = c.entries.ensures ∙ c.index.ensures in
-    let same : slice_index_or ps q [] ≡ slice_index_or ps q c.index.result.now = page_at ps q [] c.index.result.now w in
+    let same : slice_index_or ps q [] ≡ slice_index_or ps q c.index.result.now = get_or_default ps q [] c.index.result.now w in
     let earlier : k < c.args.index = c.in-Some.ensures.within in
     let within : k < length (slice_index_or ps q []) = omega (arith, earlier, c.requires.index) in
     let e : Identifier × Record = (root, record { parent = root; ch = None; block = 0; index = 0; deleted = false }) in

@@ -19,7 +19,7 @@ loop-block-preserved c =
     let b : List Entry = c.block-item.result in
     let later : List Identifier = visible_ids (flat (drop (c.loop-block.block-index + 1) bs)) in
     let all : visible_ids (flat (drop c.loop-block.block-index bs)) ≡ visible_ids b ++ later = ap visible_ids (rest_of bs c.loop-block.block-index b c.loop-block-test.true c.block-item.is) ∙ ids_both b (flat (drop (c.loop-block.block-index + 1) bs)) in
-    ap (λ xs. xs ++ drop c.saturating_sub-skip.result (take c.saturating_sub-end.result later)) c.in_ok-push_part.ensures.ok
+    ap (λ xs. xs ++ drop c.saturating_sub-skip.result (take c.saturating_sub-end.result later)) c.in_ok-push_visible.ensures.ok
     ∙ append_assoc c.loop-block.list.items (drop c.loop-block.skip (take c.loop-block.end (visible_ids b))) (drop c.saturating_sub-skip.result (take c.saturating_sub-end.result later))
     ∙ ap (λ xs. c.loop-block.list.items ++ xs) (sym (range_both (visible_ids b) later c.loop-block.skip c.loop-block.end c.saturating_sub-skip.result c.saturating_sub-end.result
     (c.saturating_sub-skip.ensures ∙ ap (λ n. c.loop-block.skip - n) (c.visible_len.ensures.count ∙ sym (count_ids b)))

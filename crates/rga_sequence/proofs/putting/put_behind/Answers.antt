@@ -1,6 +1,6 @@
-use Rattle.std.proofs.Common.{◌≡◌, ◌++◌, ◌∷◌, List, [], length, refl, sym, ap, ◌∙◌, subst, arith}
+use Rattle.std.proofs.Common.{◌≡◌, ◌++◌, ◌∷◌, List, [], length, sym, ap, ◌∙◌, subst}
 use Rattle.std.specs.Prelude.{insert}
-use Rattle.std.proofs.lemmas.List.{append-nil}
+use Rattle.std.proofs.lemmas.List.{append-nil, nil_from_length}
 use Rattle.rga_sequence.specs.declared.entry.Entry.{Entry}
 use Rattle.rga_sequence.specs.Entries.{put_entry_past_larger, put_entry, put_chain, IsChain, AreApart}
 use Rattle.rga_sequence.specs.Blocks.{Blocks, flat, before, behind}
@@ -8,10 +8,6 @@ use Rattle.rga_ops.proofs.CaseSteps.{on_ok_map, either_way}
 use Rattle.rga_sequence.proofs.PutLaws.{apart_there}
 use Rattle.rga_sequence.proofs.ChainLaws.{chain_there, chain_apart, chain_alone, alone_apart}
 use Rattle.rga_sequence.proofs.putting.put_behind.Goals as goal
-
-none_of : (bs : Blocks) → length bs ≡ 0 → bs ≡ []
-none_of [] h = refl
-none_of (b ∷ bs) h = absurd (omega arith)
 
 -- the first entries of all
 
@@ -21,14 +17,14 @@ alone bs es put = ap flat put ∙ append-nil es
 pub returns-then-as_slice-eq0-clause-ok : goal.returns-then-as_slice-eq0-clause-ok
 returns-then-as_slice-eq0-clause-ok c =
     let es : List Entry = c.args.entries.now in
-    let none : c.args.blocks.now.items ≡ [] = none_of c.args.blocks.now.items (ap length (sym c.as_slice.ensures.value) ∙ c.if-as_slice-eq0.true) in
+    let none : c.args.blocks.now.items ≡ [] = nil_from_length c.args.blocks.now.items (ap length (sym c.as_slice.ensures.value) ∙ c.if-as_slice-eq0.true) in
     alone c.put_own.new.blocks.items es (c.in_ok-put_own.ensures.ok ∙ ap (λ bs. insert bs 0 es) none)
     ∙ sym (ap (λ bs. put_chain c.args.parent es (flat bs)) none ∙ chain_alone c.args.parent es (subst (λ bs. IsChain c.args.parent es (flat bs)) none c.requires.chain))
 
 pub returns-then-as_slice-eq0-clause-kept : goal.returns-then-as_slice-eq0-clause-kept
 returns-then-as_slice-eq0-clause-kept c =
     let es : List Entry = c.args.entries.now in
-    let none : c.args.blocks.now.items ≡ [] = none_of c.args.blocks.now.items (ap length (sym c.as_slice.ensures.value) ∙ c.if-as_slice-eq0.true) in
+    let none : c.args.blocks.now.items ≡ [] = nil_from_length c.args.blocks.now.items (ap length (sym c.as_slice.ensures.value) ∙ c.if-as_slice-eq0.true) in
     record {
       apart = subst AreApart (sym (alone c.put_own.new.blocks.items es (c.in_ok-put_own.ensures.ok ∙ ap (λ bs. insert bs 0 es) none)))
           (alone_apart c.args.parent es c.requires.some (subst (λ bs. IsChain c.args.parent es (flat bs)) none c.requires.chain));

@@ -1,6 +1,7 @@
 use Rattle.std.proofs.Common.{◌≤◌, ◌+◌, length, drop, [], sym, ap, ◌∙◌, subst}
+use Rattle.std.proofs.lemmas.List.{get_or_default}
 use Rattle.rga_sequence.specs.Blocks.{larger_at_front}
-use Rattle.rga_sequence.proofs.PlaceLaws.{index_within, other_place, past, stops, block_at, block_within}
+use Rattle.rga_sequence.proofs.PlaceLaws.{index_within, other_place, past, stops, block_within}
 use Rattle.rga_sequence.proofs.skipping.past_in_block.Goals as goal
 
 pub past_larger-requires : goal.past_larger-requires
@@ -12,7 +13,7 @@ returns-clause-place c = other_place c.args.blocks.now.items c.args.at.block c.a
 pub returns-clause-stops : goal.returns-clause-stops
 returns-clause-stops c = λ w.
     stops c.args.blocks.now.items c.args.at.block c.args.at.index c.args.entry.now [] c.requires.place c.past_larger.result
-    (c.past_larger.ensures.index ∙ ap (λ xs. c.args.at.index + larger_at_front c.args.entry.now.id (drop c.args.at.index xs)) (c.index.ensures ∙ block_at c.args.blocks.now.items c.args.at.block c.index.result.now [] (block_within c.args.blocks.now.items c.args.at.block c.args.at.index c.requires.place)))
+    (c.past_larger.ensures.index ∙ ap (λ xs. c.args.at.index + larger_at_front c.args.entry.now.id (drop c.args.at.index xs)) (c.index.ensures ∙ get_or_default c.args.blocks.now.items c.args.at.block c.index.result.now [] (block_within c.args.blocks.now.items c.args.at.block c.args.at.index c.requires.place)))
     w
 
 pub returns-clause-past : goal.returns-clause-past

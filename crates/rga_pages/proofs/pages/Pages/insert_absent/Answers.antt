@@ -1,8 +1,8 @@
-use Rattle.std.proofs.Common.{◌<◌, [], sym, ap, ◌∙◌, subst}
+use Rattle.std.proofs.Common.{sym, ap, ◌∙◌, subst}
 use Rattle.std.specs.Prelude.{Some}
 use Rattle.std.specs.BTreeMap.{insert_entry}
 use Rattle.rga_ops.specs.Identifier.{id_cmp}
-use Rattle.rga_pages.specs.Pages.{record_of, Updates, IsSpot}
+use Rattle.rga_pages.specs.Pages.{record_of, Updates}
 use Rattle.rga_pages.proofs.EntryLaws.{updates_insert}
 use Rattle.rga_pages.proofs.SpotLaws.{record_none}
 use Rattle.rga_pages.proofs.pages.Pages.insert_absent.Goals as goal
@@ -13,10 +13,7 @@ returns-then-has_room-clause-updates c = λ _.
     (updates_insert c.args.id c.args.value c.args.self.now)
 
 pub returns-then-has_room-clause-absent : goal.returns-then-has_room-clause-absent
-returns-then-has_room-clause-absent c = λ _.
-    ap (record_of c.args.id) (sym c.self.view_is)
-    ∙ record_none c.self.inside.pages.items c.find-spot.result.page c.find-spot.result.index c.args.id [] (subst (λ n. c.find-spot.result.page < n) c.self.inside.pages.ok.0 c.find-spot.ensures.page)
-    (subst (λ b. IsSpot c.self.inside.pages.items c.find-spot.result.page c.find-spot.result.index b c.args.id) c.if-spot.false c.find-spot.ensures.spot) c.self.invariant.ordered
+returns-then-has_room-clause-absent c = λ _. ap (record_of c.args.id) (sym c.self.view_is) ∙ record_none c.find-spot.ensures.spot c.if-spot.false c.self.invariant.ordered
 
 pub returns-clause-updates : goal.returns-clause-updates
 returns-clause-updates c = λ _.
@@ -24,7 +21,4 @@ returns-clause-updates c = λ _.
     (updates_insert c.args.id c.args.value c.args.self.now)
 
 pub returns-clause-absent : goal.returns-clause-absent
-returns-clause-absent c = λ _.
-    ap (record_of c.args.id) (sym c.self.view_is)
-    ∙ record_none c.self.inside.pages.items c.find-spot.result.page c.find-spot.result.index c.args.id [] (subst (λ n. c.find-spot.result.page < n) c.self.inside.pages.ok.0 c.find-spot.ensures.page)
-    (subst (λ b. IsSpot c.self.inside.pages.items c.find-spot.result.page c.find-spot.result.index b c.args.id) c.if-spot.false c.find-spot.ensures.spot) c.self.invariant.ordered
+returns-clause-absent c = λ _. ap (record_of c.args.id) (sym c.self.view_is) ∙ record_none c.find-spot.ensures.spot c.if-spot.false c.self.invariant.ordered

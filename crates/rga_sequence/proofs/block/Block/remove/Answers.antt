@@ -4,7 +4,8 @@ use Rattle.rga_sequence.specs.declared.entry.Entry.{Entry}
 use Rattle.rga_sequence.specs.Entries.{visible_count}
 use Rattle.rga_sequence.specs.Blocks.{IsBlock}
 use Rattle.rga_sequence.proofs.BlockLaws.{from_remove}
-use Rattle.rga_sequence.proofs.CountLaws.{count_remove, length_remove}
+use Rattle.rga_sequence.proofs.CountLaws.{count_remove}
+use Rattle.std.proofs.lemmas.List.Edits.{length-remove}
 use Rattle.rga_sequence.proofs.block.Block.remove.Goals as goal
 
 pub overflow_sub-self : goal.overflow_sub-self
@@ -22,7 +23,7 @@ invariant_of-self c =
     ∙ count_remove c.self.inside.entries.items c.args.index c.remove-entry.result (subst (λ xs. c.args.index < length xs) (sym c.self.view_is) c.requires) c.remove-entry.ensures.value
     ∙ ap (λ n. visible_count (remove c.self.inside.entries.items c.args.index) + n) (sym c.count_one.ensures) in
     let xs : List Entry = c.self.inside.entries.items in
-    let one : length (remove xs c.args.index) + 1 ≡ length xs = length_remove xs c.args.index (subst (λ ys. c.args.index < length ys) (sym c.self.view_is) c.requires) in
+    let one : length (remove xs c.args.index) + 1 ≡ length xs = length-remove xs c.args.index (subst (λ ys. c.args.index < length ys) (sym c.self.view_is) c.requires) in
     subst (IsBlock (c.self.inside.visible - c.count_one.result) c.self.inside.least) (sym c.remove-entry.ensures.items)
     (record {
       counted = omega (arith, counted);
