@@ -1,6 +1,5 @@
 pub mod Stream
 pub mod Log
-pub mod Members
 pub mod Spelling
 pub use Rattle.rga_table.specs.Table
 pub use Rattle.rga_table.specs.Runs

@@ -17,24 +17,19 @@
 #![tactic(auto)]
 
 pub mod bytes;
-mod escapes;
 mod hundred;
-mod insertions;
 pub mod laws;
-mod lexed;
-mod members;
 mod parts;
 mod pieces;
 mod reading;
 mod spelled;
-mod spelled_run;
 mod speller;
 mod splitter;
 mod writing;
 
-pub use insertions::{read_deletion, read_insertions};
 pub use reading::{read_any, read_line};
 pub use rga_table::{DeletionRun, Line, LineFault, MAX_LINE, MAX_RUN, Run};
+pub use spelled::{read_deletion, read_insertions};
 pub use speller::{LINE_ROOM, Speller};
 pub use splitter::Splitter;
 pub use writing::{write_deletion_run, write_end, write_head, write_line, write_run};

@@ -1,20 +1,15 @@
-//! The parts of a line that more than one of its readers knows: literals, characters and numbers.
-ghost use Rattle.std.specs.Prelude.{◌≡◌, ◌≢◌, ◌+◌, ◌<◌, ◌≤◌, ◌++◌, ◌∷◌, [], decimal, IfSome};
+//! The parts of a line that is spelled in one way: literals, characters and numbers.
+ghost use Rattle.std.specs.Prelude.{◌≡◌, ◌≢◌, ◌<◌, ◌≤◌, ◌++◌, ◌∷◌, [], decimal, IfSome};
 ghost use Rattle.std.specs.Bool.{OnTrue};
 ghost use Rattle.std.specs.Char.{IsScalar};
-ghost use Rattle.rga_lines.specs.Spelling.{escaped, BeginsWithCharacter};
+ghost use Rattle.rga_ops.specs.Identifier.{identifier};
+ghost use Rattle.rga_lines.specs.Spelling.{escaped, pair_text, BeginsWithCharacter};
 
 use rga_ops::Id;
 use rga_table::parts::only_char;
 
-/// What stands behind the literal, with which the bytes begin.
-pub(crate) fn after<'a>(bytes: &'a [u8], literal: &[u8]) -> Option<&'a [u8]>
-    ensures { IfSome result (λ rest. bytes.now ≡ literal.now ++ rest.now) }
-{
-    bytes.strip_prefix(literal)
-}
-
-/// The same of a literal whose length is known, so that nothing is called to compare it.
+/// What stands behind the literal, with which the bytes begin. Its length is known, so that nothing
+/// is called to compare it.
 #[inline(always)]
 pub(crate) fn after_literal<'a, const N: usize>(
     bytes: &'a [u8],
@@ -28,9 +23,21 @@ pub(crate) fn after_literal<'a, const N: usize>(
     if front == literal { Some(rest) } else { None }
 }
 
-/// The same of one byte.
+/// Whether the bytes are the literal.
 #[inline(always)]
-pub(crate) fn after_byte(bytes: &[u8], byte: u8) -> Option<&[u8]>
+#[tactic(auto, using(crate::proofs::PartsLemmas::nothing_after))]
+pub(crate) fn is_literal<const N: usize>(bytes: &[u8], literal: &[u8; N]) -> bool
+    ensures { OnTrue result (bytes.now ≡ literal.now) }
+{
+    let Some(rest) = after_literal(bytes, literal) else {
+        return false;
+    };
+    rest.is_empty()
+}
+
+/// What stands behind a byte, with which the bytes begin.
+#[inline(always)]
+fn after_byte(bytes: &[u8], byte: u8) -> Option<&[u8]>
     ensures { IfSome result (λ rest. bytes.now ≡ byte ∷ rest.now) }
 {
     let Some((first, rest)) = bytes.split_first() else {
@@ -96,7 +103,7 @@ fn is_plain(byte: u8) -> bool
 fn short_escape(bytes: &[u8]) -> Option<(char, &[u8])>
     ensures { IfSome result (λ p. BeginsWithCharacter bytes.now p.0 p.1.now) }
 {
-    let Some(rest) = after(bytes, b"\\") else {
+    let Some(rest) = after_byte(bytes, b'\\') else {
         return None;
     };
     let Some((letter, behind)) = rest.split_first() else {
@@ -181,7 +188,7 @@ pub(crate) fn number(bytes: &[u8]) -> Option<(u64, &[u8])>
 
 /// A number behind the byte, with which the bytes begin, and what stands behind it.
 #[inline(always)]
-pub(crate) fn number_behind(bytes: &[u8], byte: u8) -> Option<(u64, &[u8])>
+fn number_behind(bytes: &[u8], byte: u8) -> Option<(u64, &[u8])>
     ensures { IfSome result (λ p. bytes.now ≡ byte ∷ (decimal p.0 ++ p.1.now)) }
 {
     let Some(rest) = after_byte(bytes, byte) else {
@@ -194,4 +201,41 @@ fn is_digit(byte: u8) -> bool
     ensures { OnTrue result ((48 ≤ byte) × (byte < 58)) }
 {
     byte >= b'0' && byte <= b'9'
+}
+
+/// Two numbers between brackets behind the literal, with which the bytes begin, and what stands
+/// behind them.
+#[inline(always)]
+pub(crate) fn pair_after<'a, const N: usize>(
+    bytes: &'a [u8],
+    literal: &[u8; N],
+) -> Option<(u64, u16, &'a [u8])>
+    ensures { IfSome result (λ p.
+        bytes.now ≡ literal.now ++ (pair_text (identifier p.0 p.1) ++ p.2.now)) }
+{
+    match after_literal(bytes, literal) {
+        Some(rest) => pair(rest),
+        None => None,
+    }
+}
+
+/// Two numbers between brackets, with which the bytes begin, and what stands behind them.
+#[inline(always)]
+fn pair(bytes: &[u8]) -> Option<(u64, u16, &[u8])>
+    ensures { IfSome result (λ p.
+        bytes.now ≡ pair_text (identifier p.0 p.1) ++ p.2.now) }
+{
+    let Some((counter, rest)) = number_behind(bytes, b'[') else {
+        return None;
+    };
+    let Some((replica, rest)) = number_behind(rest, b',') else {
+        return None;
+    };
+    let Some(rest) = after_byte(rest, b']') else {
+        return None;
+    };
+    let Ok(replica) = u16::try_from(replica) else {
+        return None;
+    };
+    Some((counter, replica, rest))
 }

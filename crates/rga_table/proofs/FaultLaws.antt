@@ -15,11 +15,12 @@ use Rattle.rga_ops.specs.declared.op.Op.TheVariants.{Insert}
 use Rattle.rga_table.specs.declared.deletion_run.DeletionRun.{DeletionRun}
 use Rattle.rga_table.specs.declared.fault.LineFault.{LineFault}
 use Rattle.rga_table.specs.declared.fault.LineFault.TheVariants as fault
-use Rattle.rga_table.specs.declared.line.Line.TheVariants.{Head, Run}
+use Rattle.rga_table.specs.declared.line.Line.TheVariants.{One, Run, Deletions, Head, Last}
 use Rattle.rga_table.specs.Runs.{longest_run, deletion_run, stretch}
 use Rattle.rga_table.specs.Table as table
 use Rattle.rga_table.specs.Table.{Reading, AnyReading, number_of, two_numbers, element_of, parent_of, if_in_range, if_root_or_in_range, longest_line}
 use Rattle.rga_table.specs.Faults.{Demand, demand, first_fault, insertion_line, deletion_line, run_line, deletions_line, head_line, end_line, kinds, kind_among, kind_of, one_character, run_text, element, element_or_root, deletion_count, operation_count, version, number_in, has_type, is_identifier, length_in, is_run_length, has_length, counter_in, kind_demands, value_demands, read_demands, line_demands, is_single, is_operation, operation_demands}
+use Rattle.rga_table.proofs.SoundLemmas.{IsSound, sound_line}
 
 -- ---- tests
 
@@ -377,106 +378,18 @@ after [] es = refl
 after (d ∷ ds) es = after_one d.is_met d.fault (first_fault (ds ++ es)) (first_fault ds) (first_fault es) (after ds es)
 
 -- where one operation alone may stand, a reading has its fault, and one of a line that is none has `Kind`
-abbrev IsAlone : AnyReading → Bool → Type 0
-IsAlone r single = result_err (table.operation_alone r) ≡ option_or (result_err r) (first_fault (demand single fault.Kind ∷ []))
-
-alone_if : (x single : Bool) (r : AnyReading) (f : LineFault) → IsAlone r single → IsAlone (if x then r else Err f) single
-alone_if true single r f h = h
-alone_if false single r f h = refl
-
-alone_unless : (x single : Bool) (r : AnyReading) (f : LineFault) → IsAlone r single → IsAlone (if x then Err f else r) single
-alone_unless true single r f h = refl
-alone_unless false single r f h = h
-
-alone_single : (r : Reading) → IsAlone (table.single_reading r) true
-alone_single (Ok op) = refl
-alone_single (Err e) = refl
-
-alone_identifiers : (id parent : Option Identifier) (t : List ℕ) → IsAlone (table.with_run_identifiers id parent t) false
-alone_identifiers None parent t = refl
-alone_identifiers (Some id) None t = refl
-alone_identifiers (Some id) (Some parent) t =
-    let cs : List ℕ = chars t in
-    alone_unless (nat_lt (MAX_COUNTER + 1) (id.counter + length cs)) false (table.with_run_chars id parent cs) fault.Id
-    (alone_unless ((length cs == 0) || nat_lt longest_run (length cs)) false (table.with_run_order id parent cs) fault.Char
-    (alone_unless (nat_le id.counter parent.counter) false (Ok (Run (stretch id parent cs))) fault.Order refl))
-
-alone_run : (t : Option (List ℕ)) (i p : Option Items) → IsAlone (table.with_run_types t i p) false
-alone_run None i p = refl
-alone_run (Some t) None p = refl
-alone_run (Some t) (Some i) None = refl
-alone_run (Some t) (Some i) (Some p) = alone_identifiers (element_of i) (parent_of p) t
-
-alone_deletions : (r : Result DeletionRun LineFault) → IsAlone (table.run_of_deletions r) false
-alone_deletions (Ok run) = refl
-alone_deletions (Err e) = refl
-
-alone_version : (n : Option ℕ) → IsAlone (table.with_version n) false
-alone_version None = refl
-alone_version (Some n) = alone_if (n == 2) false (Ok Head) fault.Kind refl
-
-alone_last : (r : Result ℕ LineFault) → IsAlone (table.last r) false
-alone_last (Ok n) = refl
-alone_last (Err e) = refl
-
-alone_kind : (ms : Members) (insertion deletion run deletions_run head end : Bool)
-    → IsAlone (
-    if insertion then table.single_reading (table.insertion (members_len ms) (object ms))
-    else (if deletion then table.single_reading (table.deletion (members_len ms) (object ms))
-    else (if run then table.run (members_len ms) (object ms)
-    else (if deletions_run then table.run_of_deletions (table.deletions_reading (members_len ms) (object ms))
-    else (if head then table.heading (members_len ms) (object ms)
-    else (if end then table.last (table.ending (members_len ms) (object ms)) else Err fault.Kind))))))
-    (is_single (
-    if insertion then Some insertion_line else (if deletion then Some deletion_line else (if run then Some run_line
-    else (if deletions_run then Some deletions_line else (if head then Some head_line else (if end then Some end_line else None)))))))
-alone_kind ms true d r ds h e = alone_single (table.insertion (members_len ms) (object ms))
-alone_kind ms false true r ds h e = alone_single (table.deletion (members_len ms) (object ms))
-alone_kind ms false false true ds h e =
-    let text : Option (List ℕ) = option_and_then as_str (get_member (codes "text") ms) in
-    let id : Option Items = option_and_then as_array (get_member (codes "id") ms) in
-    let parent : Option Items = option_and_then as_array (get_member (codes "parent") ms) in
-    alone_if ((members_len ms == 4) && (is_some (get_member (codes "id") ms) && (is_some (get_member (codes "parent") ms) && is_some (get_member (codes "text") ms))))
-    false (table.with_run_types text id parent) fault.Member (alone_run text id parent)
-alone_kind ms false false false true h e = alone_deletions (table.deletions_reading (members_len ms) (object ms))
-alone_kind ms false false false false true e =
-    let n : Option ℕ = option_and_then number_of (get_member (codes "version") ms) in
-    alone_if ((members_len ms == 2) && is_some (get_member (codes "version") ms)) false (table.with_version n) fault.Member (alone_version n)
-alone_kind ms false false false false false true = alone_last (table.ending (members_len ms) (object ms))
-alone_kind ms false false false false false false = refl
-
-alone_name : (ms : Members) (name : Option (List ℕ))
-    → IsAlone (table.with_name (members_len ms) (object ms) name) (is_single (option_and_then (kind_among kinds) name))
-alone_name ms None = refl
-alone_name ms (Some name) =
-    alone_kind ms (bytes_eq name (codes "ins")) (bytes_eq name (codes "del")) (bytes_eq name (codes "run")) (bytes_eq name (codes "dels"))
-    (bytes_eq name (codes "head")) (bytes_eq name (codes "end"))
-
-alone_op : (ms : Members) (op : Option Data) → IsAlone (table.with_op (members_len ms) (object ms) op) (is_single (kind_of op))
-alone_op ms None = refl
-alone_op ms (Some op) = alone_name ms (as_str op)
-
-alone_read : (is_text : Bool) (d : Option Data) → IsAlone (table.text_line is_text d) (is_operation d)
-unfolding table.value_line
-alone_read true (Some null) = refl
-alone_read true (Some (boolean b)) = refl
-alone_read true (Some (number n)) = refl
-alone_read true (Some (string s)) = refl
-alone_read true (Some (array ds)) = refl
-alone_read true (Some (object ms)) = alone_op ms (get_member (codes "op") ms)
-alone_read true None = refl
-alone_read false d = refl
-
-alone : (bytes : List ℕ) → IsAlone (table.any_line_at bytes) (is_operation (read bytes))
-unfolding table.any_line_at
-alone bytes =
-    alone_unless (nat_lt longest_line (length bytes)) (is_operation (read bytes)) (table.text_line (is_utf8 bytes) (read bytes)) fault.Long
-    (alone_read (is_utf8 bytes) (read bytes))
+alone : (r : AnyReading) (single : Bool) → IsSound single r → result_err (table.operation_alone r) ≡ option_or (result_err r) (first_fault (demand single fault.Kind ∷ []))
+alone (Ok (One op)) single h = rw h.1 refl
+alone (Ok (Run r)) single h = rw h.1 refl
+alone (Ok (Deletions r)) single h = rw h.1 refl
+alone (Ok Head) single h = rw h refl
+alone (Ok (Last operations)) single h = rw h refl
+alone (Err e) single h = refl
 
 pub operation_faults : (bytes : List ℕ) → result_err (table.line_at bytes) ≡ first_fault (operation_demands bytes)
 unfolding table.line_at
 operation_faults bytes =
     let kind : List Demand = demand (is_operation (read bytes)) fault.Kind ∷ [] in
-    alone bytes
+    alone (table.any_line_at bytes) (is_operation (read bytes)) (sound_line bytes)
     ∙ (ap (λ o. option_or o (first_fault kind)) (line_faults bytes)
     ∙ sym (after (line_demands bytes) kind))

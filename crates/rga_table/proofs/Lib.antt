@@ -1,3 +1,4 @@
 mod ValueLemmas
 mod NextDeletion
+pub mod SoundLemmas
 mod FaultLaws

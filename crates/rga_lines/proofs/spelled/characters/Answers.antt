@@ -1,7 +1,7 @@
 use Rattle.std.proofs.Common.{rules, ◌≡◌}
 use Rattle.rga_ops.specs.Identifier.{identifier}
 use Rattle.rga_lines.proofs.RunLemmas.{shorter, read_to_next, read_to_end}
-use Rattle.rga_lines.proofs.insertions.characters.Goals as goal
+use Rattle.rga_lines.proofs.spelled.characters.Goals as goal
 
 pub chars-preserved : goal.chars-preserved
 chars-preserved c =
@@ -12,4 +12,4 @@ pub chars-smaller : goal.chars-smaller
 chars-smaller c = shorter c.chars.rest.now c.in-Some.behind.now c.in-Some.ch c.in-Some.ensures.0
 
 pub returns-clause-read : goal.returns-clause-read
-returns-clause-read c = read_to_end c.args.id c.args.parent c.args.bytes.now c.chars.ops.items c.chars.counter c.chars.above c.chars.rest.now c.chars.invariant
+returns-clause-read c = λ e. let last = rw e at c.is_literal.ensures in read_to_end c.args.id c.args.parent c.args.bytes.now c.chars.ops.items c.chars.counter c.chars.above c.chars.rest.now c.chars.invariant last
