@@ -6,7 +6,6 @@ use Rattle.rga_ops.specs.Identifier.{Identifier, is_in_range}
 use Rattle.rga_ops.specs.Operation.{checked}
 use Rattle.rga_ops.specs.declared.id.TheConstants.Id.{MAX_COUNTER}
 use Rattle.rga_ops.specs.declared.op.Op.{Op}
-use Rattle.rga_ops.specs.declared.op.Op.TheVariants.{Delete}
 use Rattle.rga_table.specs.declared.deletion_run.DeletionRun.{DeletionRun}
 use Rattle.rga_table.specs.Runs.{next, deletions_from, run_deletions, IsDeletionRun}
 

@@ -1,5 +1,5 @@
 -- The line of a run is read back.
-use Rattle.std.proofs.Common.{◌≡◌, ℕ, ◌*◌, ◌≤◌, true, List, [], ◌∷◌, ◌++◌, length, codes, Some, Ok, refl, sym, ap, ap₂, subst, ◌∙◌, arith, append_assoc, length-append, lit≤, le-ltb, ne_eqb}
+use Rattle.std.proofs.Common.{◌≡◌, ℕ, ◌*◌, ◌≤◌, true, List, [], ◌∷◌, ◌++◌, length, codes, Ok, refl, sym, ap, ap₂, subst, ◌∙◌, arith, append_assoc, length-append, lit≤, le-ltb, ne_eqb}
 use Rattle.std.specs.Char.{encode_utf8, IsScalar}
 use Rattle.std.specs.List.{flat_map, AllByRecursion}
 use Rattle.std.specs.Str.{IsUtf8, chars}
@@ -10,8 +10,7 @@ use Rattle.std.proofs.lemmas.Str.{chars-encodes, IsUtf8-append}
 use Rattle.json.specs.Print.{escape, escape_byte}
 use Rattle.json.proofs.Printed.Utf8.{IsUtf8-are_ascii, IsUtf8-quoted}
 use Rattle.serde_json.specs.Data.{Data, string, object, member, no_members}
-use Rattle.serde_json.specs.Read.{of_json}
-use Rattle.serde_json.specs.Written.{compact_text, outline}
+use Rattle.serde_json.specs.Written.{compact_text}
 use Rattle.serde_json.proofs.OnLiterals.{serde_json_on_literals}
 use Rattle.rga_ops.specs.Identifier.{Identifier}
 use Rattle.rga_table.specs.declared.line.Line.TheVariants.{Run}

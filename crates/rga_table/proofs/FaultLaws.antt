@@ -1,7 +1,7 @@
 -- The fault of a line is that of the first demand that it does not meet.
 use Rattle.std.proofs.Common.{◌≡◌, ℕ, suc, ◌+◌, Bool, true, false, List, [], ◌∷◌, ◌++◌, length, Option, Some, None, nat_lt, nat_le, if◌then◌else◌, ◌&&◌, ◌||◌, refl, sym, ap, ◌∙◌, arith, codes}
 use Rattle.std.proofs.lemmas.Bool.Decides.{nat_tests}
-use Rattle.std.specs.Prelude.{◌==◌, not, Result, Ok, Err, ok_or, is_some, option_map, option_and_then, unwrap_or}
+use Rattle.std.specs.Prelude.{◌==◌, not, Result, Ok, Err, IfSome, ok_or, is_some, option_map, option_and_then, unwrap_or}
 use Rattle.std.specs.Option.{option_or}
 use Rattle.std.specs.Result.{result_err}
 use Rattle.std.specs.Str.{is_utf8, chars, bytes_eq}
@@ -19,8 +19,8 @@ use Rattle.rga_table.specs.declared.line.Line.TheVariants.{One, Run, Deletions, 
 use Rattle.rga_table.specs.Runs.{longest_run, deletion_run, stretch}
 use Rattle.rga_table.specs.Table as table
 use Rattle.rga_table.specs.Table.{Reading, AnyReading, number_of, two_numbers, element_of, parent_of, if_in_range, if_root_or_in_range, longest_line}
-use Rattle.rga_table.specs.Faults.{Demand, demand, first_fault, insertion_line, deletion_line, run_line, deletions_line, head_line, end_line, kinds, kind_among, kind_of, one_character, run_text, element, element_or_root, deletion_count, operation_count, version, number_in, has_type, is_identifier, length_in, is_run_length, has_length, counter_in, kind_demands, value_demands, read_demands, line_demands, is_single, is_operation, operation_demands}
-use Rattle.rga_table.proofs.SoundLemmas.{IsSound, sound_line}
+use Rattle.rga_table.specs.Faults.{Demand, demand, first_fault, kinds, kind_among, kind_of, one_character, run_text, element, element_or_root, deletion_count, operation_count, version, number_in, has_type, is_identifier, length_in, is_run_length, has_length, counter_in, kind_demands, value_demands, read_demands, line_demands, is_operation, operation_demands}
+use Rattle.rga_table.proofs.SoundLemmas.{kind_by, reading_by, IsSound, sound_line}
 
 -- ---- tests
 
@@ -57,6 +57,19 @@ first o = unwrap_or (option_map (λ p. p.0) o) 0
 abbrev first_number : Option Items → ℕ
 first_number i = first (option_and_then two_numbers i)
 
+-- the counter of an identifier is the first of its numbers
+counter_is : (within : Bool) (p : ℕ × ℕ) → IfSome (if within then Some (identifier p.0 p.1) else None) (λ id. p.0 ≡ id.counter)
+counter_is true p = refl
+counter_is false p = tt
+
+element_counter : (o : Option (ℕ × ℕ)) → IfSome (option_and_then if_in_range o) (λ id. first o ≡ id.counter)
+element_counter None = tt
+element_counter (Some p) = counter_is (is_in_range p.0 p.1) p
+
+parent_counter : (o : Option (ℕ × ℕ)) → IfSome (option_and_then if_root_or_in_range o) (λ id. first o ≡ id.counter)
+parent_counter None = tt
+parent_counter (Some p) = counter_is (is_root (identifier p.0 p.1) || is_in_range p.0 p.1) p
+
 -- ---- an insertion
 
 order : (id parent : Identifier) (ch : ℕ) → result_err (table.with_order id parent ch) ≡ first_fault (demand (nat_lt parent.counter id.counter) fault.Order ∷ [])
@@ -72,29 +85,13 @@ insertion_characters id parent (c ∷ d ∷ cs) =
     let more : (length (c ∷ d ∷ cs) == 1) ≡ false = two_or_more (length cs) in
     rw more refl
 
-insertion_in_range : (t : List ℕ) (i p : ℕ × ℕ) (x y : Bool)
-    → result_err (table.with_identifiers (if x then Some (identifier i.0 i.1) else None) (if y then Some (identifier p.0 p.1) else None) t)
-    ≡ first_fault (demand (all_three true (is_some (if x then Some (identifier i.0 i.1) else None)) (is_some (if y then Some (identifier p.0 p.1) else None)) && true) fault.Id
-    ∷ demand (all_three (length (chars t) == 1) true true) fault.Char ∷ demand (nat_lt p.0 i.0) fault.Order ∷ [])
-insertion_in_range t i p false y = refl
-insertion_in_range t i p true false = refl
-insertion_in_range t i p true true = insertion_characters (identifier i.0 i.1) (identifier p.0 p.1) (chars t)
-
-insertion_no_parent : (t : List ℕ) (i : ℕ × ℕ) (x : Bool)
-    → result_err (table.with_identifiers (if x then Some (identifier i.0 i.1) else None) None t)
-    ≡ first_fault (demand (all_three true (is_some (if x then Some (identifier i.0 i.1) else None)) false && true) fault.Id
-    ∷ demand (all_three (length (chars t) == 1) true true) fault.Char ∷ demand (nat_lt 0 i.0) fault.Order ∷ [])
-insertion_no_parent t i true = refl
-insertion_no_parent t i false = refl
-
-insertion_identifiers : (t : List ℕ) (i p : Option (ℕ × ℕ))
-    → result_err (table.with_identifiers (option_and_then if_in_range i) (option_and_then if_root_or_in_range p) t)
-    ≡ first_fault (demand (all_three true (is_some (option_and_then if_in_range i)) (is_some (option_and_then if_root_or_in_range p)) && true) fault.Id
-    ∷ demand (all_three (length (chars t) == 1) true true) fault.Char ∷ demand (nat_lt (first p) (first i)) fault.Order ∷ [])
-insertion_identifiers t None p = refl
-insertion_identifiers t (Some i) None = insertion_no_parent t i (is_in_range i.0 i.1)
-insertion_identifiers t (Some i) (Some p) =
-    insertion_in_range t i p (is_in_range i.0 i.1) (is_root (identifier p.0 p.1) || is_in_range p.0 p.1)
+insertion_identifiers : (t : List ℕ) (i p : Option Identifier) (n m : ℕ) → IfSome i (λ id. n ≡ id.counter) → IfSome p (λ id. m ≡ id.counter)
+    → result_err (table.with_identifiers i p t)
+    ≡ first_fault (demand (all_three true (is_some i) (is_some p) && true) fault.Id
+    ∷ demand (all_three (length (chars t) == 1) true true) fault.Char ∷ demand (nat_lt m n) fault.Order ∷ [])
+insertion_identifiers t None p n m here above = refl
+insertion_identifiers t (Some i) None n m here above = refl
+insertion_identifiers t (Some i) (Some p) n m here above = rw (here, above) (insertion_characters i p (chars t))
 
 insertion_types : (t : Option (List ℕ)) (i p : Option Items) → result_err (table.with_types t i p)
     ≡ first_fault (demand (all_three (is_some t) (is_some i) (is_some p)) fault.Kind
@@ -103,7 +100,8 @@ insertion_types : (t : Option (List ℕ)) (i p : Option Items) → result_err (t
 insertion_types None i p = refl
 insertion_types (Some t) None p = refl
 insertion_types (Some t) (Some i) None = refl
-insertion_types (Some t) (Some i) (Some p) = insertion_identifiers t (two_numbers i) (two_numbers p)
+insertion_types (Some t) (Some i) (Some p) =
+    insertion_identifiers t (element_of i) (parent_of p) (first (two_numbers i)) (first (two_numbers p)) (element_counter (two_numbers i)) (parent_counter (two_numbers p))
 
 insertion_members : (four : Bool) (c i p : Option Data)
     → result_err (if four && (is_some c && (is_some i && is_some p))
@@ -157,31 +155,13 @@ run_end id parent cs =
     (unless ((length cs == 0) || nat_lt longest_run (length cs)) (is_run_length (length cs) && true) fault.Char (table.with_run_order id parent cs) ordered
     (run_length (length cs) longest_run) (run_order id parent cs))
 
-run_in_range : (t : List ℕ) (i p : ℕ × ℕ) (x y : Bool)
-    → result_err (table.with_run_identifiers (if x then Some (identifier i.0 i.1) else None) (if y then Some (identifier p.0 p.1) else None) t)
-    ≡ first_fault (demand (all_three (is_some (if x then Some (identifier i.0 i.1) else None)) (is_some (if y then Some (identifier p.0 p.1) else None)) true
-    && nat_le (i.0 + length (chars t)) (MAX_COUNTER + 1)) fault.Id
-    ∷ demand (all_three true true (is_run_length (length (chars t)))) fault.Char ∷ demand (nat_lt p.0 i.0) fault.Order ∷ [])
-run_in_range t i p false y = refl
-run_in_range t i p true false = refl
-run_in_range t i p true true = run_end (identifier i.0 i.1) (identifier p.0 p.1) (chars t)
-
-run_no_parent : (t : List ℕ) (i : ℕ × ℕ) (x : Bool)
-    → result_err (table.with_run_identifiers (if x then Some (identifier i.0 i.1) else None) None t)
-    ≡ first_fault (demand (all_three (is_some (if x then Some (identifier i.0 i.1) else None)) false true && nat_le (i.0 + length (chars t)) (MAX_COUNTER + 1)) fault.Id
-    ∷ demand (all_three true true (is_run_length (length (chars t)))) fault.Char ∷ demand (nat_lt 0 i.0) fault.Order ∷ [])
-run_no_parent t i true = refl
-run_no_parent t i false = refl
-
-run_identifiers : (t : List ℕ) (i p : Option (ℕ × ℕ))
-    → result_err (table.with_run_identifiers (option_and_then if_in_range i) (option_and_then if_root_or_in_range p) t)
-    ≡ first_fault (demand (all_three (is_some (option_and_then if_in_range i)) (is_some (option_and_then if_root_or_in_range p)) true
-    && nat_le (first i + length (chars t)) (MAX_COUNTER + 1)) fault.Id
-    ∷ demand (all_three true true (is_run_length (length (chars t)))) fault.Char ∷ demand (nat_lt (first p) (first i)) fault.Order ∷ [])
-run_identifiers t None p = refl
-run_identifiers t (Some i) None = run_no_parent t i (is_in_range i.0 i.1)
-run_identifiers t (Some i) (Some p) =
-    run_in_range t i p (is_in_range i.0 i.1) (is_root (identifier p.0 p.1) || is_in_range p.0 p.1)
+run_identifiers : (t : List ℕ) (i p : Option Identifier) (n m : ℕ) → IfSome i (λ id. n ≡ id.counter) → IfSome p (λ id. m ≡ id.counter)
+    → result_err (table.with_run_identifiers i p t)
+    ≡ first_fault (demand (all_three (is_some i) (is_some p) true && nat_le (n + length (chars t)) (MAX_COUNTER + 1)) fault.Id
+    ∷ demand (all_three true true (is_run_length (length (chars t)))) fault.Char ∷ demand (nat_lt m n) fault.Order ∷ [])
+run_identifiers t None p n m here above = refl
+run_identifiers t (Some i) None n m here above = refl
+run_identifiers t (Some i) (Some p) n m here above = rw (here, above) (run_end i p (chars t))
 
 run_types : (t : Option (List ℕ)) (i p : Option Items) → result_err (table.with_run_types t i p)
     ≡ first_fault (demand (all_three (is_some i) (is_some p) (is_some t)) fault.Kind
@@ -193,7 +173,8 @@ run_types None (Some i) None = refl
 run_types None (Some i) (Some p) = refl
 run_types (Some t) None p = refl
 run_types (Some t) (Some i) None = refl
-run_types (Some t) (Some i) (Some p) = run_identifiers t (two_numbers i) (two_numbers p)
+run_types (Some t) (Some i) (Some p) =
+    run_identifiers t (element_of i) (parent_of p) (first (two_numbers i)) (first (two_numbers p)) (element_counter (two_numbers i)) (parent_counter (two_numbers p))
 
 run_members : (four : Bool) (i p t : Option Data)
     → result_err (if four && (is_some i && (is_some p && is_some t))
@@ -218,19 +199,11 @@ deletions_end id n =
     (unless ((n == 0) || nat_lt longest_run n) (is_run_length n && true) fault.Char (Ok (deletion_run id n)) (demand true fault.Order ∷ [])
     (run_length n longest_run) refl)
 
-deletions_in_range : (n : ℕ) (i : ℕ × ℕ) (x : Bool)
-    → result_err (table.with_deletion_identifier (if x then Some (identifier i.0 i.1) else None) n)
-    ≡ first_fault (demand (both true (is_some (if x then Some (identifier i.0 i.1) else None)) && nat_le (i.0 + n) (MAX_COUNTER + 1)) fault.Id
-    ∷ demand (is_run_length n && true) fault.Char ∷ demand true fault.Order ∷ [])
-deletions_in_range n i false = refl
-deletions_in_range n i true = deletions_end (identifier i.0 i.1) n
-
-deletions_identifier : (n : ℕ) (i : Option (ℕ × ℕ))
-    → result_err (table.with_deletion_identifier (option_and_then if_in_range i) n)
-    ≡ first_fault (demand (both true (is_some (option_and_then if_in_range i)) && nat_le (first i + n) (MAX_COUNTER + 1)) fault.Id
-    ∷ demand (is_run_length n && true) fault.Char ∷ demand true fault.Order ∷ [])
-deletions_identifier n None = refl
-deletions_identifier n (Some i) = deletions_in_range n i (is_in_range i.0 i.1)
+deletions_identifier : (count : ℕ) (i : Option Identifier) (n : ℕ) → IfSome i (λ id. n ≡ id.counter) → result_err (table.with_deletion_identifier i count)
+    ≡ first_fault (demand (both true (is_some i) && nat_le (n + count) (MAX_COUNTER + 1)) fault.Id
+    ∷ demand (is_run_length count && true) fault.Char ∷ demand true fault.Order ∷ [])
+deletions_identifier count None n here = refl
+deletions_identifier count (Some i) n here = rw here (deletions_end i count)
 
 deletions_types : (n : Option ℕ) (i : Option Items) → result_err (table.with_deletion_types n i)
     ≡ first_fault (demand (both (is_some n) (is_some i)) fault.Kind
@@ -238,7 +211,7 @@ deletions_types : (n : Option ℕ) (i : Option Items) → result_err (table.with
     ∷ demand (is_run_length (unwrap_or n 0) && true) fault.Char ∷ demand true fault.Order ∷ [])
 deletions_types None i = refl
 deletions_types (Some n) None = refl
-deletions_types (Some n) (Some i) = deletions_identifier n (two_numbers i)
+deletions_types (Some n) (Some i) = deletions_identifier n (element_of i) (first (two_numbers i)) (element_counter (two_numbers i))
 
 deletions_members : (three : Bool) (n i : Option Data)
     → result_err (if three && (is_some n && is_some i)
@@ -300,17 +273,7 @@ met_last false y f g = refl
 met_last true false f g = refl
 met_last true true f g = refl
 
-of_kind : (ms : Members) (insertion deletion run deletions_run head end : Bool)
-    → result_err (
-    if insertion then table.single_reading (table.insertion (members_len ms) (object ms))
-    else (if deletion then table.single_reading (table.deletion (members_len ms) (object ms))
-    else (if run then table.run (members_len ms) (object ms)
-    else (if deletions_run then table.run_of_deletions (table.deletions_reading (members_len ms) (object ms))
-    else (if head then table.heading (members_len ms) (object ms)
-    else (if end then table.last (table.ending (members_len ms) (object ms)) else Err fault.Kind))))))
-    ≡ first_fault (kind_demands (object ms) (
-    if insertion then Some insertion_line else (if deletion then Some deletion_line else (if run then Some run_line
-    else (if deletions_run then Some deletions_line else (if head then Some head_line else (if end then Some end_line else None)))))))
+of_kind : (ms : Members) (i d r ds h e : Bool) → result_err (reading_by ms i d r ds h e) ≡ first_fault (kind_demands (object ms) (kind_by i d r ds h e))
 of_kind ms true d r ds h e =
     one (table.insertion (members_len ms) (object ms))
     ∙ insertion_members (members_len ms == 4) (get_member (codes "char") ms) (get_member (codes "id") ms) (get_member (codes "parent") ms)

@@ -18,7 +18,7 @@ use Rattle.rga_table.specs.declared.line.Line.TheVariants.{One, Run, Deletions, 
 use Rattle.rga_table.specs.Runs.{longest_run, stretch, IsRun, deletion_run, IsDeletionRun}
 use Rattle.rga_table.specs.Table as table
 use Rattle.rga_table.specs.Table.{Reading, AnyReading, number_of, two_numbers, element_of, parent_of, if_in_range, longest_line}
-use Rattle.rga_table.specs.Faults.{insertion_line, deletion_line, run_line, deletions_line, head_line, end_line, kinds, kind_among, kind_of, is_single, is_operation}
+use Rattle.rga_table.specs.Faults.{LineKind, insertion_line, deletion_line, run_line, deletions_line, head_line, end_line, kinds, kind_among, kind_of, is_single, is_operation}
 
 abbrev pub IsSoundOperation : Reading → Type 0
 IsSoundOperation (Ok op) = checked op ≡ Ok tt
@@ -166,16 +166,22 @@ sound_last (Err e) = tt
 
 -- ---- the whole
 
-sound_kind : (ms : Members) (insertion deletion run deletions_run head end : Bool)
-    → IsSound (is_single (
+-- by which of the words of `op` the line has
+abbrev pub kind_by : Bool → Bool → Bool → Bool → Bool → Bool → Option LineKind
+kind_by insertion deletion run deletions_run head end =
     if insertion then Some insertion_line else (if deletion then Some deletion_line else (if run then Some run_line
-    else (if deletions_run then Some deletions_line else (if head then Some head_line else (if end then Some end_line else None)))))))
-    (if insertion then table.single_reading (table.insertion (members_len ms) (object ms))
+    else (if deletions_run then Some deletions_line else (if head then Some head_line else (if end then Some end_line else None)))))
+
+abbrev pub reading_by : Members → Bool → Bool → Bool → Bool → Bool → Bool → AnyReading
+reading_by ms insertion deletion run deletions_run head end =
+    if insertion then table.single_reading (table.insertion (members_len ms) (object ms))
     else (if deletion then table.single_reading (table.deletion (members_len ms) (object ms))
     else (if run then table.run (members_len ms) (object ms)
     else (if deletions_run then table.run_of_deletions (table.deletions_reading (members_len ms) (object ms))
     else (if head then table.heading (members_len ms) (object ms)
-    else (if end then table.last (table.ending (members_len ms) (object ms)) else Err fault.Kind))))))
+    else (if end then table.last (table.ending (members_len ms) (object ms)) else Err fault.Kind)))))
+
+sound_kind : (ms : Members) (i d r ds h e : Bool) → IsSound (is_single (kind_by i d r ds h e)) (reading_by ms i d r ds h e)
 sound_kind ms true d r ds h e =
     let text : Option (List ℕ) = option_and_then as_str (get_member (codes "char") ms) in
     let id : Option Items = option_and_then as_array (get_member (codes "id") ms) in
