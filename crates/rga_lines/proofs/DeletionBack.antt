@@ -8,12 +8,12 @@ use Rattle.serde_json.specs.Data.{Data, number, unsigned, string, object, member
 use Rattle.serde_json.specs.Written.{compact_text}
 use Rattle.serde_json.proofs.Numbers.{number_of-decimal}
 use Rattle.serde_json.proofs.OnLiterals.{serde_json_on_literals}
-use Rattle.rga_table.specs.declared.line.Line.TheVariants.{Deletions}
-use Rattle.rga_table.specs.declared.fault.LineFault.TheVariants.{Kind}
-use Rattle.rga_table.specs.declared.deletion_run.DeletionRun.{DeletionRun}
-use Rattle.rga_table.specs.Runs.{IsDeletionRun}
+use Rattle.rga_lines.specs.declared.line.Line.TheVariants.{Deletions}
+use Rattle.rga_lines.specs.declared.fault.LineFault.TheVariants.{Kind}
+use Rattle.rga_lines.specs.declared.deletion_run.DeletionRun.{DeletionRun}
+use Rattle.rga_lines.specs.Runs.{IsDeletionRun}
 use Rattle.rga_lines.specs.Spelling.{pair_text, deletion_run_line}
-use Rattle.rga_table.specs.Table.{value_line, any_line_at, line_at}
+use Rattle.rga_lines.specs.Table.{value_line, any_line_at, line_at}
 use Rattle.rga_lines.proofs.ReadingLemmas.{alone}
 use Rattle.rga_lines.proofs.SpellingLemmas.{pair_data}
 use Rattle.rga_lines.proofs.ReadBack.{within, pair_text-length, IsUtf8-decimal, IsUtf8-pair_text, pair-numbers, pair-json, back}

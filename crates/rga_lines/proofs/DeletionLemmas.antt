@@ -6,8 +6,8 @@ use Rattle.rga_ops.specs.Identifier.{Identifier, is_in_range}
 use Rattle.rga_ops.specs.Operation.{checked}
 use Rattle.rga_ops.specs.declared.id.TheConstants.Id.{MAX_COUNTER}
 use Rattle.rga_ops.specs.declared.op.Op.{Op}
-use Rattle.rga_table.specs.declared.deletion_run.DeletionRun.{DeletionRun}
-use Rattle.rga_table.specs.Runs.{next, deletions_from, run_deletions, IsDeletionRun}
+use Rattle.rga_lines.specs.declared.deletion_run.DeletionRun.{DeletionRun}
+use Rattle.rga_lines.specs.Runs.{next, deletions_from, run_deletions, IsDeletionRun}
 
 -- the identifier of an element is not the root
 pub above_root : (id : Identifier) → is_in_range id.counter id.replica ≡ true → 0 < id.counter

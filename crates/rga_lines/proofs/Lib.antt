@@ -17,3 +17,7 @@ pub mod DeletionBack
 pub mod StandLemmas
 pub mod AddedLemmas
 pub mod SpelledLemmas
+mod ValueLemmas
+mod NextDeletion
+pub mod SoundLemmas
+mod FaultLaws

@@ -9,8 +9,8 @@ use Rattle.rga_ops.specs.Identifier.{Identifier}
 use Rattle.rga_ops.specs.declared.op.Op.{Op}
 use Rattle.rga_ops.specs.declared.op.Op.TheVariants.{Insert, Delete}
 use Rattle.std.specs.List.{flat_map, AllByRecursion}
-use Rattle.rga_table.specs.declared.deletion_run.DeletionRun.{DeletionRun}
-use Rattle.rga_table.specs.Runs.{Stretch, IsDeletionRun}
+use Rattle.rga_lines.specs.declared.deletion_run.DeletionRun.{DeletionRun}
+use Rattle.rga_lines.specs.Runs.{Stretch, IsDeletionRun}
 use Rattle.rga_lines.specs.Spelling.{escaped, pair_text, line, run_line, deletion_run_line, head_line, end_line, IsWritable, IsWritableRun}
 use Rattle.rga_lines.specs.Stream.{newline, HasNoNewline}
 use Rattle.rga_lines.proofs.SpellingLemmas.{escaped_all, Plain, Plain-encode}

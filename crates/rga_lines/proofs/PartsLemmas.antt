@@ -10,7 +10,7 @@ use lib.Utf8.{scalar, scalars}
 use Rattle.std.proofs.Math.Utf8.{low_scalar}
 use Rattle.std.proofs.lemmas.Fmt.{decimal_step, decimal_digit}
 use Rattle.rga_lines.specs.Spelling.{escaped}
-use Rattle.rga_table.specs.Table.{only_char}
+use Rattle.rga_lines.specs.Table.{only_char}
 use Rattle.rga_lines.proofs.SpellingLemmas.{wide}
 
 -- ---- a literal

@@ -27,12 +27,12 @@ use Rattle.rga_ops.specs.Operation.{checked}
 use Rattle.rga_ops.specs.declared.op.Op.{Op}
 use Rattle.rga_ops.specs.declared.op.Op.TheVariants.{Insert, Delete}
 use Rattle.rga_ops.proofs.AnswerLaws.{well_formed_insertion}
-use Rattle.rga_table.specs.declared.line.Line.{Line}
-use Rattle.rga_table.specs.declared.line.Line.TheVariants.{One, Head, Last}
-use Rattle.rga_table.specs.declared.fault.LineFault.TheVariants.{Kind}
+use Rattle.rga_lines.specs.declared.line.Line.{Line}
+use Rattle.rga_lines.specs.declared.line.Line.TheVariants.{One, Head, Last}
+use Rattle.rga_lines.specs.declared.fault.LineFault.TheVariants.{Kind}
 use Rattle.rga_lines.specs.Spelling.{escaped, pair_text, line, head_line, end_line, IsWritable}
-use Rattle.rga_table.specs.declared.line.TheConstants.{MAX_LINE}
-use Rattle.rga_table.specs.Table.{value_line, any_line_at, line_at}
+use Rattle.rga_lines.specs.declared.line.TheConstants.{MAX_LINE}
+use Rattle.rga_lines.specs.Table.{value_line, any_line_at, line_at}
 use Rattle.rga_lines.proofs.ReadingLemmas.{accepted, alone}
 use Rattle.rga_lines.proofs.SpellingLemmas.{escaped_all, pair_data, op_data, head_data, end_data, insert_data, insert_text, compact_op, compact_head, compact_end}
 

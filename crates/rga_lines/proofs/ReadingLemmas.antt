@@ -6,14 +6,14 @@ use Rattle.serde_json.specs.Data.{Data}
 use Rattle.serde_json.specs.Read.{read}
 use Rattle.rga_ops.specs.Operation.{checked}
 use Rattle.rga_ops.specs.declared.op.Op.{Op}
-use Rattle.rga_table.specs.declared.line.Line.TheVariants.{One, Run, Deletions, Head, Last}
-use Rattle.rga_table.specs.declared.line.TheConstants.{MAX_LINE}
-use Rattle.rga_table.specs.declared.deletion_run.DeletionRun.{DeletionRun}
-use Rattle.rga_table.specs.declared.fault.LineFault.TheVariants as fault
-use Rattle.rga_table.specs.Faults.{is_operation}
-use Rattle.rga_table.specs.Runs.{Stretch, IsRun, IsDeletionRun}
-use Rattle.rga_table.specs.Table.{Reading, AnyReading, value_line, text_line, any_line_at, operation_alone, line_at}
-use Rattle.rga_table.proofs.SoundLemmas.{IsSound, IsSoundOperation, sound_line}
+use Rattle.rga_lines.specs.declared.line.Line.TheVariants.{One, Run, Deletions, Head, Last}
+use Rattle.rga_lines.specs.declared.line.TheConstants.{MAX_LINE}
+use Rattle.rga_lines.specs.declared.deletion_run.DeletionRun.{DeletionRun}
+use Rattle.rga_lines.specs.declared.fault.LineFault.TheVariants as fault
+use Rattle.rga_lines.specs.Faults.{is_operation}
+use Rattle.rga_lines.specs.Runs.{Stretch, IsRun, IsDeletionRun}
+use Rattle.rga_lines.specs.Table.{Reading, AnyReading, value_line, text_line, any_line_at, operation_alone, line_at}
+use Rattle.rga_lines.proofs.SoundLemmas.{IsSound, IsSoundOperation, sound_line}
 
 -- ---- the whole
 

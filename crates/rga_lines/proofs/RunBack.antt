@@ -13,11 +13,11 @@ use Rattle.serde_json.specs.Data.{Data, string, object, member, no_members}
 use Rattle.serde_json.specs.Written.{compact_text}
 use Rattle.serde_json.proofs.OnLiterals.{serde_json_on_literals}
 use Rattle.rga_ops.specs.Identifier.{Identifier}
-use Rattle.rga_table.specs.declared.line.Line.TheVariants.{Run}
-use Rattle.rga_table.specs.declared.line.TheConstants.{MAX_LINE}
-use Rattle.rga_table.specs.Runs.{Stretch}
+use Rattle.rga_lines.specs.declared.line.Line.TheVariants.{Run}
+use Rattle.rga_lines.specs.declared.line.TheConstants.{MAX_LINE}
+use Rattle.rga_lines.specs.Runs.{Stretch}
 use Rattle.rga_lines.specs.Spelling.{escaped, pair_text, run_line, IsWritableRun}
-use Rattle.rga_table.specs.Table.{value_line, any_line_at}
+use Rattle.rga_lines.specs.Table.{value_line, any_line_at}
 use Rattle.rga_lines.proofs.SpellingLemmas.{pair_data, escape-encode}
 use Rattle.rga_lines.proofs.ReadBack.{InBounds, within, in_bounds, pair_text-length, IsUtf8-pair_text, pair-numbers, pair-json, escaped-length, back}
 

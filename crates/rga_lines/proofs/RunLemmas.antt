@@ -7,7 +7,7 @@ use Rattle.rga_ops.specs.Identifier.{Identifier, identifier}
 use Rattle.rga_ops.specs.Operation.{checked}
 use Rattle.rga_ops.specs.declared.op.Op.{Op}
 use Rattle.rga_ops.specs.declared.op.Op.TheVariants.{Insert}
-use Rattle.rga_table.specs.Runs.{Stretch, IsRun, next, run_operations, stretch_operations}
+use Rattle.rga_lines.specs.Runs.{Stretch, IsRun, next, run_operations, stretch_operations}
 use Rattle.rga_lines.specs.Spelling.{escaped, ReadsInsertions}
 use Rattle.std.proofs.lemmas.Bool.{lt-leb}
 use Rattle.rga_lines.proofs.SpellingLemmas.{escaped_all}

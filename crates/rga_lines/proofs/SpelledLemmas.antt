@@ -6,10 +6,10 @@ use Rattle.rga_ops.specs.Identifier.{Identifier, is_root, is_in_range}
 use Rattle.rga_ops.specs.Operation.{checked}
 use Rattle.rga_ops.specs.declared.op.Op.{Op}
 use Rattle.rga_ops.specs.declared.op.Op.TheVariants.{Insert, Delete}
-use Rattle.rga_table.specs.declared.line.Line.TheVariants.{One, Deletions}
-use Rattle.rga_table.specs.declared.run.TheConstants.{MAX_RUN}
-use Rattle.rga_table.specs.Runs.{stretch, deletion_run}
-use Rattle.rga_table.specs.Table.{any_line_at}
+use Rattle.rga_lines.specs.declared.line.Line.TheVariants.{One, Deletions}
+use Rattle.rga_lines.specs.declared.run.TheConstants.{MAX_RUN}
+use Rattle.rga_lines.specs.Runs.{stretch, deletion_run}
+use Rattle.rga_lines.specs.Table.{any_line_at}
 use Rattle.rga_lines.specs.Log.{SaysRun}
 use Rattle.rga_lines.specs.Spelling.{line, run_line, deletion_run_line, BeginsWithCharacter, BeginsWithIdentifier, ReadsInsertions, IsElement, IsElementOrRoot}
 use Rattle.rga_lines.proofs.DeletionBack.{deletions_back}

@@ -6,9 +6,9 @@ use Rattle.std.specs.List.{flat_map, AllByRecursion}
 use Rattle.rga_ops.specs.Identifier.{Identifier}
 use Rattle.rga_ops.specs.declared.op.Op.{Op}
 use Rattle.rga_ops.specs.declared.op.Op.TheVariants.{Insert, Delete}
-pub use Rattle.rga_table.specs.Table.{IsElement, IsElementOrRoot}
-use Rattle.rga_table.specs.Runs.{Stretch, IsRun, run_operations}
-use Rattle.rga_table.specs.declared.deletion_run.DeletionRun.{DeletionRun}
+pub use Rattle.rga_lines.specs.Table.{IsElement, IsElementOrRoot}
+use Rattle.rga_lines.specs.Runs.{Stretch, IsRun, run_operations}
+use Rattle.rga_lines.specs.declared.deletion_run.DeletionRun.{DeletionRun}
 
 -- a character below a space by four hexadecimal digits
 abbrev pub code_escape : ℕ → List ℕ

@@ -1,11 +1,11 @@
 //! What the bytes of a line say.
 ghost use Rattle.std.specs.Prelude.{◌≡◌, ◌≢◌, ◌<◌, length, Ok, Err};
-ghost use Rattle.rga_table.specs.Table.{operation_alone, any_line_at, line_at, longest_line};
-ghost use Rattle.rga_table.specs.declared.fault.LineFault.TheVariants.{Memory, Long};
+ghost use Rattle.rga_lines.specs.Table.{operation_alone, any_line_at, line_at, longest_line};
+ghost use Rattle.rga_lines.specs.declared.fault.LineFault.TheVariants.{Memory, Long};
 
 use crate::spelled::spelled;
+use crate::{Line, LineFault, MAX_LINE, line_of};
 use rga_ops::Op;
-use rga_table::{Line, LineFault, MAX_LINE, line_of};
 use serde_json::Value;
 use std::alloc::Global;
 

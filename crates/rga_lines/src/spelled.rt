@@ -3,14 +3,14 @@
 ghost use Rattle.std.specs.Prelude.{◌≡◌, true, Ok, IfOk, IfErr, IfSome};
 ghost use Rattle.rga_lines.specs.Log.{SaysRun};
 ghost use Rattle.rga_lines.specs.Spelling.{ReadsInsertions};
-ghost use Rattle.rga_table.specs.Table.{any_line_at};
-ghost use Rattle.rga_table.specs.declared.line.Line.TheVariants.{One, Deletions};
-ghost use Rattle.rga_table.specs.declared.fault.LineFault.TheVariants.{Memory};
+ghost use Rattle.rga_lines.specs.Table.{any_line_at};
+ghost use Rattle.rga_lines.specs.declared.line.Line.TheVariants.{One, Deletions};
+ghost use Rattle.rga_lines.specs.declared.fault.LineFault.TheVariants.{Memory};
 
-use crate::parts::{after_literal, character, is_literal, number, pair_after};
+use crate::parts::element_or_root;
+use crate::spelled_parts::{after_literal, character, is_literal, number, pair_after};
+use crate::{DeletionRun, Line, LineFault, MAX_RUN};
 use rga_ops::{Id, Op};
-use rga_table::parts::element_or_root;
-use rga_table::{DeletionRun, Line, LineFault, MAX_RUN};
 
 /// What the bytes of a line say, where they are so spelled. `None` says nothing of the line: it may
 /// be spelled otherwise, or be that of a run of insertions, which `read_insertions` reads.

@@ -5,17 +5,17 @@ ghost use Rattle.std.specs.Char.{IsScalar};
 ghost use Rattle.rga_ops.specs.Operation.{checked};
 ghost use Rattle.rga_ops.specs.declared.op.Op.TheVariants.{Insert, Delete};
 ghost use Rattle.std.specs.List.{flat_map, AllByRecursion};
-ghost use Rattle.rga_table.specs.Runs.{IsRun};
+ghost use Rattle.rga_lines.specs.Runs.{IsRun};
 ghost use Rattle.rga_lines.specs.Spelling.{code_escape, escaped, pair_text, line, run_line};
 ghost use Rattle.rga_lines.specs.Spelling.{deletion_run_line, head_line, end_line};
 ghost use Rattle.rga_lines.specs.Spelling.{IsWritableRun};
 ghost use Rattle.rga_lines.specs.Spelling.{IsElementOrRoot, IsWritable};
-ghost use Rattle.rga_table.specs.declared.fault.LineFault.TheVariants.{Memory};
+ghost use Rattle.rga_lines.specs.declared.fault.LineFault.TheVariants.{Memory};
 
 use crate::pieces::{hex_digit, short_escape};
+use crate::{DeletionRun, LineFault, Run};
 use itoa::Buffer;
 use rga_ops::{Id, Op};
-use rga_table::{DeletionRun, LineFault, Run};
 use std::alloc::{AllocError, Global};
 
 /// Room for any line that is written, the text of a run aside. The longest is an insertion's: 38

@@ -1,4 +1,0 @@
-mod ValueLemmas
-mod NextDeletion
-pub mod SoundLemmas
-mod FaultLaws
