@@ -6,9 +6,9 @@ use Rattle.std.specs.Str.{bytes_eq}
 use Rattle.serde_json.specs.Data.{Data, Items}
 use Rattle.serde_json.specs.Find.{get, as_str, as_array}
 use Rattle.rga_ops.specs.Identifier.{Identifier}
-use Rattle.rga_table.specs.declared.fault.LineFault.TheVariants as fault
-use Rattle.rga_table.specs.Table.{AnyReading, number_of, text_at, value_line}
-use Rattle.rga_table.specs.Faults.{demand, first_fault}
+use Rattle.rga_lines.specs.declared.fault.LineFault.TheVariants as fault
+use Rattle.rga_lines.specs.Table.{AnyReading, number_of, text_at, value_line}
+use Rattle.rga_lines.specs.Faults.{demand, first_fault}
 use Rattle.mg_events.specs.declared.report.Report.TheVariants.{Rest}
 use Rattle.mg_events.specs.Reports.{ReportReading, member_count, more_count, more_of, with_paste_types, paste, with_splice_types, splice, with_size_types, size, are_arrays, places_of, with_places, with_places_type, places, rest, operations_report, of_kind, with_name, value_report}
 use Rattle.mg_events.specs.Faults.{ReportKind, paste_report, splice_report, size_report, places_report, rest_report, kinds, kind_among, kind_of, text_member, number_member, places_member, are_places, has_type, report_demands}

@@ -1,7 +1,7 @@
 -- Where memory was refused, a report is refused for it.
 use Rattle.std.proofs.Common.{◌≡◌, ◌≢◌, ℕ, Bool, true, false, List, [], ◌∷◌, ◌++◌, refl, ap, ◌∙◌, subst, inl, inr}
 use Rattle.std.specs.Prelude.{◌==◌, if◌then◌else◌}
-use Rattle.rga_table.specs.declared.fault.LineFault.TheVariants as fault
+use Rattle.rga_lines.specs.declared.fault.LineFault.TheVariants as fault
 use Rattle.mg_events.specs.declared.reader.Phase.{Phase}
 use Rattle.mg_events.specs.declared.reader.Phase.TheVariants.{Keys, Report, Dropping}
 use Rattle.mg_events.specs.declared.reader.Event.{Event}

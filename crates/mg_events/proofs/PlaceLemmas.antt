@@ -5,7 +5,7 @@ use Rattle.serde_json.specs.declared.value.Value.{Value}
 use Rattle.serde_json.specs.Find.{as_array}
 use Rattle.serde_json.specs.View.{items_view, view}
 use Rattle.rga_ops.specs.Identifier.{Identifier}
-use Rattle.rga_table.specs.Table.{two_numbers, parent_of}
+use Rattle.rga_lines.specs.Table.{two_numbers, parent_of}
 use Rattle.mg_events.specs.Reports.{with_place, places_of}
 
 -- identifiers behind others

@@ -9,11 +9,11 @@ use Rattle.serde_json.specs.Data.{Data, null, boolean, number, string, array, ob
 use Rattle.serde_json.specs.Events.{members_len}
 use Rattle.serde_json.specs.Read.{read}
 use Rattle.serde_json.specs.Find.{get_member, as_str}
-use Rattle.rga_table.specs.declared.line.Line.{Line}
-use Rattle.rga_table.specs.declared.fault.LineFault.{LineFault}
-use Rattle.rga_table.specs.declared.fault.LineFault.TheVariants as fault
-use Rattle.rga_table.specs.Table as table
-use Rattle.rga_table.specs.Table.{AnyReading, value_line, text_line, any_line_at}
+use Rattle.rga_lines.specs.declared.line.Line.{Line}
+use Rattle.rga_lines.specs.declared.fault.LineFault.{LineFault}
+use Rattle.rga_lines.specs.declared.fault.LineFault.TheVariants as fault
+use Rattle.rga_lines.specs.Table as table
+use Rattle.rga_lines.specs.Table.{AnyReading, value_line, text_line, any_line_at}
 use Rattle.mg_events.specs.Reports.{ReportReading, member_count, paste, splice, size, places, rest, operations_report, of_kind, with_name, value_report, text_report, report_at}
 
 abbrev of_other_kind : AnyReading

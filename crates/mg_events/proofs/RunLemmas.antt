@@ -6,11 +6,11 @@ use Rattle.serde_json.specs.Data.{Data, Items}
 use Rattle.serde_json.specs.Read.{read}
 use Rattle.serde_json.specs.Find.{get}
 use Rattle.rga_ops.specs.Identifier.{Identifier}
-use Rattle.rga_table.specs.Runs.{Stretch, IsRun, IsDeletionRun}
-use Rattle.rga_table.specs.declared.deletion_run.DeletionRun.{DeletionRun}
-use Rattle.rga_table.specs.declared.line.Line.TheVariants as line
-use Rattle.rga_table.specs.declared.fault.LineFault.TheVariants as fault
-use Rattle.rga_table.specs.Table.{AnyReading, text_at, array_at, number_at, value_line, text_line, any_line_at}
+use Rattle.rga_lines.specs.Runs.{Stretch, IsRun, IsDeletionRun}
+use Rattle.rga_lines.specs.declared.deletion_run.DeletionRun.{DeletionRun}
+use Rattle.rga_lines.specs.declared.line.Line.TheVariants as line
+use Rattle.rga_lines.specs.declared.fault.LineFault.TheVariants as fault
+use Rattle.rga_lines.specs.Table.{AnyReading, text_at, array_at, number_at, value_line, text_line, any_line_at}
 use Rattle.rga_lines.proofs.ReadingLemmas.{any_run, any_deletions}
 use Rattle.mg_events.specs.declared.report.Report.TheVariants.{Rest}
 use Rattle.mg_events.specs.Reports.{ReportReading, HasSoundRun, member_count, more_of, with_paste_types, paste, with_splice_types, splice, with_size_types, size, are_arrays, places_of, with_places, with_places_type, places, rest, operations_report, of_kind, with_name, value_report, text_report, report_at}

@@ -5,9 +5,9 @@ use Rattle.std.specs.List.{list_all}
 use Rattle.std.specs.Str.{bytes_eq}
 use Rattle.serde_json.specs.Data.{Data, Items}
 use Rattle.serde_json.specs.Find.{get, as_str, as_array}
-use Rattle.rga_table.specs.Table.{number_of, text_at}
-use Rattle.rga_table.specs.Faults.{Demand, demand}
-use Rattle.rga_table.specs.declared.fault.LineFault.TheVariants as fault
+use Rattle.rga_lines.specs.Table.{number_of, text_at}
+use Rattle.rga_lines.specs.Faults.{Demand, demand}
+use Rattle.rga_lines.specs.declared.fault.LineFault.TheVariants as fault
 use Rattle.mg_events.specs.Reports.{member_count, more_count, more_of, are_arrays, places_of}
 
 pub data ReportKind : Type 0 where

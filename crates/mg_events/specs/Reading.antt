@@ -1,7 +1,7 @@
 -- Keys, and reports among them: the byte 255, a line of at most 65536 bytes, and a newline.
 use Rattle.std.specs.Prelude.{◌≡◌, ℕ, ◌==◌, Bool, true, false, nat_lt, if◌then◌else◌, List, [], ◌∷◌, ◌++◌, length, ◌⊎◌, ⊤, ◌≢◌}
-use Rattle.rga_table.specs.declared.fault.LineFault.{LineFault}
-use Rattle.rga_table.specs.declared.fault.LineFault.TheVariants as fault
+use Rattle.rga_lines.specs.declared.fault.LineFault.{LineFault}
+use Rattle.rga_lines.specs.declared.fault.LineFault.TheVariants as fault
 use Rattle.mg_events.specs.declared.reader.Phase.{Phase}
 use Rattle.mg_events.specs.declared.reader.Phase.TheVariants.{Keys, Report, Dropping}
 use Rattle.mg_events.specs.declared.reader.Event.{Event}

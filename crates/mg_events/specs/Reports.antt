@@ -6,11 +6,11 @@ use Rattle.serde_json.specs.Data.{Data, Items, no_items, item}
 use Rattle.serde_json.specs.Read.{read}
 use Rattle.serde_json.specs.Find.{get, as_bool, as_array}
 use Rattle.rga_ops.specs.Identifier.{Identifier}
-use Rattle.rga_table.specs.declared.line.Line.TheVariants as line
-use Rattle.rga_table.specs.declared.fault.LineFault.{LineFault}
-use Rattle.rga_table.specs.declared.fault.LineFault.TheVariants as fault
-use Rattle.rga_table.specs.Runs.{IsRun, IsDeletionRun}
-use Rattle.rga_table.specs.Table.{AnyReading, has_member, count_of, text_at, array_at, number_at, parent_of, value_line}
+use Rattle.rga_lines.specs.declared.line.Line.TheVariants as line
+use Rattle.rga_lines.specs.declared.fault.LineFault.{LineFault}
+use Rattle.rga_lines.specs.declared.fault.LineFault.TheVariants as fault
+use Rattle.rga_lines.specs.Runs.{IsRun, IsDeletionRun}
+use Rattle.rga_lines.specs.Table.{AnyReading, has_member, count_of, text_at, array_at, number_at, parent_of, value_line}
 use Rattle.mg_events.specs.declared.report.Report.{Report}
 use Rattle.mg_events.specs.declared.report.Report.TheVariants.{One, Run, Deletions, Paste, Splice, Size, Places, Rest}
 

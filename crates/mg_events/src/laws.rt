@@ -5,10 +5,10 @@
 ghost use Rattle.std.specs.Prelude.{◌≡◌, ◌≢◌, ◌≤◌, ◌<◌, [], ◌∷◌, ◌++◌, ℕ, List, length, Some, Err, true};
 ghost use Rattle.std.specs.Result.{result_err};
 ghost use Rattle.serde_json.specs.Data.{Data};
-ghost use Rattle.rga_table.specs.Faults.{first_fault};
-ghost use Rattle.rga_table.specs.Table.{any_line_at};
-ghost use Rattle.rga_table.specs.declared.fault.LineFault.{LineFault};
-ghost use Rattle.rga_table.specs.declared.fault.LineFault.TheVariants.{Kind, Long, Memory};
+ghost use Rattle.rga_lines.specs.Faults.{first_fault};
+ghost use Rattle.rga_lines.specs.Table.{any_line_at};
+ghost use Rattle.rga_lines.specs.declared.fault.LineFault.{LineFault};
+ghost use Rattle.rga_lines.specs.declared.fault.LineFault.TheVariants.{Kind, Long, Memory};
 ghost use Rattle.mg_events.specs.Reports.{operations_report, report_at, value_report};
 ghost use Rattle.mg_events.specs.Faults.{ReportKind, kind_of, report_demands};
 ghost use Rattle.mg_events.specs.Reading.{HasNoMemory, Leads, Reading, Told, after, dropping, events, fresh, is_in_report, report, refused};

@@ -1,7 +1,7 @@
 //! What the bytes of a report's line say.
 ghost use Rattle.std.specs.Prelude.{◌≡◌, ◌≢◌, ◌<◌, ◌≤◌, length, Err, IfOk};
-ghost use Rattle.rga_table.specs.Table.{any_line_at};
-ghost use Rattle.rga_table.specs.declared.fault.LineFault.TheVariants.{Memory, Long};
+ghost use Rattle.rga_lines.specs.Table.{any_line_at};
+ghost use Rattle.rga_lines.specs.declared.fault.LineFault.TheVariants.{Memory, Long};
 ghost use Rattle.mg_events.specs.Reports.{report_at, HasSoundRun};
 
 use crate::report::Report;

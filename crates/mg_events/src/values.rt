@@ -3,16 +3,15 @@ ghost use Rattle.std.specs.Prelude.{◌≡◌, ◌≢◌, codes, IfOk, IfErr, Er
 ghost use Rattle.std.specs.Str.{chars};
 ghost use Rattle.serde_json.specs.View.{items_view, view};
 ghost use Rattle.serde_json.specs.Find.{get, as_array};
-ghost use Rattle.rga_table.specs.Table.{parent_of, two_numbers, value_line};
-ghost use Rattle.rga_table.specs.declared.fault.LineFault.TheVariants.{Memory};
+ghost use Rattle.rga_lines.specs.Table.{parent_of, two_numbers, value_line};
+ghost use Rattle.rga_lines.specs.declared.fault.LineFault.TheVariants.{Memory};
 ghost use Rattle.mg_events.specs.Reports as spec;
 
 use crate::report::{Places, Report};
 use mg_plain::Chars;
-use rga_lines::{Line, LineFault};
+use rga_lines::parts::element_or_root;
+use rga_lines::{Line, LineFault, line_of};
 use rga_ops::Id;
-use rga_table::line_of;
-use rga_table::parts::element_or_root;
 use serde_json::Value;
 use std::alloc::Global;
 

@@ -24,7 +24,7 @@ use Rattle.mg_editor.proofs.EachLaws.{nothing_made, stay_here}
 use Rattle.mg_editor.proofs.HoldingLaws.{pressed_on}
 use Rattle.mg_editor.proofs.RequestLaws as requests
 use Rattle.mg_live.specs.Keys.{TakesKey}
-use Rattle.rga_table.specs.declared.fault.LineFault.{LineFault}
+use Rattle.rga_lines.specs.declared.fault.LineFault.{LineFault}
 use Rattle.mg_live.specs.Reports.{TakesLine, RefusesLine, counted}
 use Rattle.mg_live.specs.Running.{Noted, TakesEvent}
 use Rattle.mg_live.specs.Standing.{AreKept, AreKeptWithin, ComesBy, Stands, live_name, operations_at}

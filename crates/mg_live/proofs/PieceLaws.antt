@@ -1,6 +1,6 @@
 -- What becomes of a piece of text, by what the code made of it.
 use Rattle.std.proofs.Common.{◌≡◌, Bool, true, List, ℕ, Ok, Err, refl, sym, subst}
-use Rattle.rga_table.specs.declared.fault.LineFault.{LineFault}
+use Rattle.rga_lines.specs.declared.fault.LineFault.{LineFault}
 use Rattle.mg_editor.specs.Editors.{Editor}
 use Rattle.mg_live.specs.States.{Live}
 use Rattle.mg_live.specs.Gathering.{Gathered}

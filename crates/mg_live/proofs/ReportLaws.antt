@@ -9,9 +9,9 @@ use Rattle.rga_ops.specs.ListAnswer.{list_answer}
 use Rattle.rga_ops.specs.declared.op.Op.{Op}
 use Rattle.rga_ops.specs.declared.refusal.Refusal.{Refusal}
 use Rattle.rga_ops.specs.declared.refusal.Taken.{Taken}
-use Rattle.rga_table.specs.Runs.{stretch_operations, run_deletions}
-use Rattle.rga_table.specs.declared.fault.LineFault.{LineFault}
-use Rattle.rga_table.specs.declared.fault.LineFault.TheVariants as line
+use Rattle.rga_lines.specs.Runs.{stretch_operations, run_deletions}
+use Rattle.rga_lines.specs.declared.fault.LineFault.{LineFault}
+use Rattle.rga_lines.specs.declared.fault.LineFault.TheVariants as line
 use Rattle.mg_buffer.specs.OpenState.{OpenState}
 use Rattle.mg_held.specs.Held.{Held}
 use Rattle.mg_events.specs.Reports.{report_at}

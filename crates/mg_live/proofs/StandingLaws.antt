@@ -6,7 +6,7 @@ use Rattle.std.specs.Result.{MatchResult}
 use Rattle.rga_exchange.specs.Counting.{Calls, CountsAs, StaysFlushed, one_more}
 use Rattle.mg_editor.specs.Editors.{Editor}
 use Rattle.mg_editor.specs.declared.live_saving.Writing.{Writing}
-use Rattle.rga_table.specs.declared.fault.LineFault.{LineFault}
+use Rattle.rga_lines.specs.declared.fault.LineFault.{LineFault}
 use Rattle.mg_events.specs.declared.report.Report.{Report}
 use Rattle.mg_events.specs.Reading.{Reading, Told, key, report, refused, step}
 use Rattle.mg_minibuffer.specs.declared.ending.Request.{Request}

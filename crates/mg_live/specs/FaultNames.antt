@@ -1,8 +1,8 @@
 -- The names of the faults of reports.
 use Rattle.std.specs.Prelude.{ℕ, List, codes}
 use Rattle.rga_ops.specs.RefusalName.{refusal_name}
-use Rattle.rga_table.specs.FaultName.{fault_name}
-use Rattle.rga_table.specs.declared.fault.LineFault.TheVariants as line
+use Rattle.rga_lines.specs.FaultName.{fault_name}
+use Rattle.rga_lines.specs.declared.fault.LineFault.TheVariants as line
 use Rattle.mg_editor.specs.declared.pasting.PasteFault.{PasteFault}
 use Rattle.mg_editor.specs.declared.pasting.PasteFault.TheVariants as paste
 use Rattle.mg_live.specs.declared.fault.ReportFault.{ReportFault}

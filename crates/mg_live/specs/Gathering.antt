@@ -1,7 +1,7 @@
 -- Text that comes in several reports.
 use Rattle.std.specs.Prelude.{ℕ, ◌+◌, ◌||◌, not, Bool, false, List, [], ◌++◌, length, nat_le, nat_eq, if◌then◌else◌}
-use Rattle.rga_table.specs.declared.fault.LineFault.{LineFault}
-use Rattle.rga_table.specs.declared.fault.LineFault.TheVariants.{Long}
+use Rattle.rga_lines.specs.declared.fault.LineFault.{LineFault}
+use Rattle.rga_lines.specs.declared.fault.LineFault.TheVariants.{Long}
 use Rattle.mg_live.specs.declared.gathered.Piece.{Piece}
 use Rattle.mg_live.specs.declared.gathered.Piece.TheVariants.{Held, Whole, Dropped}
 

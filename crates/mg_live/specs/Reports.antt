@@ -12,9 +12,9 @@ use Rattle.rga_ops.specs.declared.refusal.Refusal.{Refusal}
 use Rattle.rga_ops.specs.declared.refusal.Refusal.TheVariants as refusal
 use Rattle.rga_ops.specs.declared.refusal.Taken.{Taken}
 use Rattle.rga_ops.specs.declared.refusal.Taken.TheVariants.{New}
-use Rattle.rga_table.specs.Runs.{stretch_operations, run_deletions}
-use Rattle.rga_table.specs.declared.fault.LineFault.{LineFault}
-use Rattle.rga_table.specs.declared.fault.LineFault.TheVariants as line
+use Rattle.rga_lines.specs.Runs.{stretch_operations, run_deletions}
+use Rattle.rga_lines.specs.declared.fault.LineFault.{LineFault}
+use Rattle.rga_lines.specs.declared.fault.LineFault.TheVariants as line
 use Rattle.mg_events.specs.Reports.{report_at}
 use Rattle.mg_events.specs.declared.report.Report.{Report}
 use Rattle.mg_events.specs.declared.report.Report.TheVariants as report

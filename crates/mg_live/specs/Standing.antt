@@ -4,8 +4,8 @@ use Rattle.std.specs.List.{Contains}
 use Rattle.std.specs.Str.{is_utf8, all_scalars}
 use Rattle.rga_ops.specs.Content.{Content, Holds, IsSound}
 use Rattle.rga_ops.specs.declared.op.Op.{Op}
-use Rattle.rga_table.specs.Runs.{stretch_operations, run_deletions}
-use Rattle.rga_table.specs.declared.fault.LineFault.{LineFault}
+use Rattle.rga_lines.specs.Runs.{stretch_operations, run_deletions}
+use Rattle.rga_lines.specs.declared.fault.LineFault.{LineFault}
 use Rattle.rga_exchange.specs.Sending.{StandsFor}
 use Rattle.mg_buffer.specs.OpenState.{OpenState}
 use Rattle.mg_held.specs.Held.{Held, log_bytes}

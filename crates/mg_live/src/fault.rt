@@ -3,8 +3,8 @@ ghost use Rattle.std.specs.Prelude.{◌≡◌};
 ghost use Rattle.mg_live.specs.FaultNames.{report_fault_name};
 
 use mg_editor::PasteFault;
+use rga_lines::LineFault;
 use rga_ops::Refusal;
-use rga_table::LineFault;
 
 /// Why a report was not taken, which then changed nothing.
 #[derive(Clone, Copy, PartialEq, Eq)]

@@ -3,7 +3,7 @@ ghost use Rattle.std.specs.Prelude.{◌≡◌, ◌⊎◌};
 ghost use Rattle.mg_live.specs.Gathering as spec;
 
 use mg_plain::Chars;
-use rga_table::LineFault;
+use rga_lines::LineFault;
 use std::alloc::Global;
 use std::marker::Model;
 

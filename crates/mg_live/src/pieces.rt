@@ -9,9 +9,9 @@ use crate::live::Live;
 use crate::made::{mark_at, mark_current, note_made};
 use mg_editor::Editor;
 use mg_workspace::{ActionFault, Cause};
+use rga_lines::LineFault;
 use rga_ops::Refusal;
 use rga_store::TextStore;
-use rga_table::LineFault;
 
 /// The whole of a pasted text. Answers whether there was memory to note what it made.
 fn paste_whole<S: TextStore>(

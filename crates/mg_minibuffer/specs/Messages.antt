@@ -2,7 +2,7 @@
 use Rattle.std.specs.Prelude.{ℕ, List, [], ◌++◌, codes}
 use Rattle.std.specs.Fmt.{decimal}
 use Rattle.rga_ops.specs.RefusalName.{refusal_name}
-use Rattle.rga_table.specs.FaultName.{fault_name}
+use Rattle.rga_lines.specs.FaultName.{fault_name}
 use Rattle.mg_plain.specs.NoticeMessage.{notice_message}
 use Rattle.mg_minibuffer.specs.declared.message.Message.{Message}
 use Rattle.mg_minibuffer.specs.declared.message.Message.TheVariants.{Nothing, Quit, UndefinedKey, Refused, BufferFull, IdentifiersUsedUp, Replaced, NoSuchCommand, WindowTooSmall, OnlyOneWindow, Wrote, NoChanges, TornLog, FileFault, NoSuchBuffer, BufferIsChanged, OnlyOneBuffer, TooManyBuffers, NotText, BadLine, RefusedLine, Exchanged, SocketFault, NoPort, Cut, WrongCount}

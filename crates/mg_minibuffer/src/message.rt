@@ -3,8 +3,8 @@ ghost use Rattle.std.specs.Prelude.{◌≡◌, IfOk, string_bytes};
 ghost use Rattle.mg_minibuffer.specs.Messages as spec;
 
 use mg_plain::Notice;
+use rga_lines::LineFault;
 use rga_ops::Refusal;
-use rga_table::LineFault;
 use std::alloc::{AllocError, Global};
 
 /// What the echo line says. A message stands until the next step that is not pending.

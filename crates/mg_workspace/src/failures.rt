@@ -4,8 +4,8 @@ ghost use Rattle.mg_workspace.specs.Failures as spec;
 
 use crate::buffers::moved;
 use arrayvec::ArrayVec;
+use rga_lines::LineFault;
 use rga_ops::Refusal;
-use rga_table::LineFault;
 use std::marker::Model;
 
 /// How many failures are kept: the two of each buffer that may be open, and that of one that was

@@ -5,16 +5,10 @@ use Rattle.rga_ops.specs.declared.op.Op.TheVariants.{Insert, Delete}
 use Rattle.rga_lines.specs.Spelling.{escaped, pair_text, line}
 
 pub three_parts : (t₀ a p b q c t₁ t₂ t₃ : List ℕ) → t₁ ≡ t₀ ++ (a ++ p) → t₂ ≡ t₁ ++ (b ++ q) → t₃ ≡ t₂ ++ c → t₃ ≡ t₀ ++ (a ++ (p ++ (b ++ (q ++ c))))
-three_parts t₀ a p b q c t₁ t₂ t₃ h₁ h₂ h₃ =
-    let two : t₃ ≡ t₁ ++ (b ++ (q ++ c)) = h₃ ∙ ap (λ l. l ++ c) h₂ ∙ append_assoc t₁ (b ++ q) c ∙ ap (λ l. t₁ ++ l) (append_assoc b q c) in
-    two ∙ ap (λ l. l ++ (b ++ (q ++ c))) h₁ ∙ append_assoc t₀ (a ++ p) (b ++ (q ++ c)) ∙ ap (λ l. t₀ ++ l) (append_assoc a p (b ++ (q ++ c)))
+three_parts t₀ a p b q c t₁ t₂ t₃ h₁ h₂ h₃ = rw (h₃, h₂, h₁) (simp append_assoc)
 
 pub five_parts : (t₀ a p b q c d e t₁ t₂ t₃ t₄ t₅ : List ℕ) → t₁ ≡ t₀ ++ (a ++ p) → t₂ ≡ t₁ ++ (b ++ q) → t₃ ≡ t₂ ++ c → t₄ ≡ t₃ ++ d → t₅ ≡ t₄ ++ e → t₅ ≡ t₀ ++ (a ++ (p ++ (b ++ (q ++ (c ++ (d ++ e))))))
-five_parts t₀ a p b q c d e t₁ t₂ t₃ t₄ t₅ h₁ h₂ h₃ h₄ h₅ =
-    let text = c ++ (d ++ e) in
-    let four : t₅ ≡ t₃ ++ (d ++ e) = h₅ ∙ ap (λ l. l ++ e) h₄ ∙ append_assoc t₃ d e in
-    let three : t₅ ≡ t₂ ++ text = four ∙ ap (λ l. l ++ (d ++ e)) h₃ ∙ append_assoc t₂ c (d ++ e) in
-    three_parts t₀ a p b q text t₁ t₂ t₅ h₁ h₂ three
+five_parts t₀ a p b q c d e t₁ t₂ t₃ t₄ t₅ h₁ h₂ h₃ h₄ h₅ = rw (h₅, h₄, h₃, h₂, h₁) (simp append_assoc)
 
 nine_parts : (t₀ t₁ t₂ t₃ t₄ t₅ t₆ t₇ a b c d e f g h i j : List ℕ) → t₁ ≡ t₀ ++ a → t₂ ≡ t₁ ++ b → t₃ ≡ t₂ ++ (c ++ d) → t₄ ≡ t₃ ++ (e ++ f) → t₅ ≡ t₄ ++ (g ++ h) → t₆ ≡ t₅ ++ (e ++ i) → t₇ ≡ t₆ ++ j
     → t₇ ≡ t₀ ++ (a ++ (b ++ (c ++ (d ++ (e ++ (f ++ (g ++ (h ++ (e ++ (i ++ j))))))))))

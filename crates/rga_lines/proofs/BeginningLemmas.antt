@@ -20,12 +20,12 @@ use Rattle.serde_json.specs.Find.{as_object}
 use Rattle.rga_ops.specs.Identifier.{Identifier}
 use Rattle.rga_ops.specs.declared.op.Op.{Op}
 use Rattle.rga_ops.specs.declared.op.Op.TheVariants.{Insert, Delete}
-use Rattle.rga_table.specs.declared.fault.LineFault.{LineFault}
-use Rattle.rga_table.specs.declared.fault.LineFault.TheVariants as fault
-use Rattle.rga_table.specs.Runs.{Stretch}
+use Rattle.rga_lines.specs.declared.fault.LineFault.{LineFault}
+use Rattle.rga_lines.specs.declared.fault.LineFault.TheVariants as fault
+use Rattle.rga_lines.specs.Runs.{Stretch}
 use Rattle.rga_lines.specs.Spelling.{escaped, pair_text, line, run_from, run_line, IsWritable, IsWritableRun}
-use Rattle.rga_table.specs.declared.line.TheConstants.{MAX_LINE}
-use Rattle.rga_table.specs.Table.{value_line, text_line, any_line_at}
+use Rattle.rga_lines.specs.declared.line.TheConstants.{MAX_LINE}
+use Rattle.rga_lines.specs.Table.{value_line, text_line, any_line_at}
 use Rattle.rga_lines.proofs.SpellingLemmas.{escape-encode}
 use Rattle.rga_lines.proofs.ReadBack.{InBounds, within, in_bounds}
 use Rattle.rga_lines.proofs.RunBack.{escape-encodes}

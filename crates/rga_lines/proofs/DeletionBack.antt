@@ -1,22 +1,21 @@
 -- The line of a run of deletions is read back.
-use Rattle.std.proofs.Common.{◌≡◌, ◌<◌, ◌^◌, ◌++◌, codes, decimal, Some, Ok, Err, refl, arith, length-append, lit≤, le-ltb, ne_eqb}
+use Rattle.std.proofs.Common.{◌≡◌, ◌<◌, ◌^◌, ◌++◌, codes, decimal, Ok, Err, refl, arith, length-append, lit≤, le-ltb, ne_eqb}
 use Rattle.std.proofs.lemmas.Str.{IsUtf8-append}
 use Rattle.std.proofs.lemmas.Fmt.{length-decimal-le}
 use Rattle.json.proofs.Printed.Decimals.{IsNumber-decimal}
 use Rattle.json.proofs.Printed.Utf8.{IsUtf8-are_ascii}
 use Rattle.serde_json.specs.Data.{Data, number, unsigned, string, object, member, no_members}
-use Rattle.serde_json.specs.Read.{of_json}
-use Rattle.serde_json.specs.Written.{compact_text, outline}
+use Rattle.serde_json.specs.Written.{compact_text}
 use Rattle.serde_json.proofs.Numbers.{number_of-decimal}
 use Rattle.serde_json.proofs.OnLiterals.{serde_json_on_literals}
-use Rattle.rga_table.specs.declared.line.Line.TheVariants.{Deletions}
-use Rattle.rga_table.specs.declared.fault.LineFault.TheVariants.{Kind}
-use Rattle.rga_table.specs.declared.deletion_run.DeletionRun.{DeletionRun}
-use Rattle.rga_lines.specs.Members.{pair_data}
-use Rattle.rga_table.specs.Runs.{IsDeletionRun}
+use Rattle.rga_lines.specs.declared.line.Line.TheVariants.{Deletions}
+use Rattle.rga_lines.specs.declared.fault.LineFault.TheVariants.{Kind}
+use Rattle.rga_lines.specs.declared.deletion_run.DeletionRun.{DeletionRun}
+use Rattle.rga_lines.specs.Runs.{IsDeletionRun}
 use Rattle.rga_lines.specs.Spelling.{pair_text, deletion_run_line}
-use Rattle.rga_table.specs.Table.{value_line, any_line_at, line_at}
+use Rattle.rga_lines.specs.Table.{value_line, any_line_at, line_at}
 use Rattle.rga_lines.proofs.ReadingLemmas.{alone}
+use Rattle.rga_lines.proofs.SpellingLemmas.{pair_data}
 use Rattle.rga_lines.proofs.ReadBack.{within, pair_text-length, IsUtf8-decimal, IsUtf8-pair_text, pair-numbers, pair-json, back}
 
 abbrev deletions_data : DeletionRun → Data
@@ -30,15 +29,8 @@ module _ (r : DeletionRun) (h : IsDeletionRun r) where
   small : r.count < 2 ^ 64
   small = omega (arith, h.few)
 
-  deletions-json : of_json (outline (deletions_data r)) ≡ Some (deletions_data r)
-  deletions-json = rw (number_of-decimal r.count small, pair-json r.id (within r.id h.element))
-
-  deletions-value : value_line (deletions_data r) ≡ Ok (Deletions r)
-  unfolding value_line
-  deletions-value = rw (h.element, le-ltb _ _ h.end, ne_eqb r.count 0 (λ z. omega (arith, h.some)), le-ltb _ _ h.few)
-
   pub deletions_back : any_line_at (deletion_run_line r) ≡ Ok (Deletions r)
-  unfolding deletion_run_line
+  unfolding deletion_run_line value_line
   deletions_back =
       let f = within r.id h.element in
       let after = codes ",\"id\":" ++ (pair_text r.id ++ codes ",\"op\":\"dels\"}") in
@@ -50,8 +42,8 @@ module _ (r : DeletionRun) (h : IsDeletionRun r) where
       (IsUtf8-append _ _ (IsUtf8-pair_text r.id f) (IsUtf8-are_ascii (codes ",\"op\":\"dels\"}") refl)))))
       (IsNumber-decimal r.count small, (pair-numbers r.id f, (tt, tt)))
       (lit≤ tt)
-      deletions-json
-      deletions-value
+      (rw (number_of-decimal r.count small, pair-json r.id f))
+      (rw (h.element, le-ltb _ _ h.end, ne_eqb r.count 0 (λ z. omega (arith, h.some)), le-ltb _ _ h.few))
 
   pub deletions_are_no_operation : line_at (deletion_run_line r) ≡ Err Kind
   deletions_are_no_operation = alone (deletion_run_line r) (Ok (Deletions r)) deletions_back

@@ -1,26 +1,13 @@
 -- The deletions of a run, one after another.
-use Rattle.std.proofs.Common.{◌≡◌, ℕ, zero, suc, ◌+◌, ◌<◌, ◌≤◌, ◌&&◌, nat_le, Ok, ne_eqb, List, [], ◌∷◌, ◌++◌, length, refl, ap, ◌∙◌, arith, true}
+use Rattle.std.proofs.Common.{◌≡◌, ℕ, zero, suc, ◌<◌, ◌≤◌, ◌&&◌, nat_le, Ok, ne_eqb, arith, true}
 use Rattle.std.specs.List.{AllByRecursion}
 use Rattle.std.proofs.lemmas.Bool.{and_parts, leb-true}
-use Rattle.rga_ops.specs.Identifier.{Identifier, identifier, is_in_range}
+use Rattle.rga_ops.specs.Identifier.{Identifier, is_in_range}
 use Rattle.rga_ops.specs.Operation.{checked}
 use Rattle.rga_ops.specs.declared.id.TheConstants.Id.{MAX_COUNTER}
 use Rattle.rga_ops.specs.declared.op.Op.{Op}
-use Rattle.rga_ops.specs.declared.op.Op.TheVariants.{Delete}
-use Rattle.rga_table.specs.declared.deletion_run.DeletionRun.{DeletionRun}
-use Rattle.rga_table.specs.Runs.{next, deletions_from, run_deletions, IsDeletionRun}
-
-pub deletions_from-length : (id : Identifier) (count : ℕ) → length (deletions_from id count) ≡ count
-deletions_from-length id zero = refl
-deletions_from-length id (suc count) = omega (arith, deletions_from-length (next id) count)
-
--- one deletion more at the end
-pub one_more : (id : Identifier) (count : ℕ) → deletions_from id (suc count) ≡ deletions_from id count ++ Delete (identifier (id.counter + count) id.replica) ∷ []
-one_more id zero = let same : id.counter ≡ id.counter + 0 = omega arith in λ k. Delete (identifier (same k) id.replica) ∷ []
-one_more id (suc count) =
-    let same : id.counter + 1 + count ≡ id.counter + suc count = omega arith in
-    ap (λ (ops : List Op). Delete id ∷ ops) (one_more (next id) count)
-    ∙ (λ k. Delete id ∷ (deletions_from (next id) count ++ Delete (identifier (same k) id.replica) ∷ []))
+use Rattle.rga_lines.specs.declared.deletion_run.DeletionRun.{DeletionRun}
+use Rattle.rga_lines.specs.Runs.{next, deletions_from, run_deletions, IsDeletionRun}
 
 -- the identifier of an element is not the root
 pub above_root : (id : Identifier) → is_in_range id.counter id.replica ≡ true → 0 < id.counter

@@ -4,8 +4,6 @@ pub mod SplitterLemmas
 pub mod NextLine
 pub mod SpellingLemmas
 pub mod ReadBack
-pub mod LexedLemmas
-pub mod MembersLemmas
 pub mod PartsLemmas
 pub mod NewlineLemmas
 pub mod WritableLemmas
@@ -16,7 +14,10 @@ pub mod DeletionLemmas
 mod DigitsLemmas
 mod FrontLemmas
 pub mod DeletionBack
-pub mod SpelledRun
 pub mod StandLemmas
 pub mod AddedLemmas
 pub mod SpelledLemmas
+mod ValueLemmas
+mod NextDeletion
+pub mod SoundLemmas
+mod FaultLaws

@@ -2,15 +2,15 @@
 use Rattle.std.proofs.Common.{◌≡◌, ◌≢◌, ℕ, ◌+◌, ◌<◌, ◌^◌, ◌/◌, ◌%◌, ◌&&◌, Bool, true, false, cond, not, eqb, ltb, List, [], ◌∷◌, ◌++◌, ◌⊎◌, inl, inr, codes, decimal, refl, sym, subst, arith}
 use Rattle.std.specs.Char.{encode_utf8, digit_char}
 use Rattle.std.proofs.lemmas.Bool.{cases_eq, cases_lt, and_parts, eqb-false, not-true}
-use Rattle.std.proofs.lemmas.List.Elements.{All-nil, All-cons}
+use Rattle.std.proofs.lemmas.List.Elements.{All-from_recursion}
 use Rattle.std.proofs.lemmas.Str.{encode_ascii}
 use Rattle.std.proofs.lemmas.Fmt.{decimal_by_steps}
 use Rattle.rga_ops.specs.Identifier.{Identifier}
 use Rattle.rga_ops.specs.declared.op.Op.{Op}
 use Rattle.rga_ops.specs.declared.op.Op.TheVariants.{Insert, Delete}
-use Rattle.std.specs.List.{flat_map}
-use Rattle.rga_table.specs.declared.deletion_run.DeletionRun.{DeletionRun}
-use Rattle.rga_table.specs.Runs.{Stretch, IsDeletionRun}
+use Rattle.std.specs.List.{flat_map, AllByRecursion}
+use Rattle.rga_lines.specs.declared.deletion_run.DeletionRun.{DeletionRun}
+use Rattle.rga_lines.specs.Runs.{Stretch, IsDeletionRun}
 use Rattle.rga_lines.specs.Spelling.{escaped, pair_text, line, run_line, deletion_run_line, head_line, end_line, IsWritable, IsWritableRun}
 use Rattle.rga_lines.specs.Stream.{newline, HasNoNewline}
 use Rattle.rga_lines.proofs.SpellingLemmas.{escaped_all, Plain, Plain-encode}
@@ -18,8 +18,7 @@ use Rattle.rga_lines.proofs.ReadBack.{InBounds, within, in_bounds}
 
 -- by recursion, for the inductions below
 abbrev HasNo : List ℕ → Type 0
-HasNo [] = Unit {0}
-HasNo (x ∷ xs) = (x ≡ newline → ⊥) × HasNo xs
+HasNo xs = AllByRecursion (λ b. b ≢ newline) xs
 
 HasNo-append : (xs ys : List ℕ) → HasNo xs → HasNo ys → HasNo (xs ++ ys)
 HasNo-append [] ys h k = k
@@ -105,22 +104,18 @@ clear_end operations h = clear (codes "{\"count\":") refl then (clear_decimal op
 
 -- ---- by index, as the definition has it
 
-by_index : (xs : List ℕ) → HasNo xs → HasNoNewline xs
-by_index [] h = All-nil (λ b. b ≢ newline)
-by_index (x ∷ xs) h = All-cons (λ b. b ≢ newline) x xs h.0 (by_index xs h.1)
-
 pub line_has_none : (op : Op) → IsWritable op → HasNoNewline (line op)
-line_has_none op h = by_index (line op) (clear_line op h).all
+line_has_none op h = All-from_recursion (λ b. b ≢ newline) (line op) (clear_line op h).all
 
 pub run_has_none : (r : Stretch) → IsWritableRun r → HasNoNewline (run_line r)
-run_has_none r h = by_index (run_line r) (clear_run r h).all
+run_has_none r h = All-from_recursion (λ b. b ≢ newline) (run_line r) (clear_run r h).all
 
 pub deletions_have_none : (r : DeletionRun) → IsDeletionRun r → HasNoNewline (deletion_run_line r)
-deletions_have_none r h = by_index (deletion_run_line r) (clear_deletions r h).all
+deletions_have_none r h = All-from_recursion (λ b. b ≢ newline) (deletion_run_line r) (clear_deletions r h).all
 
 pub head_has_none : HasNoNewline head_line
 unfolding head_line
-head_has_none = by_index (codes "{\"op\":\"head\",\"version\":2}") (literal (codes "{\"op\":\"head\",\"version\":2}") refl)
+head_has_none = All-from_recursion (λ b. b ≢ newline) (codes "{\"op\":\"head\",\"version\":2}") (literal (codes "{\"op\":\"head\",\"version\":2}") refl)
 
 pub end_has_none : (operations : ℕ) → operations < 2 ^ 64 → HasNoNewline (end_line operations)
-end_has_none operations h = by_index (end_line operations) (clear_end operations h).all
+end_has_none operations h = All-from_recursion (λ b. b ≢ newline) (end_line operations) (clear_end operations h).all

@@ -1,9 +1,9 @@
 -- What the next line is, by the index of the first newline in what waits.
 use Rattle.std.proofs.Common.{◌≡◌, ℕ, ◌+◌, ◌<◌, ◌≤◌, Bool, false, List, ◌∷◌, length, take, drop, Some, None, position, refl, sym, ap, ap₂, ◌∙◌, arith, lt-ltb, le-ltb}
 use Rattle.std.proofs.lemmas.List.{length-take-le, take_all}
-use Rattle.rga_table.specs.declared.line.TheConstants.{MAX_LINE}
+use Rattle.rga_lines.specs.declared.line.TheConstants.{MAX_LINE}
 use Rattle.rga_lines.specs.Stream.{lines_of, HasNoNewline, EndsNextLine, Splitting, splitting_with, gave_up, Answer, next_of_lines, next_of}
-use Rattle.rga_table.specs.declared.fault.LineFault.TheVariants as fault
+use Rattle.rga_lines.specs.declared.fault.LineFault.TheVariants as fault
 use Rattle.rga_lines.proofs.SplitterLemmas.{gave, gave_none, failed}
 use Rattle.rga_lines.proofs.StreamLemmas.{is_newline, FirstLine, first_line, no_first_line, lines-line, lines-none}
 
@@ -15,25 +15,6 @@ state waiting broken = record { waiting = waiting; broken = broken }
 by_index : (waiting : List ℕ) (n : ℕ) → FirstLine waiting n → lines_of waiting ≡ take n waiting ∷ lines_of (drop (n + 1) waiting)
 by_index waiting n first = ap lines_of first.parts ∙ lines-line (take n waiting) (drop (n + 1) waiting) first.none
 
-length_by_index : (waiting : List ℕ) (n : ℕ) → FirstLine waiting n → length (take n waiting) ≡ n
-length_by_index waiting n first = length-take-le n waiting (omega (arith, first.within))
-
-gives : (waiting : List ℕ) (n : ℕ) → FirstLine waiting n → n ≤ MAX_LINE → next_of (splitting_with waiting) ≡ (gave (take n waiting), splitting_with (drop (n + 1) waiting))
-gives waiting n first short =
-    let l = length_by_index waiting n first in
-    ap (next_of_lines waiting) (by_index waiting n first) ∙ rw (le-ltb MAX_LINE (length (take n waiting)) (omega arith)) (ap (λ (k : ℕ). let p : Answer × Splitting = (gave (take n waiting), splitting_with (drop (k + 1) waiting)) in p) l)
-
-gives_none : (waiting : List ℕ) → position is_newline waiting ≡ None → length waiting ≤ MAX_LINE → next_of (splitting_with waiting) ≡ (gave_none, splitting_with waiting)
-gives_none waiting e short = ap (next_of_lines waiting) (lines-none waiting (no_first_line waiting e)) ∙ rw (le-ltb MAX_LINE (length waiting) short)
-
-gives_up : (waiting : List ℕ) (n : ℕ) → FirstLine waiting n → MAX_LINE < n → next_of (splitting_with waiting) ≡ (failed fault.Long, gave_up)
-gives_up waiting n first long =
-    let l = length_by_index waiting n first in
-    ap (next_of_lines waiting) (by_index waiting n first) ∙ rw (lt-ltb MAX_LINE (length (take n waiting)) (omega arith))
-
-gives_up_rest : (waiting : List ℕ) → position is_newline waiting ≡ None → MAX_LINE < length waiting → next_of (splitting_with waiting) ≡ (failed fault.Long, gave_up)
-gives_up_rest waiting e long = ap (next_of_lines waiting) (lines-none waiting (no_first_line waiting e)) ∙ rw (lt-ltb MAX_LINE (length waiting) long)
-
 -- ---- of a splitter, whose waiting bytes are a slice
 
 whole : (s : Splitting) (slice : List ℕ) → s.broken ≡ false → slice ≡ s.waiting → s ≡ splitting_with slice
@@ -42,15 +23,20 @@ whole s slice good waiting = ap₂ state (sym waiting) good
 pub line_waits : (s : Splitting) (slice : List ℕ) (n : ℕ) → s.broken ≡ false → slice ≡ s.waiting → Some n ≡ position is_newline slice → n ≤ MAX_LINE → EndsNextLine s n
 line_waits s slice n good waiting at short =
     let first : FirstLine s.waiting n = first_line s.waiting n (ap (position is_newline) (sym waiting) ∙ sym at) in
+    let long : length (take n s.waiting) ≡ n = length-take-le n s.waiting (omega (arith, first.within)) in
     record {
       within = first.within;
-      next = ap next_of (whole s s.waiting good refl) ∙ gives s.waiting n first short;
+      next =
+          ap next_of (whole s s.waiting good refl)
+          ∙ ap (next_of_lines s.waiting) (by_index s.waiting n first)
+          ∙ rw (le-ltb MAX_LINE (length (take n s.waiting)) (omega (arith, long))) (ap (λ (k : ℕ). let p : Answer × Splitting = (gave (take n s.waiting), splitting_with (drop (k + 1) s.waiting)) in p) long);
     }
 
 pub none_waits : (s : Splitting) (slice : List ℕ) → s.broken ≡ false → slice ≡ s.waiting → None ≡ position is_newline slice → length slice ≤ MAX_LINE → next_of s ≡ (gave_none, s)
 none_waits s slice good waiting none short =
     let same = whole s slice good waiting in
-    ap next_of same ∙ gives_none slice (sym none) short ∙ ap (λ (t : Splitting). let p : Answer × Splitting = (gave_none, t) in p) (sym same)
+    let gives : next_of (splitting_with slice) ≡ (gave_none, splitting_with slice) = ap (next_of_lines slice) (lines-none slice (no_first_line slice (sym none))) ∙ rw (le-ltb MAX_LINE (length slice) short) in
+    ap next_of same ∙ gives ∙ ap (λ (t : Splitting). let p : Answer × Splitting = (gave_none, t) in p) (sym same)
 
 -- what stands before the newline was searched
 pub none_before : (slice waiting : List ℕ) (n : ℕ) → Some n ≡ position is_newline slice → slice ≡ waiting → HasNoNewline (take n waiting)
@@ -66,7 +52,12 @@ none_among slice waiting none is =
     rw all (no_first_line slice (sym none))
 
 pub long_line_waits : (s : Splitting) (slice : List ℕ) (n : ℕ) → s.broken ≡ false → slice ≡ s.waiting → Some n ≡ position is_newline slice → MAX_LINE < n → next_of s ≡ (failed fault.Long, gave_up)
-long_line_waits s slice n good waiting at long = ap next_of (whole s slice good waiting) ∙ gives_up slice n (first_line slice n (sym at)) long
+long_line_waits s slice n good waiting at long =
+    let first = first_line slice n (sym at) in
+    ap next_of (whole s slice good waiting)
+    ∙ ap (next_of_lines slice) (by_index slice n first)
+    ∙ rw (lt-ltb MAX_LINE (length (take n slice)) (omega (arith, length-take-le n slice (omega (arith, first.within)))))
 
 pub long_rest_waits : (s : Splitting) (slice : List ℕ) → s.broken ≡ false → slice ≡ s.waiting → None ≡ position is_newline slice → MAX_LINE < length slice → next_of s ≡ (failed fault.Long, gave_up)
-long_rest_waits s slice good waiting none long = ap next_of (whole s slice good waiting) ∙ gives_up_rest slice (sym none) long
+long_rest_waits s slice good waiting none long =
+    ap next_of (whole s slice good waiting) ∙ ap (next_of_lines slice) (lines-none slice (no_first_line slice (sym none))) ∙ rw (lt-ltb MAX_LINE (length slice) long)

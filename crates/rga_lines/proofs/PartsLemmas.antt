@@ -1,24 +1,22 @@
 -- The parts of a line that is spelled in one way.
-use Rattle.std.proofs.Common.{lit≤, ◌≡◌, ◌≢◌, ℕ, zero, suc, refl, ◌+◌, ◌-◌, ◌*◌, ◌/◌, ◌%◌, ◌^◌, ◌<◌, ◌≤◌, true, false, List, [], ◌∷◌, ◌++◌, length, take, drop, decimal, Option, Some, None, IfSome, MatchOption, Bor, nat_eq, sym, ap, subst, ◌∙◌, arith, append-nil, append_assoc, lt-ltb, le-ltb, ne_eqb}
+use Rattle.std.proofs.Common.{lit≤, ◌≡◌, ◌≢◌, ℕ, zero, suc, refl, ◌+◌, ◌-◌, ◌*◌, ◌/◌, ◌%◌, ◌^◌, ◌<◌, ◌≤◌, true, List, [], ◌∷◌, ◌++◌, length, take, drop, decimal, Some, nat_eq, sym, ap, subst, ◌∙◌, arith, append-nil, append_assoc, lt-ltb, le-ltb, ne_eqb}
 use Rattle.std.specs.Char.{encode_utf8, IsScalar}
 use Rattle.std.specs.Str.{IsUtf8, chars, encode_utf8_all}
 use Rattle.std.specs.Cmp.Lexicographic.{pointwise, same_text}
-use Rattle.std.proofs.lemmas.List.{take-append-drop}
+use Rattle.std.proofs.lemmas.List.{nil_from_length, take-append-drop}
 use Rattle.std.proofs.lemmas.Str.{encodes-chars, scalars-chars}
 use Rattle.std.proofs.lemmas.Bool.{and_parts}
 use lib.Utf8.{scalar, scalars}
 use Rattle.std.proofs.Math.Utf8.{low_scalar}
 use Rattle.std.proofs.lemmas.Fmt.{decimal_step, decimal_digit}
 use Rattle.rga_lines.specs.Spelling.{escaped}
-use Rattle.rga_table.specs.Table.{only_char}
+use Rattle.rga_lines.specs.Table.{only_char}
 use Rattle.rga_lines.proofs.SpellingLemmas.{wide}
 
 -- ---- a literal
 
-pub stripped : (s p : List ℕ) (r : Option (Bor (List ℕ))) → MatchOption r (pointwise nat_eq (take (length p) s) p ≡ false) (λ x. (pointwise nat_eq (take (length p) s) p ≡ true) × (x.now ≡ drop (length p) s) × (length x.now + length p ≡ length s))
-    → IfSome r (λ x. s ≡ p ++ x.now)
-stripped s p None m = tt
-stripped s p (Some x) m = sym (take-append-drop (length p) s) ∙ ap (λ l. l ++ drop (length p) s) (same_text _ _ (sym m.0)) ∙ ap (λ l. p ++ l) (sym m.1)
+pub nothing_after : (bytes literal rest : List ℕ) → bytes ≡ literal ++ rest → length rest ≡ 0 → bytes ≡ literal
+nothing_after bytes literal rest e none = e ∙ ap (λ l. literal ++ l) (nil_from_length rest none) ∙ append-nil literal
 
 pub parted : (s front rest p : List ℕ) (n : ℕ) → front ≡ take n s → rest ≡ drop n s → true ≡ pointwise nat_eq front p → s ≡ p ++ rest
 parted s front rest p n a b same = sym (take-append-drop n s) ∙ (λ i. sym a i ++ sym b i) ∙ ap (λ l. l ++ rest) (same_text front p same)

@@ -27,15 +27,14 @@ use Rattle.rga_ops.specs.Operation.{checked}
 use Rattle.rga_ops.specs.declared.op.Op.{Op}
 use Rattle.rga_ops.specs.declared.op.Op.TheVariants.{Insert, Delete}
 use Rattle.rga_ops.proofs.AnswerLaws.{well_formed_insertion}
-use Rattle.rga_table.specs.declared.line.Line.{Line}
-use Rattle.rga_table.specs.declared.line.Line.TheVariants.{One, Head, Last}
-use Rattle.rga_table.specs.declared.fault.LineFault.TheVariants.{Kind}
-use Rattle.rga_lines.specs.Members.{pair_data}
+use Rattle.rga_lines.specs.declared.line.Line.{Line}
+use Rattle.rga_lines.specs.declared.line.Line.TheVariants.{One, Head, Last}
+use Rattle.rga_lines.specs.declared.fault.LineFault.TheVariants.{Kind}
 use Rattle.rga_lines.specs.Spelling.{escaped, pair_text, line, head_line, end_line, IsWritable}
-use Rattle.rga_table.specs.declared.line.TheConstants.{MAX_LINE}
-use Rattle.rga_table.specs.Table.{value_line, any_line_at, line_at}
+use Rattle.rga_lines.specs.declared.line.TheConstants.{MAX_LINE}
+use Rattle.rga_lines.specs.Table.{value_line, any_line_at, line_at}
 use Rattle.rga_lines.proofs.ReadingLemmas.{accepted, alone}
-use Rattle.rga_lines.proofs.SpellingLemmas.{escaped_all, op_data, head_data, end_data, insert_data, insert_text, compact_op, compact_head, compact_end}
+use Rattle.rga_lines.proofs.SpellingLemmas.{escaped_all, pair_data, op_data, head_data, end_data, insert_data, insert_text, compact_op, compact_head, compact_end}
 
 -- ---- a value without floats is read back from its compact text
 
@@ -100,21 +99,6 @@ pair-numbers s h = (IsNumber-decimal s.counter (omega (arith, h.counter)), (IsNu
 pub pair-json : (s : Identifier) → InBounds s → of_json (outline (pair_data s)) ≡ Some (pair_data s)
 pair-json s h = rw ((pair-number s h).0, (pair-number s h).1)
 
-delete-json : (id : Identifier) → InBounds id → of_json (outline (op_data (Delete id))) ≡ Some (op_data (Delete id))
-delete-json id h = rw (pair-json id h)
-
-insert-json : (text : List ℕ) (id parent : Identifier) → InBounds id → InBounds parent → of_json (outline (insert_data text id parent)) ≡ Some (insert_data text id parent)
-insert-json text id parent h k = rw (pair-json id h, pair-json parent k)
-
-delete-line : (id : Identifier) → is_in_range id.counter id.replica ≡ true → value_line (op_data (Delete id)) ≡ Ok (One (Delete id))
-unfolding value_line
-delete-line id h = rw h
-
-insert-line : (text : List ℕ) (ch : ℕ) (id parent : Identifier) → is_in_range id.counter id.replica ≡ true → is_root parent || is_in_range parent.counter parent.replica ≡ true → leb id.counter parent.counter ≡ false → chars text ≡ ch ∷ []
-    → value_line (insert_data text id parent) ≡ Ok (One (Insert id parent ch))
-unfolding value_line
-insert-line text ch id parent h k rising single = rw (h, k, single, rising)
-
 -- ---- the whole
 
 one_scalar : (b : Bool) → b ≡ true → (b && true) ≡ true
@@ -152,7 +136,7 @@ pub back : (d : Data) (text : List ℕ) (said : Line) → compact_text d ≡ tex
 back d text said e short u numbers shallow parsed says = accepted text d short u (read_tokens text (outline d) d (ap tokens (sym e) ∙ tokens-compact d numbers) shallow parsed) ∙ says
 
 insert_back : (id parent : Identifier) (ch : ℕ) → is_in_range id.counter id.replica ≡ true → is_root parent || is_in_range parent.counter parent.replica ≡ true → leb id.counter parent.counter ≡ false → IsScalar ch → any_line_at (line (Insert id parent ch)) ≡ Ok (One (Insert id parent ch))
-unfolding line
+unfolding line value_line
 insert_back id parent ch h k rising scalar_ch =
     let f = within id h in
     let g = in_bounds parent k in
@@ -161,11 +145,11 @@ insert_back id parent ch h k rising scalar_ch =
     (subst IsUtf8 written (insert-utf8 (encode_utf8 ch) id parent (IsUtf8-encode ch scalar_ch) f g))
     (tt, (pair-numbers id f, (tt, (pair-numbers parent g, tt))))
     (lit≤ tt)
-    (insert-json (encode_utf8 ch) id parent f g)
-    (insert-line (encode_utf8 ch) ch id parent h k rising (chars-one ch scalar_ch))
+    (rw (pair-json id f, pair-json parent g))
+    (rw (h, k, chars-one ch scalar_ch, rising))
 
 pub delete_back : (id : Identifier) → is_in_range id.counter id.replica ≡ true → any_line_at (line (Delete id)) ≡ Ok (One (Delete id))
-unfolding line
+unfolding line value_line
 delete_back id h =
     let f = within id h in
     back (op_data (Delete id)) (line (Delete id)) (One (Delete id)) (compact_op (Delete id))
@@ -173,8 +157,8 @@ delete_back id h =
     (IsUtf8-append (codes "{\"id\":") _ (IsUtf8-are_ascii _ refl) (IsUtf8-append _ _ (IsUtf8-pair_text id f) (IsUtf8-are_ascii (codes ",\"op\":\"del\"}") refl)))
     (pair-numbers id f, (tt, tt))
     (lit≤ tt)
-    (delete-json id f)
-    (delete-line id h)
+    (rw (pair-json id f))
+    (rw h)
 
 pub line_back : (op : Op) → IsWritable op → checked op ≡ Ok tt → any_line_at (line op) ≡ Ok (One op)
 line_back (Insert id parent ch) h e = insert_back id parent ch h.0 h.1 (well_formed_insertion id parent ch e).1 h.2
@@ -185,40 +169,26 @@ operation_back op h e = alone (line op) (Ok (One op)) (line_back op h e)
 
 -- ---- the end of an exchange
 
-end-json : (operations : ℕ) → operations < 2 ^ 64 → of_json (outline (end_data operations)) ≡ Some (end_data operations)
-end-json operations h = rw (number_of-decimal operations h)
-
-end_says : (operations : ℕ) → value_line (end_data operations) ≡ Ok (Last operations)
-unfolding value_line
-end_says operations = refl
-
 pub end_back : (operations : ℕ) → operations < 2 ^ 64 → any_line_at (end_line operations) ≡ Ok (Last operations)
-unfolding end_line
+unfolding end_line value_line
 end_back operations h =
     back (end_data operations) (end_line operations) (Last operations) (compact_end operations)
     (omega (arith, length-append (decimal operations) (codes ",\"op\":\"end\"}"), length-decimal-le 20 operations (omega arith) (omega (arith, h)) h))
     (IsUtf8-append (codes "{\"count\":") _ (IsUtf8-are_ascii _ refl) (IsUtf8-append _ _ (IsUtf8-decimal operations h) (IsUtf8-are_ascii (codes ",\"op\":\"end\"}") refl)))
     (IsNumber-decimal operations h, (tt, tt))
     (lit≤ tt)
-    (end-json operations h)
-    (end_says operations)
+    (rw (number_of-decimal operations h))
+    refl
 
 pub end_is_no_operation : (operations : ℕ) → operations < 2 ^ 64 → line_at (end_line operations) ≡ Err Kind
 end_is_no_operation operations h = alone (end_line operations) (Ok (Last operations)) (end_back operations h)
 
 -- ---- the head of an exchange
 
-head_says : value_line head_data ≡ Ok Head
-unfolding value_line
-head_says = refl
-
-head-json : of_json (outline head_data) ≡ Some head_data
-head-json = rw (number_of-decimal 2 (lit≤ tt))
-
 pub head_back : any_line_at head_line ≡ Ok Head
-unfolding head_line
+unfolding head_line value_line
 head_back =
-    back head_data head_line Head compact_head (lit≤ tt) (IsUtf8-are_ascii head_line refl) (tt, (IsNumber-decimal 2 (lit≤ tt), tt)) (lit≤ tt) head-json head_says
+    back head_data head_line Head compact_head (lit≤ tt) (IsUtf8-are_ascii head_line refl) (tt, (IsNumber-decimal 2 (lit≤ tt), tt)) (lit≤ tt) (rw (number_of-decimal 2 (lit≤ tt))) refl
 
 pub head_is_no_operation : line_at head_line ≡ Err Kind
 head_is_no_operation = alone head_line (Ok Head) head_back

@@ -1,5 +1,5 @@
 -- The line of a run is read back.
-use Rattle.std.proofs.Common.{◌≡◌, ℕ, ◌*◌, ◌≤◌, true, List, [], ◌∷◌, ◌++◌, length, codes, Some, Ok, refl, sym, ap, ap₂, subst, ◌∙◌, arith, append_assoc, length-append, lit≤, le-ltb, ne_eqb}
+use Rattle.std.proofs.Common.{◌≡◌, ℕ, ◌*◌, ◌≤◌, true, List, [], ◌∷◌, ◌++◌, length, codes, Ok, refl, sym, ap, ap₂, subst, ◌∙◌, arith, append_assoc, length-append, lit≤, le-ltb, ne_eqb}
 use Rattle.std.specs.Char.{encode_utf8, IsScalar}
 use Rattle.std.specs.List.{flat_map, AllByRecursion}
 use Rattle.std.specs.Str.{IsUtf8, chars}
@@ -10,17 +10,15 @@ use Rattle.std.proofs.lemmas.Str.{chars-encodes, IsUtf8-append}
 use Rattle.json.specs.Print.{escape, escape_byte}
 use Rattle.json.proofs.Printed.Utf8.{IsUtf8-are_ascii, IsUtf8-quoted}
 use Rattle.serde_json.specs.Data.{Data, string, object, member, no_members}
-use Rattle.serde_json.specs.Read.{of_json}
-use Rattle.serde_json.specs.Written.{compact_text, outline}
+use Rattle.serde_json.specs.Written.{compact_text}
 use Rattle.serde_json.proofs.OnLiterals.{serde_json_on_literals}
 use Rattle.rga_ops.specs.Identifier.{Identifier}
-use Rattle.rga_table.specs.declared.line.Line.TheVariants.{Run}
-use Rattle.rga_lines.specs.Members.{pair_data}
-use Rattle.rga_table.specs.declared.line.TheConstants.{MAX_LINE}
-use Rattle.rga_table.specs.Runs.{Stretch}
+use Rattle.rga_lines.specs.declared.line.Line.TheVariants.{Run}
+use Rattle.rga_lines.specs.declared.line.TheConstants.{MAX_LINE}
+use Rattle.rga_lines.specs.Runs.{Stretch}
 use Rattle.rga_lines.specs.Spelling.{escaped, pair_text, run_line, IsWritableRun}
-use Rattle.rga_table.specs.Table.{value_line, any_line_at}
-use Rattle.rga_lines.proofs.SpellingLemmas.{escape-encode}
+use Rattle.rga_lines.specs.Table.{value_line, any_line_at}
+use Rattle.rga_lines.proofs.SpellingLemmas.{pair_data, escape-encode}
 use Rattle.rga_lines.proofs.ReadBack.{InBounds, within, in_bounds, pair_text-length, IsUtf8-pair_text, pair-numbers, pair-json, escaped-length, back}
 
 abbrev run_data : List ℕ → Identifier → Identifier → Data
@@ -71,9 +69,6 @@ run-utf8 text id parent u h k =
     (IsUtf8-append _ _ (IsUtf8-pair_text parent k)
     (IsUtf8-append (codes ",\"text\":") _ (IsUtf8-are_ascii _ refl) (IsUtf8-append _ _ (IsUtf8-quoted text u) (IsUtf8-are_ascii (codes "}") refl))))))
 
-run-json : (text : List ℕ) (id parent : Identifier) → InBounds id → InBounds parent → of_json (outline (run_data text id parent)) ≡ Some (run_data text id parent)
-run-json text id parent h k = rw (pair-json id h, pair-json parent k)
-
 module _ (r : Stretch) (h : IsWritableRun r) where
   run-value : (text : List ℕ) → chars text ≡ r.chars → value_line (run_data text r.id r.parent) ≡ Ok (Run r)
   unfolding value_line
@@ -92,5 +87,5 @@ module _ (r : Stretch) (h : IsWritableRun r) where
       (subst IsUtf8 written (run-utf8 text r.id r.parent (r.chars, (good, refl)) f g))
       (pair-numbers r.id f, (tt, (pair-numbers r.parent g, (tt, tt))))
       (lit≤ tt)
-      (run-json text r.id r.parent f g)
+      (rw (pair-json r.id f, pair-json r.parent g))
       (run-value text (chars-encodes r.chars good))

@@ -1,5 +1,5 @@
 -- The characters of a run's line, one after another.
-use Rattle.std.proofs.Common.{◌≡◌, ℕ, ◌+◌, ◌<◌, Ok, ne_eqb, List, [], ◌∷◌, ◌++◌, length, refl, sym, ap, ◌∙◌, arith, append_assoc, append-nil, length-append}
+use Rattle.std.proofs.Common.{◌≡◌, ℕ, ◌+◌, ◌<◌, Ok, ne_eqb, List, [], ◌∷◌, ◌++◌, length, codes, refl, sym, ap, ◌∙◌, arith, append_assoc, append-nil, length-append}
 use Rattle.std.specs.Char.{IsScalar}
 use Rattle.std.specs.List.{flat_map, AllByRecursion}
 use Rattle.std.proofs.lemmas.Str.{length-encode, len_utf8_bounds}
@@ -7,8 +7,8 @@ use Rattle.rga_ops.specs.Identifier.{Identifier, identifier}
 use Rattle.rga_ops.specs.Operation.{checked}
 use Rattle.rga_ops.specs.declared.op.Op.{Op}
 use Rattle.rga_ops.specs.declared.op.Op.TheVariants.{Insert}
-use Rattle.rga_table.specs.Runs.{Stretch, IsRun, next, run_operations, stretch_operations}
-use Rattle.rga_lines.specs.Spelling.{escaped, BeginsWithCharacters, ReadsInsertions}
+use Rattle.rga_lines.specs.Runs.{Stretch, IsRun, next, run_operations, stretch_operations}
+use Rattle.rga_lines.specs.Spelling.{escaped, ReadsInsertions}
 use Rattle.std.proofs.lemmas.Bool.{lt-leb}
 use Rattle.rga_lines.proofs.SpellingLemmas.{escaped_all}
 
@@ -20,12 +20,6 @@ flat-push (x ∷ xs) c rest =
 scalars-push : (xs : List ℕ) (c : ℕ) → AllByRecursion IsScalar xs → IsScalar c → AllByRecursion IsScalar (xs ++ c ∷ [])
 scalars-push [] c h k = (k, tt)
 scalars-push (x ∷ xs) c h k = (h.0, scalars-push xs c h.1 k)
-
-pub read_one : (bytes chars rest behind : List ℕ) (c : ℕ) → BeginsWithCharacters bytes chars rest → rest ≡ escaped c ++ behind → IsScalar c → BeginsWithCharacters bytes (chars ++ c ∷ []) behind
-read_one bytes chars rest behind c h e k = record {
-  parts = h.parts ∙ ap (λ (l : List ℕ). flat_map escaped chars ++ l) e ∙ sym (flat-push chars c behind);
-  scalars = scalars-push chars c h.scalars k;
-}
 
 escaped-some : (c : ℕ) → 0 < length (escaped c)
 escaped-some c = escaped_all (λ (l : List ℕ). 0 < length l) c (omega arith) (omega arith) (omega arith) (omega arith) (omega arith) (omega arith) (omega arith) (omega (arith, length-encode c, len_utf8_bounds c))
@@ -52,21 +46,19 @@ run_checked r h = operations_checked r.id r.parent r.chars h.rising
 -- So many insertions are those of the characters that were read, and those of any more characters go on behind them.
 pub record IsReadTo (id parent : Identifier) (bytes : List ℕ) (ops : List Op) (counter : ℕ) (above : Identifier) (rest : List ℕ) : Type 0 where
   pub chars : List ℕ
-  pub read : BeginsWithCharacters bytes chars rest
+  pub parts : bytes ≡ flat_map escaped chars ++ rest
+  pub scalars : AllByRecursion IsScalar chars
   pub on : (more : List ℕ) → ops ++ run_operations (identifier counter id.replica) above more ≡ run_operations id parent (chars ++ more)
 
 pub read_to_first : (id parent : Identifier) (bytes : List ℕ) (ops : List Op) → ops ≡ [] → IsReadTo id parent bytes ops id.counter parent bytes
-read_to_first id parent bytes ops none = record {
-  chars = [];
-  read = record { parts = refl; scalars = tt };
-  on = λ more. ap (λ (l : List Op). l ++ run_operations id parent more) none;
-}
+read_to_first id parent bytes ops none = record { chars = []; parts = refl; scalars = tt; on = λ more. ap (λ (l : List Op). l ++ run_operations id parent more) none }
 
 pub read_to_next : (id parent : Identifier) (bytes : List ℕ) (ops all : List Op) (counter : ℕ) (above new : Identifier) (rest behind : List ℕ) (c : ℕ) → IsReadTo id parent bytes ops counter above rest → rest ≡ escaped c ++ behind → IsScalar c
     → identifier counter id.replica ≡ new → all ≡ ops ++ Insert new above c ∷ [] → IsReadTo id parent bytes all (counter + 1) new behind
 read_to_next id parent bytes ops all counter above new rest behind c h e k same pushed = record {
   chars = h.chars ++ c ∷ [];
-  read = read_one bytes h.chars rest behind c h.read e k;
+  parts = h.parts ∙ ap (λ (l : List ℕ). flat_map escaped h.chars ++ l) e ∙ sym (flat-push h.chars c behind);
+  scalars = scalars-push h.chars c h.scalars k;
   on = λ more.
       ap (λ (l : List Op). l ++ run_operations (identifier (counter + 1) id.replica) new more) pushed
       ∙ (λ i. (ops ++ Insert (sym same i) above c ∷ []) ++ run_operations (identifier (counter + 1) id.replica) (sym same i) more)
@@ -75,9 +67,10 @@ read_to_next id parent bytes ops all counter above new rest behind c h e k same 
       ∙ ap (run_operations id parent) (sym (append_assoc h.chars (c ∷ []) more));
 }
 
-pub read_to_end : (id parent : Identifier) (bytes : List ℕ) (ops : List Op) (counter : ℕ) (above : Identifier) (rest : List ℕ) → IsReadTo id parent bytes ops counter above rest → ReadsInsertions id parent bytes rest ops
-read_to_end id parent bytes ops counter above rest h = record {
+pub read_to_end : (id parent : Identifier) (bytes : List ℕ) (ops : List Op) (counter : ℕ) (above : Identifier) (rest : List ℕ) → IsReadTo id parent bytes ops counter above rest → rest ≡ codes "\"}" → ReadsInsertions id parent bytes ops
+read_to_end id parent bytes ops counter above rest h last = record {
   chars = h.chars;
-  read = h.read;
+  parts = h.parts ∙ ap (λ l. flat_map escaped h.chars ++ l) last;
+  scalars = h.scalars;
   insertions = sym (append-nil ops) ∙ h.on [] ∙ ap (run_operations id parent) (append-nil h.chars);
 }

@@ -1,33 +1,57 @@
--- Lines that are spelled in one way, of the parts that were read of them.
-use Rattle.std.proofs.Common.{◌≡◌, ℕ, List, [], ◌++◌, codes, decimal, ap, ◌∙◌}
-use Rattle.rga_ops.specs.Identifier.{Identifier}
-use Rattle.rga_ops.specs.declared.op.Op.TheVariants.{Insert}
-use Rattle.rga_table.specs.Runs.{deletion_run}
-use Rattle.rga_lines.specs.Spelling.{escaped, pair_text, line, element_from, run_from, deletion_run_line, BeginsWithCharacter, IsElement, IsElementOrRoot, IsLineOf}
+-- Lines that are spelled in one way say what was read of their parts.
+use Rattle.std.proofs.Common.{◌≡◌, ℕ, ◌+◌, ◌<◌, ◌≤◌, ◌||◌, ◌==◌, Bool, true, false, List, ◌++◌, length, codes, decimal, Ok, ap, ◌∙◌, arith, ne_eqb}
+use Rattle.std.proofs.lemmas.Bool.{and_left}
+use Rattle.rga_ops.specs.declared.id.TheConstants.Id.{MAX_COUNTER}
+use Rattle.rga_ops.specs.Identifier.{Identifier, is_root, is_in_range}
+use Rattle.rga_ops.specs.Operation.{checked}
+use Rattle.rga_ops.specs.declared.op.Op.{Op}
+use Rattle.rga_ops.specs.declared.op.Op.TheVariants.{Insert, Delete}
+use Rattle.rga_lines.specs.declared.line.Line.TheVariants.{One, Deletions}
+use Rattle.rga_lines.specs.declared.run.TheConstants.{MAX_RUN}
+use Rattle.rga_lines.specs.Runs.{stretch, deletion_run}
+use Rattle.rga_lines.specs.Table.{any_line_at}
+use Rattle.rga_lines.specs.Log.{SaysRun}
+use Rattle.rga_lines.specs.Spelling.{line, run_line, deletion_run_line, BeginsWithCharacter, BeginsWithIdentifier, ReadsInsertions, IsElement, IsElementOrRoot}
+use Rattle.rga_lines.proofs.DeletionBack.{deletions_back}
+use Rattle.rga_lines.proofs.ReadBack.{line_back, delete_back}
+use Rattle.rga_lines.proofs.RunBack.{run_back}
+use Rattle.rga_lines.proofs.RunLemmas.{run_operations-length}
+use Rattle.rga_lines.proofs.WritableLemmas.{insertion_writable}
 
--- these bytes, an identifier and then the rest
-abbrev pub Names : List ℕ → List ℕ → Identifier → List ℕ → Type 0
-Names bytes name id rest = bytes ≡ name ++ (pair_text id ++ rest)
+-- an identifier with a counter is not the root
+above_zero : (id : Identifier) → IsElementOrRoot id → 0 < id.counter → IsElement id
+above_zero id kept above = by_root (is_root id) (and_left (id.counter == 0) (id.replica == 0) (ne_eqb id.counter 0 (λ z. omega (arith, z, above)))) kept
+  where
+    by_root : (root : Bool) → root ≡ false → (root || is_in_range id.counter id.replica) ≡ true → IsElement id
+    by_root true e h = absurd cc
+    by_root false e h = h
 
-pub insertion_read : (bytes inside named above ended end : List ℕ) (id parent : Identifier) (ch : ℕ) → bytes ≡ codes "{\"char\":\"" ++ inside → BeginsWithCharacter inside ch named → Names named (codes "\",\"id\":") id above × IsElement id
-    → Names above (codes ",\"op\":\"ins\",\"parent\":") parent ended × IsElementOrRoot parent → ended ≡ codes "}" ++ end → end ≡ [] → IsLineOf bytes (Insert id parent ch)
+pub insertion_says : (bytes inside named above end : List ℕ) (id parent : Identifier) (ch : ℕ) → bytes ≡ codes "{\"char\":\"" ++ inside → BeginsWithCharacter inside ch named → BeginsWithIdentifier named (codes "\",\"id\":") id above
+    → BeginsWithIdentifier above (codes ",\"op\":\"ins\",\"parent\":") parent end → end ≡ codes "}" → checked (Insert id parent ch) ≡ Ok tt → any_line_at bytes ≡ Ok (One (Insert id parent ch))
 unfolding line
-insertion_read bytes inside named above ended end id parent ch first char name place last none =
-    let closed : ended ≡ codes "}" = last ∙ ap (λ l. codes "}" ++ l) none in
-    let op = place.0 ∙ ap (λ l. codes ",\"op\":\"ins\",\"parent\":" ++ (pair_text parent ++ l)) closed in
-    let names = name.0 ∙ ap (λ l. codes "\",\"id\":" ++ (pair_text id ++ l)) op in
-    (first ∙ ap (λ l. codes "{\"char\":\"" ++ l) (char.0 ∙ ap (λ l. escaped ch ++ l) names), (name.1, place.1, char.1))
+insertion_says bytes inside named above end id parent ch first char name place last ok =
+    rw (first, char.0, name.0, place.0, last) (line_back (Insert id parent ch) (insertion_writable id parent ch name.1 place.1 char.1 ok) ok)
 
-pub run_read : (above named rest : List ℕ) (id parent : Identifier) → Names above (codes ",\"op\":\"run\",\"parent\":") parent named × IsElementOrRoot parent
-    → named ≡ codes ",\"text\":\"" ++ rest → (element_from id above ≡ run_from id parent rest) × IsElementOrRoot parent
-run_read above named rest id parent place last =
-    let op = place.0 ∙ ap (λ l. codes ",\"op\":\"run\",\"parent\":" ++ (pair_text parent ++ l)) last in
-    (ap (element_from id) op, place.1)
+pub deletion_says : (bytes end : List ℕ) (id : Identifier) → BeginsWithIdentifier bytes (codes "{\"id\":") id end → end ≡ codes ",\"op\":\"del\"}" → 0 < id.counter → any_line_at bytes ≡ Ok (One (Delete id))
+unfolding line
+deletion_says bytes end id first last above = rw (first.0, last) (delete_back id (above_zero id first.1 above))
 
-pub deletions_read : (bytes named ended end : List ℕ) (id : Identifier) (count : ℕ) → bytes ≡ codes "{\"count\":" ++ (decimal count ++ named) → Names named (codes ",\"id\":") id ended × IsElement id
-    → ended ≡ codes ",\"op\":\"dels\"}" ++ end → end ≡ [] → (bytes ≡ deletion_run_line (deletion_run id count)) × IsElement id
+pub deletions_say : (bytes counted named end : List ℕ) (id : Identifier) (count : ℕ) → bytes ≡ codes "{\"count\":" ++ counted → counted ≡ decimal count ++ named → BeginsWithIdentifier named (codes ",\"id\":") id end → end ≡ codes ",\"op\":\"dels\"}"
+    → 0 < id.counter → 0 < count → count ≤ MAX_RUN → id.counter + count ≤ MAX_COUNTER + 1 → any_line_at bytes ≡ Ok (Deletions (deletion_run id count))
 unfolding deletion_run_line
-deletions_read bytes named ended end id count first name last none =
-    let closed : ended ≡ codes ",\"op\":\"dels\"}" = last ∙ ap (λ l. codes ",\"op\":\"dels\"}" ++ l) none in
-    let names = name.0 ∙ ap (λ l. codes ",\"id\":" ++ (pair_text id ++ l)) closed in
-    (first ∙ ap (λ l. codes "{\"count\":" ++ (decimal count ++ l)) names, name.1)
+deletions_say bytes counted named end id count first number name last above some few within =
+    rw (first, number, name.0, last) (deletions_back (deletion_run id count) (record { element = above_zero id name.1 above; some = some; few = few; end = within }))
+
+pub run_says : (bytes above named inside : List ℕ) (id parent : Identifier) (ops : List Op) → BeginsWithIdentifier bytes (codes "{\"id\":") id above → BeginsWithIdentifier above (codes ",\"op\":\"run\",\"parent\":") parent named
+    → named ≡ codes ",\"text\":\"" ++ inside → ReadsInsertions id parent inside ops → 0 < length ops → length ops ≤ MAX_RUN → id.counter + length ops ≤ MAX_COUNTER + 1 → parent.counter < id.counter → SaysRun bytes ops
+unfolding run_line
+run_says bytes above named inside id parent ops first place text read some few end rising =
+    let same : length ops ≡ length read.chars = ap length read.insertions ∙ run_operations-length id parent read.chars in
+    let r = stretch id parent read.chars in
+    let back = run_back r (record {
+      id = above_zero id first.1 (omega (arith, rising));
+      parent = place.1;
+      scalars = read.scalars;
+      run = record { some = omega (arith, same, some); few = omega (arith, same, few); end = omega (arith, same, end); rising = rising };
+    }) in
+    (r, rw (first.0, place.0, text, read.parts) back, read.insertions)

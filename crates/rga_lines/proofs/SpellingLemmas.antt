@@ -7,16 +7,18 @@ use Rattle.std.proofs.lemmas.Str.{encode_ascii}
 use Rattle.json.specs.Print.{escape, escape_byte}
 use Rattle.json.proofs.Printed.Strings.{escape_byte_plain}
 use Rattle.std.proofs.lemmas.Fmt.{decimal_digit}
-use Rattle.serde_json.specs.Data.{Data, number, unsigned, string, object, member, no_members}
+use Rattle.serde_json.specs.Data.{Data, number, unsigned, string, array, item, no_items, object, member, no_members}
 use Rattle.serde_json.specs.Written.{compact_text}
 use Rattle.serde_json.proofs.OnLiterals.{serde_json_on_literals}
 use Rattle.rga_ops.specs.Identifier.{Identifier}
 use Rattle.rga_ops.specs.declared.op.Op.{Op}
 use Rattle.rga_ops.specs.declared.op.Op.TheVariants.{Insert, Delete}
-use Rattle.rga_lines.specs.Members.{pair_data}
 use Rattle.rga_lines.specs.Spelling.{code_escape, escaped, pair_text, line, head_line, end_line}
 
 -- ---- the value of JSON of an operation
+
+abbrev pub pair_data : Identifier → Data
+pair_data id = array (item (number (unsigned id.counter)) (item (number (unsigned id.replica)) no_items))
 
 abbrev pub op_data : Op → Data
 op_data (Insert id parent ch) = object (member (codes "char") (string (encode_utf8 ch)) (member (codes "id") (pair_data id) (member (codes "op") (string (codes "ins")) (member (codes "parent") (pair_data parent) no_members))))

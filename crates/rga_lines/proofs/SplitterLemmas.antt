@@ -4,10 +4,10 @@ use Rattle.std.specs.Prelude.{All}
 use Rattle.std.proofs.lemmas.Bool.{ltb-true, ltb-false, true≢false, false≢true}
 use Rattle.std.proofs.lemmas.List.{drop_at, length-append, length-drop, length_push}
 use Rattle.std.proofs.lemmas.List.Elements.{All-head, All-tail}
-use Rattle.rga_table.specs.declared.line.TheConstants.{MAX_LINE}
+use Rattle.rga_lines.specs.declared.line.TheConstants.{MAX_LINE}
 use Rattle.rga_lines.specs.Stream.{newline, to_first_line, to_rest, lines_of, rest_of, HasNoNewline, bytes_of_lines, BeginsLong, Splitting, EndsNextLine, splitting_with, gave_up, fed, Answer, next_of_lines, next_of, StreamCall, Feed, Next, after_calls, line_in, lines_given, bytes_fed}
-use Rattle.rga_table.specs.declared.fault.LineFault.{LineFault}
-use Rattle.rga_table.specs.declared.fault.LineFault.TheVariants as fault
+use Rattle.rga_lines.specs.declared.fault.LineFault.{LineFault}
+use Rattle.rga_lines.specs.declared.fault.LineFault.TheVariants as fault
 use Rattle.rga_lines.proofs.StreamLemmas.{IsOther, is_cut, bytes_of_lines-cons, lines-line, rest-line, lines-append_ended}
 
 -- ---- answers
@@ -21,88 +21,27 @@ gave_none = Ok None
 abbrev pub failed : LineFault → Answer
 failed e = Err e
 
-abbrev rest_answer : Bool → List ℕ → Answer × Splitting
-rest_answer long waiting = cond long (failed fault.Long, gave_up) (gave_none, splitting_with waiting)
+-- by the answer, what waited
+abbrev Had : List ℕ → List (List ℕ) → Answer × Splitting → Type 0
+Had waiting lines (Ok (Some line), t) = (others : List (List ℕ)) × (lines ≡ line ∷ others) × (t ≡ splitting_with (drop (length line + 1) waiting))
+Had waiting lines (Ok None, t) = (lines ≡ []) × (t ≡ splitting_with waiting) × (length waiting ≤ MAX_LINE)
+Had waiting lines (Err e, t) = (e ≡ fault.Long) × (t ≡ gave_up) × BeginsLong lines waiting
 
-abbrev line_answer : Bool → List ℕ → List ℕ → Answer × Splitting
-line_answer long line waiting = cond long (failed fault.Long, gave_up) (gave line, splitting_with (drop (length line + 1) waiting))
+had : (waiting : List ℕ) (lines : List (List ℕ)) → Had waiting lines (next_of_lines waiting lines)
+had waiting [] = by_length (ltb MAX_LINE (length waiting)) refl
+  where
+    by_length : (long : Bool) → ltb MAX_LINE (length waiting) ≡ long → Had waiting [] (cond long (failed fault.Long, gave_up) (gave_none, splitting_with waiting))
+    by_length true is = (refl, refl, ltb-true MAX_LINE (length waiting) is)
+    by_length false is = (refl, refl, ltb-false MAX_LINE (length waiting) is)
+had waiting (line ∷ others) = by_length (ltb MAX_LINE (length line)) refl
+  where
+    by_length : (long : Bool) → ltb MAX_LINE (length line) ≡ long → Had waiting (line ∷ others) (cond long (failed fault.Long, gave_up) (gave line, splitting_with (drop (length line + 1) waiting)))
+    by_length true is = (refl, refl, ltb-true MAX_LINE (length line) is)
+    by_length false is = (others, refl, refl)
 
--- ---- by the answer, what waited
-
-record HadLine (waiting : List ℕ) (lines : List (List ℕ)) (line : List ℕ) (t : Splitting) : Type 0 where
-  others : List (List ℕ)
-  is : lines ≡ line ∷ others
-  left : t ≡ splitting_with (drop (length line + 1) waiting)
-
-rest_is_no_line : (long : Bool) (waiting line : List ℕ) (t : Splitting) → rest_answer long waiting ≡ (gave line, t) → ⊥
-rest_is_no_line true waiting line t e = let f : failed fault.Long ≡ gave line = ap (λ (p : Answer × Splitting). p.0) e in cc
-rest_is_no_line false waiting line t e = let f : gave_none ≡ gave line = ap (λ (p : Answer × Splitting). p.0) e in cc
-
-line_is : (long : Bool) (first waiting line : List ℕ) (t : Splitting) → line_answer long first waiting ≡ (gave line, t) → (first ≡ line) × (t ≡ splitting_with (drop (length first + 1) waiting))
-line_is true first waiting line t e = let f : failed fault.Long ≡ gave line = ap (λ (p : Answer × Splitting). p.0) e in absurd cc
-line_is false first waiting line t e =
-    let f : gave first ≡ gave line = ap (λ (p : Answer × Splitting). p.0) e in
-    let same : first ≡ line = cc in
-    (same, sym (ap (λ (p : Answer × Splitting). p.1) e))
-
-had_line : (waiting : List ℕ) (lines : List (List ℕ)) (line : List ℕ) (t : Splitting) → next_of_lines waiting lines ≡ (gave line, t) → HadLine waiting lines line t
-had_line waiting [] line t e = absurd (rest_is_no_line (ltb MAX_LINE (length waiting)) waiting line t e)
-had_line waiting (first ∷ others) line t e =
-    let h = line_is (ltb MAX_LINE (length first)) first waiting line t e in
-    record {
-      others = others;
-      is = ap (λ (l : List ℕ). l ∷ others) h.0;
-      left = h.1 ∙ ap (λ (l : List ℕ). splitting_with (drop (length l + 1) waiting)) h.0;
-    }
-
-record HadNone (waiting : List ℕ) (lines : List (List ℕ)) (t : Splitting) : Type 0 where
-  is : lines ≡ []
-  left : t ≡ splitting_with waiting
-  short : length waiting ≤ MAX_LINE
-
-rest_is : (long : Bool) (waiting : List ℕ) (t : Splitting) → rest_answer long waiting ≡ (gave_none, t) → (long ≡ false) × (t ≡ splitting_with waiting)
-rest_is true waiting t e = let f : failed fault.Long ≡ gave_none = ap (λ (p : Answer × Splitting). p.0) e in absurd cc
-rest_is false waiting t e = (refl, sym (ap (λ (p : Answer × Splitting). p.1) e))
-
-line_is_not_none : (long : Bool) (first waiting : List ℕ) (t : Splitting) → line_answer long first waiting ≡ (gave_none, t) → ⊥
-line_is_not_none true first waiting t e = let f : failed fault.Long ≡ gave_none = ap (λ (p : Answer × Splitting). p.0) e in cc
-line_is_not_none false first waiting t e = let f : gave first ≡ gave_none = ap (λ (p : Answer × Splitting). p.0) e in cc
-
-had_none : (waiting : List ℕ) (lines : List (List ℕ)) (t : Splitting) → next_of_lines waiting lines ≡ (gave_none, t) → HadNone waiting lines t
-had_none waiting [] t e =
-    let h = rest_is (ltb MAX_LINE (length waiting)) waiting t e in
-    record { is = refl; left = h.1; short = ltb-false MAX_LINE (length waiting) h.0 }
-had_none waiting (first ∷ others) t e = absurd (line_is_not_none (ltb MAX_LINE (length first)) first waiting t e)
-
-record HadLong (waiting : List ℕ) (lines : List (List ℕ)) (e : LineFault) (t : Splitting) : Type 0 where
-  is : e ≡ fault.Long
-  left : t ≡ gave_up
-  begins : BeginsLong lines waiting
-
-rest_is_long : (long : Bool) (waiting : List ℕ) (e : LineFault) (t : Splitting) → rest_answer long waiting ≡ (failed e, t) → (long ≡ true) × (e ≡ fault.Long) × (t ≡ gave_up)
-rest_is_long true waiting e t is =
-    let f : failed fault.Long ≡ failed e = ap (λ (p : Answer × Splitting). p.0) is in
-    let same : e ≡ fault.Long = cc in
-    (refl, same, sym (ap (λ (p : Answer × Splitting). p.1) is))
-rest_is_long false waiting e t is = let f : gave_none ≡ failed e = ap (λ (p : Answer × Splitting). p.0) is in absurd cc
-
-line_is_long : (long : Bool) (first waiting : List ℕ) (e : LineFault) (t : Splitting) → line_answer long first waiting ≡ (failed e, t) → (long ≡ true) × (e ≡ fault.Long) × (t ≡ gave_up)
-line_is_long true first waiting e t is =
-    let f : failed fault.Long ≡ failed e = ap (λ (p : Answer × Splitting). p.0) is in
-    let same : e ≡ fault.Long = cc in
-    (refl, same, sym (ap (λ (p : Answer × Splitting). p.1) is))
-line_is_long false first waiting e t is = let f : gave first ≡ failed e = ap (λ (p : Answer × Splitting). p.0) is in absurd cc
-
-had_long : (waiting : List ℕ) (lines : List (List ℕ)) (e : LineFault) (t : Splitting) → next_of_lines waiting lines ≡ (failed e, t) → HadLong waiting lines e t
-had_long waiting [] e t is =
-    let h = rest_is_long (ltb MAX_LINE (length waiting)) waiting e t is in
-    record { is = h.1; left = h.2; begins = ltb-true MAX_LINE (length waiting) h.0 }
-had_long waiting (first ∷ others) e t is =
-    let h = line_is_long (ltb MAX_LINE (length first)) first waiting e t is in
-    record { is = h.1; left = h.2; begins = ltb-true MAX_LINE (length first) h.0 }
-
-unbroken : (s : Splitting) (p : Answer × Splitting) → s.broken ≡ false → next_of s ≡ p → next_of_lines s.waiting (lines_of s.waiting) ≡ p
-unbroken s p good e = rw good at e
+-- a splitter that did not give up answers by the lines of what waits
+next_had : (s : Splitting) → s.broken ≡ false → Had s.waiting (lines_of s.waiting) (next_of s)
+next_had s good = rw good (had s.waiting (lines_of s.waiting))
 
 -- ---- a line
 
@@ -138,17 +77,21 @@ starts_shorter : (waiting line : List ℕ) → Starts waiting line → length (d
 starts_shorter waiting line h =
     omega (arith, length-drop (length line + 1) waiting, ap length h.parts, length-append line (newline ∷ drop (length line + 1) waiting))
 
-pub gives_line : (s t : Splitting) (line : List ℕ) → s.broken ≡ false → next_of s ≡ (Ok (Some line), t) → GivesLine s t line
-gives_line s t line good e =
-    let had = had_line s.waiting (lines_of s.waiting) line t (unbroken s (gave line, t) good e) in
-    let h = starts s.waiting line had.others had.is in
-    let left = ap (λ (u : Splitting). u.waiting) had.left in
+had_gives : (s t : Splitting) (line : List ℕ) (others : List (List ℕ)) → lines_of s.waiting ≡ line ∷ others → t ≡ splitting_with (drop (length line + 1) s.waiting) → GivesLine s t line
+had_gives s t line others is passed =
+    let h = starts s.waiting line others is in
+    let left = ap (λ (u : Splitting). u.waiting) passed in
     record {
-      good = ap (λ (u : Splitting). u.broken) had.left;
+      good = ap (λ (u : Splitting). u.broken) passed;
       shorter = subst (λ (l : List ℕ). length l < length s.waiting) (sym left) (starts_shorter s.waiting line h);
       lines = λ more. ap lines_of (starts_more s.waiting line more h) ∙ lines-line line (drop (length line + 1) s.waiting ++ more) h.none ∙ ap (λ (l : List ℕ). line ∷ lines_of (l ++ more)) (sym left);
       rest = λ more. ap rest_of (starts_more s.waiting line more h) ∙ rest-line line (drop (length line + 1) s.waiting ++ more) h.none ∙ ap (λ (l : List ℕ). rest_of (l ++ more)) (sym left);
     }
+
+pub gives_line : (s t : Splitting) (line : List ℕ) → s.broken ≡ false → next_of s ≡ (Ok (Some line), t) → GivesLine s t line
+gives_line s t line good e =
+    let h : Had s.waiting (lines_of s.waiting) (gave line, t) = rw e at (next_had s good) in
+    had_gives s t line h.0 h.1 h.2
 
 -- the same of a line that was lent, and then passed
 pub passes_line : (s t u : Splitting) (line : List ℕ) (end : ℕ) → s.broken ≡ false → t ≡ s → EndsNextLine s end → line ≡ take end t.waiting → u ≡ splitting_with (drop (end + 1) t.waiting) → GivesLine s u line
@@ -162,24 +105,8 @@ passes_line s t u line end good same next lent left =
 pub rest_is_all : (waiting : List ℕ) → lines_of waiting ≡ [] → rest_of waiting ≡ waiting
 rest_is_all waiting is = sym ((is_cut waiting).whole ∙ ap (λ (ls : List (List ℕ)). bytes_of_lines ls ++ rest_of waiting) is)
 
-pub record GivesNone (s t : Splitting) : Type 0 where
-  pub same : t ≡ s
-  pub lines : lines_of s.waiting ≡ []
-  pub rest : rest_of s.waiting ≡ s.waiting
-  pub short : length s.waiting ≤ MAX_LINE
-
 whole_state : (s : Splitting) → s.broken ≡ false → s ≡ splitting_with s.waiting
 whole_state s good = ap (λ (b : Bool). let t : Splitting = record { waiting = s.waiting; broken = b } in t) good
-
-pub gives_none : (s t : Splitting) → s.broken ≡ false → next_of s ≡ (Ok None, t) → GivesNone s t
-gives_none s t good e =
-    let h = had_none s.waiting (lines_of s.waiting) t (unbroken s (gave_none, t) good e) in
-    record {
-      same = h.left ∙ sym (whole_state s good);
-      lines = h.is;
-      rest = rest_is_all s.waiting h.is;
-      short = h.short;
-    }
 
 -- ---- a line that is too long
 
@@ -212,8 +139,8 @@ stays_long waiting (line ∷ others) is long more =
 
 pub gives_up : (s t : Splitting) (e : LineFault) → s.broken ≡ false → next_of s ≡ (Err e, t) → (e ≡ fault.Long) × ((more : List ℕ) → BeginsLong (lines_of (s.waiting ++ more)) (rest_of (s.waiting ++ more)))
 gives_up s t e good is =
-    let h = had_long s.waiting (lines_of s.waiting) e t (unbroken s (failed e, t) good is) in
-    (h.is, stays_long s.waiting (lines_of s.waiting) refl h.begins)
+    let h : Had s.waiting (lines_of s.waiting) (failed e, t) = rw is at (next_had s good) in
+    (h.0, stays_long s.waiting (lines_of s.waiting) refl h.2)
 
 -- ---- a piece
 
@@ -251,16 +178,6 @@ given_up [] = (refl, refl)
 given_up (Feed piece ∷ calls) = given_up calls
 given_up (Next ∷ calls) = given_up calls
 
-data NextCases (s : Splitting) : Type 0 where
-  line_next : (line : List ℕ) (t : Splitting) → next_of s ≡ (gave line, t) → NextCases s
-  none_next : (t : Splitting) → next_of s ≡ (gave_none, t) → NextCases s
-  fault_next : (e : LineFault) (t : Splitting) → next_of s ≡ (failed e, t) → NextCases s
-
-next_cases : (s : Splitting) (answer : Answer) (t : Splitting) → next_of s ≡ (answer, t) → NextCases s
-next_cases s (Ok (Some line)) t e = line_next line t e
-next_cases s (Ok None) t e = none_next t e
-next_cases s (Err x) t e = fault_next x t e
-
 abbrev EndsNext : List ℕ → List StreamCall → Answer × Splitting → Type 0
 EndsNext bytes calls p = Ends bytes (line_in p.0 ++ lines_given p.1 calls) (after_calls p.1 calls)
 
@@ -268,19 +185,16 @@ abbrev EndsAfter : List ℕ → List StreamCall → Splitting → Type 0
 EndsAfter bytes calls t = Ends bytes (lines_given t calls) (after_calls t calls)
 
 ends_next : (s : Splitting) (calls : List StreamCall) → s.broken ≡ false → ((t : Splitting) → t.broken ≡ false → EndsAfter (t.waiting ++ bytes_fed calls) calls t)
-    → NextCases s → EndsNext (s.waiting ++ bytes_fed calls) calls (next_of s)
-ends_next s calls good later (line_next line t e) =
-    let h = gives_line s t line good e in
-    subst (EndsNext (s.waiting ++ bytes_fed calls) calls) (sym e) (ends_after_line s t line (bytes_fed calls) (lines_given t calls) (after_calls t calls) h (later t h.good))
-ends_next s calls good later (none_next t e) =
-    let same = (gives_none s t good e).same in
-    subst (EndsNext (s.waiting ++ bytes_fed calls) calls) (sym e) (subst (EndsAfter (s.waiting ++ bytes_fed calls) calls) (sym same) (later s good))
-ends_next s calls good later (fault_next x t e) =
-    let h = had_long s.waiting (lines_of s.waiting) x t (unbroken s (failed x, t) good e) in
-    let long = stays_long s.waiting (lines_of s.waiting) refl h.begins (bytes_fed calls) in
+    → (p : Answer × Splitting) → Had s.waiting (lines_of s.waiting) p → EndsNext (s.waiting ++ bytes_fed calls) calls p
+ends_next s calls good later (Ok (Some line), t) h =
+    let given = had_gives s t line h.0 h.1 h.2 in
+    ends_after_line s t line (bytes_fed calls) (lines_given t calls) (after_calls t calls) given (later t given.good)
+ends_next s calls good later (Ok None, t) h = subst (EndsAfter (s.waiting ++ bytes_fed calls) calls) (sym (h.1 ∙ sym (whole_state s good))) (later s good)
+ends_next s calls good later (Err x, t) h =
+    let long = stays_long s.waiting (lines_of s.waiting) refl h.2 (bytes_fed calls) in
     let over = given_up calls in
     let done : EndsAfter (s.waiting ++ bytes_fed calls) calls gave_up = rw (over.0, over.1) (ends_long (s.waiting ++ bytes_fed calls) long) in
-    subst (EndsNext (s.waiting ++ bytes_fed calls) calls) (sym e) (subst (EndsAfter (s.waiting ++ bytes_fed calls) calls) (sym h.left) done)
+    subst (EndsAfter (s.waiting ++ bytes_fed calls) calls) (sym h.1) done
 
 pub ends : (s : Splitting) (calls : List StreamCall) → s.broken ≡ false → Ends (s.waiting ++ bytes_fed calls) (lines_given s calls) (after_calls s calls)
 ends s [] good = ends_here s good
@@ -288,6 +202,4 @@ ends s (Feed piece ∷ calls) good =
     let next = fed_holds s (fed piece s) piece good refl in
     let done = subst (λ (bytes : List ℕ). EndsAfter bytes calls (splitting_with (s.waiting ++ piece))) (append_assoc s.waiting piece (bytes_fed calls)) (ends (splitting_with (s.waiting ++ piece)) calls refl) in
     subst (EndsAfter (s.waiting ++ (piece ++ bytes_fed calls)) calls) (sym next) done
-ends s (Next ∷ calls) good = ends_next s calls good (λ t better. ends t calls better) (next_cases s (next_of s).0 (next_of s).1 refl)
-
--- ---- lines by themselves
+ends s (Next ∷ calls) good = ends_next s calls good (λ t better. ends t calls better) (next_of s) (next_had s good)

@@ -3,14 +3,14 @@ use Rattle.std.proofs.Common.{◌≡◌, ℕ, ◌<◌, ◌^◌, List, [], ◌∷
 use Rattle.std.specs.List.{AllByRecursion}
 use Rattle.rga_ops.specs.Operation.{checked}
 use Rattle.rga_ops.specs.declared.op.Op.{Op}
-use Rattle.rga_table.specs.declared.line.Line.TheVariants.{One, Run, Deletions, Head, Last}
-use Rattle.rga_table.specs.declared.line.TheConstants.{MAX_LINE}
-use Rattle.rga_table.specs.declared.fault.LineFault.{LineFault}
-use Rattle.rga_table.specs.declared.fault.LineFault.TheVariants as fault
-use Rattle.rga_table.specs.declared.deletion_run.DeletionRun.{DeletionRun}
-use Rattle.rga_table.specs.Runs.{Stretch, stretch_operations, run_deletions, IsDeletionRun}
+use Rattle.rga_lines.specs.declared.line.Line.TheVariants.{One, Run, Deletions, Head, Last}
+use Rattle.rga_lines.specs.declared.line.TheConstants.{MAX_LINE}
+use Rattle.rga_lines.specs.declared.fault.LineFault.{LineFault}
+use Rattle.rga_lines.specs.declared.fault.LineFault.TheVariants as fault
+use Rattle.rga_lines.specs.declared.deletion_run.DeletionRun.{DeletionRun}
+use Rattle.rga_lines.specs.Runs.{Stretch, stretch_operations, run_deletions, IsDeletionRun}
 use Rattle.rga_lines.specs.Spelling.{line, run_line, deletion_run_line, end_line, IsWritable, IsWritableRun}
-use Rattle.rga_table.specs.Table.{AnyReading, any_line_at}
+use Rattle.rga_lines.specs.Table.{AnyReading, any_line_at}
 use Rattle.rga_lines.specs.Log.{operations_in, operations_at}
 use Rattle.rga_lines.proofs.ReadingLemmas.{too_long, refused, any_well_formed, any_run, any_deletions}
 use Rattle.rga_lines.proofs.RunLemmas.{run_checked}

@@ -2,11 +2,11 @@
 use Rattle.std.specs.Prelude.{◌≡◌, ◌⊎◌, ℕ, Bool, true, false, if◌then◌else◌, List, [], ◌∷◌, ◌++◌, Result, Ok, Err}
 use Rattle.std.specs.List.{AllByRecursion}
 use Rattle.rga_ops.specs.declared.op.Op.{Op}
-use Rattle.rga_table.specs.Runs.{Stretch, stretch_operations, run_deletions}
-use Rattle.rga_table.specs.declared.line.Line.TheVariants.{One, Run, Deletions, Head, Last}
-use Rattle.rga_table.specs.declared.fault.LineFault.{LineFault}
-use Rattle.rga_table.specs.declared.fault.LineFault.TheVariants.{Kind}
-use Rattle.rga_table.specs.Table.{AnyReading, any_line_at}
+use Rattle.rga_lines.specs.Runs.{Stretch, stretch_operations, run_deletions}
+use Rattle.rga_lines.specs.declared.line.Line.TheVariants.{One, Run, Deletions, Head, Last}
+use Rattle.rga_lines.specs.declared.fault.LineFault.{LineFault}
+use Rattle.rga_lines.specs.declared.fault.LineFault.TheVariants.{Kind}
+use Rattle.rga_lines.specs.Table.{AnyReading, any_line_at}
 use Rattle.rga_lines.specs.Stream.{lines_of, rest_of}
 
 -- the operations that a line stands for; the head and the end of an exchange are lines of another kind

@@ -6,9 +6,9 @@ use Rattle.std.specs.List.{flat_map, AllByRecursion}
 use Rattle.rga_ops.specs.Identifier.{Identifier}
 use Rattle.rga_ops.specs.declared.op.Op.{Op}
 use Rattle.rga_ops.specs.declared.op.Op.TheVariants.{Insert, Delete}
-pub use Rattle.rga_table.specs.Table.{IsElement, IsElementOrRoot}
-use Rattle.rga_table.specs.Runs.{Stretch, IsRun, run_operations}
-use Rattle.rga_table.specs.declared.deletion_run.DeletionRun.{DeletionRun}
+pub use Rattle.rga_lines.specs.Table.{IsElement, IsElementOrRoot}
+use Rattle.rga_lines.specs.Runs.{Stretch, IsRun, run_operations}
+use Rattle.rga_lines.specs.declared.deletion_run.DeletionRun.{DeletionRun}
 
 -- a character below a space by four hexadecimal digits
 abbrev pub code_escape : ℕ → List ℕ
@@ -34,6 +34,10 @@ BeginsWithCharacter bytes ch rest = (bytes ≡ escaped ch ++ rest) × IsScalar c
 abbrev pub pair_text : Identifier → List ℕ
 pair_text id = codes "[" ++ (decimal id.counter ++ (codes "," ++ (decimal id.replica ++ codes "]")))
 
+-- the bytes are these ones, an identifier and then the rest
+abbrev pub BeginsWithIdentifier : List ℕ → List ℕ → Identifier → List ℕ → Type 0
+BeginsWithIdentifier bytes literal id rest = (bytes ≡ literal ++ (pair_text id ++ rest)) × IsElementOrRoot id
+
 -- the line of an operation, without its newline
 unfoldable pub line : Op → List ℕ
 line (Insert id parent ch) =
@@ -52,19 +56,11 @@ abbrev pub IsWritable : Op → Type 0
 IsWritable (Insert id parent ch) = IsElement id × IsElementOrRoot parent × IsScalar ch
 IsWritable (Delete id) = IsElement id
 
--- the bytes are the line of an operation that can be written
-abbrev pub IsLineOf : List ℕ → Op → Type 0
-IsLineOf bytes op = (bytes ≡ line op) × IsWritable op
-
 -- the line that begins an exchange, without its newline
 unfoldable pub head_line : List ℕ
 head_line = codes "{\"op\":\"head\",\"version\":2}"
 
 -- ---- runs
-
--- an object up to its first member, the identifier of an element, and then the rest
-abbrev pub element_from : Identifier → List ℕ → List ℕ
-element_from id rest = codes "{\"id\":" ++ (pair_text id ++ rest)
 
 -- the line of a run up to the quote that opens its text, and then the rest
 abbrev pub run_from : Identifier → Identifier → List ℕ → List ℕ
@@ -84,15 +80,11 @@ pub record IsWritableRun (r : Stretch) : Type 0 where
   pub scalars : AllByRecursion IsScalar r.chars
   pub run : IsRun r
 
--- the bytes are these characters as they stand between quotes, and then the rest
-pub record BeginsWithCharacters (bytes chars rest : List ℕ) : Type 0 where
-  pub parts : bytes ≡ flat_map escaped chars ++ rest
-  pub scalars : AllByRecursion IsScalar chars
-
--- the bytes are characters as they stand between quotes, and then the rest, and these are the insertions of a run of them
-pub record ReadsInsertions (id parent : Identifier) (bytes rest : List ℕ) (ops : List Op) : Type 0 where
+-- the bytes are characters as they stand between quotes, up to the end of a run's line, and these are their insertions
+pub record ReadsInsertions (id parent : Identifier) (bytes : List ℕ) (ops : List Op) : Type 0 where
   pub chars : List ℕ
-  pub read : BeginsWithCharacters bytes chars rest
+  pub parts : bytes ≡ flat_map escaped chars ++ codes "\"}"
+  pub scalars : AllByRecursion IsScalar chars
   pub insertions : ops ≡ run_operations id parent chars
 
 -- the line of a run of deletions, without its newline

@@ -1,5 +1,5 @@
 //! A hundred numbers in a row, whose digits begin alike.
-ghost use Rattle.std.specs.Prelude.{◌≡◌, ◌≤◌, ◌<◌, ◌+◌, ◌/◌, ◌%◌, ◌++◌, ◌∷◌, [], length, take, decimal};
+ghost use Rattle.std.specs.Prelude.{◌≡◌, ◌≤◌, ◌+◌, ◌++◌, length, take, decimal};
 ghost use Rattle.rga_lines.specs.declared.hundred.TheConstants.{MAX_PIECE, ROOM};
 
 use crate::bytes::{put, put_array};
@@ -77,8 +77,10 @@ impl Hundred {
         if rest >= 100 {
             return self.put_other(bytes, at, number);
         }
-        let at = put_front(bytes, at, self.bytes, self.end);
-        put_two(bytes, at, rest)
+        // All the room is copied, since so many bytes are a few moves.
+        put_array(bytes, at, self.bytes);
+        let digits = rest as usize * 2;
+        put_array(bytes, at + self.end, [PAIRS[digits], PAIRS[digits + 1]])
     }
 
     /// The same of any number, whose digits are then kept.
@@ -106,31 +108,4 @@ impl Hundred {
         self.first = digits * 100;
         self.end = put_number(&mut self.bytes, self.piece, digits);
     }
-}
-
-/// Puts so many bytes of the front of these. All are copied, since so many are a few moves.
-#[inline(always)]
-fn put_front(bytes: &mut [u8], at: usize, front: [u8; ROOM], count: usize) -> usize
-    requires room { at + ROOM ≤ length bytes.old }
-    requires count { count ≤ ROOM }
-    ensures put { take result bytes.new ≡ take at bytes.old ++ take count front }
-    ensures end { result ≡ at + count }
-    ensures length { length bytes.new ≡ length bytes.old }
-{
-    put_array(bytes, at, front);
-    at + count
-}
-
-/// Puts the two digits of a number below a hundred.
-#[inline(always)]
-fn put_two(bytes: &mut [u8], at: usize, number: u64) -> usize
-    requires number { number < 100 }
-    requires room { at + 2 ≤ length bytes.old }
-    ensures put { take result bytes.new
-        ≡ take at bytes.old ++ (48 + number / 10) ∷ (48 + number % 10) ∷ [] }
-    ensures end { result ≡ at + 2 }
-    ensures length { length bytes.new ≡ length bytes.old }
-{
-    let from = number as usize * 2;
-    put_array(bytes, at, [PAIRS[from], PAIRS[from + 1]])
 }

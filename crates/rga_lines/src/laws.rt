@@ -3,16 +3,19 @@
 ghost use Rattle.std.specs.Prelude.{◌≡◌, ℕ, ◌<◌, ◌^◌, ◌++◌, [], ◌∷◌, List, true, false, Ok, Err};
 ghost use Rattle.rga_ops.specs.Operation.{checked};
 ghost use Rattle.rga_ops.specs.declared.op.Op.{Op};
-ghost use Rattle.rga_table.specs.Table.{any_line_at, line_at};
-ghost use Rattle.rga_table.specs.Runs.{Stretch, IsRun, IsDeletionRun};
-ghost use Rattle.rga_table.specs.declared.deletion_run.DeletionRun.{DeletionRun};
+ghost use Rattle.std.specs.Result.{result_err};
+ghost use Rattle.serde_json.specs.Data.{Data};
+ghost use Rattle.rga_lines.specs.Faults.{first_fault, line_demands, operation_demands, value_demands};
+ghost use Rattle.rga_lines.specs.Table.{any_line_at, line_at, value_line};
+ghost use Rattle.rga_lines.specs.Runs.{Stretch, IsRun, IsDeletionRun};
+ghost use Rattle.rga_lines.specs.declared.deletion_run.DeletionRun.{DeletionRun};
 ghost use Rattle.rga_lines.specs.Spelling.{line, end_line, head_line, run_line, deletion_run_line};
 ghost use Rattle.rga_lines.specs.Spelling.{IsWritable, IsWritableRun};
 ghost use Rattle.rga_lines.specs.Stream.{HasNoNewline, lines_of, rest_of, IsCut, BeginsLong};
 ghost use Rattle.rga_lines.specs.Stream.{StreamCall, splitting_with, after_calls, lines_given, bytes_fed};
-ghost use Rattle.rga_table.specs.declared.line.Line.TheVariants.{One, Run as RunLine, Deletions, Head, Last};
-ghost use Rattle.rga_table.specs.declared.fault.LineFault.{LineFault};
-ghost use Rattle.rga_table.specs.declared.fault.LineFault.TheVariants.{Kind};
+ghost use Rattle.rga_lines.specs.declared.line.Line.TheVariants.{One, Run as RunLine, Deletions, Head, Last};
+ghost use Rattle.rga_lines.specs.declared.fault.LineFault.{LineFault};
+ghost use Rattle.rga_lines.specs.declared.fault.LineFault.TheVariants.{Kind};
 
 /// The operation that a line says is well-formed, where the line may also be the end of an
 /// exchange and where it may not.
@@ -106,4 +109,15 @@ pub fn lines_do_not_depend_on_the_cutting()
         → (others : List (List ℕ))
         × (lines_of (bytes_fed calls) ≡ lines_given (splitting_with []) calls ++ others)
         × BeginsLong others (rest_of (bytes_fed calls)) }
+{}
+
+/// A line, and a value as a line, is at fault exactly where it does not meet a demand of the table
+/// of `specs/Faults.antt`, and its fault is that of the first one. A line that meets all is right.
+/// Where one operation alone may stand, there is one demand more.
+pub fn a_line_has_the_fault_of_the_first_demand_it_does_not_meet()
+    ensures value { (d : Data) → result_err (value_line d) ≡ first_fault (value_demands d) }
+    ensures line { (bytes : List ℕ) →
+        result_err (any_line_at bytes) ≡ first_fault (line_demands bytes) }
+    ensures operation { (bytes : List ℕ) →
+        result_err (line_at bytes) ≡ first_fault (operation_demands bytes) }
 {}

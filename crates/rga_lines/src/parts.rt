@@ -1,197 +1,39 @@
-//! The parts of a line that more than one of its readers knows: literals, characters and numbers.
-ghost use Rattle.std.specs.Prelude.{◌≡◌, ◌≢◌, ◌+◌, ◌<◌, ◌≤◌, ◌++◌, ◌∷◌, [], decimal, IfSome};
-ghost use Rattle.std.specs.Bool.{OnTrue};
-ghost use Rattle.std.specs.Char.{IsScalar};
-ghost use Rattle.rga_lines.specs.Spelling.{escaped, BeginsWithCharacter};
+//! Identifiers, and texts of one character: parts of a line that are the same in any spelling.
+ghost use Rattle.std.specs.Prelude.{◌≡◌, IfSome};
+ghost use Rattle.std.specs.Str.{chars};
+ghost use Rattle.rga_ops.specs.Identifier.{identifier};
+ghost use Rattle.rga_lines.specs.Table.{only_char, if_in_range, if_root_or_in_range, IsElement, IsElementOrRoot};
 
 use rga_ops::Id;
-use rga_table::parts::only_char;
 
-/// What stands behind the literal, with which the bytes begin.
-pub(crate) fn after<'a>(bytes: &'a [u8], literal: &[u8]) -> Option<&'a [u8]>
-    ensures { IfSome result (λ rest. bytes.now ≡ literal.now ++ rest.now) }
+/// The text's only character. `None` where it has none or more than one.
+pub fn only_char(text: &str) -> Option<char>
+    ensures { result ≡ only_char (chars text.now) }
 {
-    bytes.strip_prefix(literal)
-}
-
-/// The same of a literal whose length is known, so that nothing is called to compare it.
-#[inline(always)]
-pub(crate) fn after_literal<'a, const N: usize>(
-    bytes: &'a [u8],
-    literal: &[u8; N],
-) -> Option<&'a [u8]>
-    ensures { IfSome result (λ rest. bytes.now ≡ literal.now ++ rest.now) }
-{
-    let Some((front, rest)) = bytes.split_first_chunk() else {
-        return None;
-    };
-    if front == literal { Some(rest) } else { None }
-}
-
-/// The same of one byte.
-#[inline(always)]
-pub(crate) fn after_byte(bytes: &[u8], byte: u8) -> Option<&[u8]>
-    ensures { IfSome result (λ rest. bytes.now ≡ byte ∷ rest.now) }
-{
-    let Some((first, rest)) = bytes.split_first() else {
-        return None;
-    };
-    if *first == byte { Some(rest) } else { None }
-}
-
-/// The character that the bytes begin with, and what stands behind it.
-#[inline(always)]
-pub(crate) fn character(bytes: &[u8]) -> Option<(char, &[u8])>
-    ensures { IfSome result (λ p. BeginsWithCharacter bytes.now p.0 p.1.now) }
-{
-    // Most characters are plain, and cost no call; nor does the quote behind the last one.
-    if let Some(found) = plain_character(bytes) {
-        return Some(found);
-    }
-    if *bytes.first()? == b'"' {
-        return None;
-    }
-    other_character(bytes)
-}
-
-/// The same of a character that is no plain one.
-#[inline(never)]
-fn other_character(bytes: &[u8]) -> Option<(char, &[u8])>
-    ensures { IfSome result (λ p. BeginsWithCharacter bytes.now p.0 p.1.now) }
-{
-    let first = *bytes.first()?;
-    if first == b'\\' {
-        short_escape(bytes)
-    } else if first < 128 {
-        None
-    } else {
-        wide_character(bytes)
+    let mut chars = text.chars();
+    let first = chars.next()?;
+    match chars.next() {
+        None => Some(first),
+        Some(_) => None,
     }
 }
 
-/// An ASCII character that needs no escape, and what stands behind it.
-#[inline(always)]
-#[tactic(auto, using(crate::proofs::PartsLemmas::plain_spelled))]
-fn plain_character(bytes: &[u8]) -> Option<(char, &[u8])>
-    ensures { IfSome result (λ p. BeginsWithCharacter bytes.now p.0 p.1.now) }
+/// The identifier of an element that has this counter and this replica. `None` where one of them is
+/// out of its range.
+pub fn element(counter: u64, replica: u16) -> Option<Id>
+    ensures exact { result ≡ if_in_range (counter, replica) }
+    ensures ok { IfSome result (λ id. (id ≡ identifier counter replica) × IsElement id) }
 {
-    let Some((first, rest)) = bytes.split_first() else {
-        return None;
-    };
-    if is_plain(*first) {
-        Some((char::from(*first), rest))
-    } else {
-        None
+    Id::new(counter, replica).ok()
+}
+
+/// The same, or the root where both are 0.
+pub fn element_or_root(counter: u64, replica: u16) -> Option<Id>
+    ensures exact { result ≡ if_root_or_in_range (counter, replica) }
+    ensures ok { IfSome result (λ id. (id ≡ identifier counter replica) × IsElementOrRoot id) }
+{
+    if counter == 0 && replica == 0 {
+        return Some(Id::ROOT);
     }
-}
-
-/// Whether a byte is an ASCII character that needs no escape.
-fn is_plain(byte: u8) -> bool
-    ensures { OnTrue result ((32 ≤ byte) × (byte < 128) × (byte ≢ 34) × (byte ≢ 92)) }
-{
-    byte >= b' ' && byte < 128 && byte != b'"' && byte != b'\\'
-}
-
-/// A character by its escape of one letter, and what stands behind it.
-fn short_escape(bytes: &[u8]) -> Option<(char, &[u8])>
-    ensures { IfSome result (λ p. BeginsWithCharacter bytes.now p.0 p.1.now) }
-{
-    let Some(rest) = after(bytes, b"\\") else {
-        return None;
-    };
-    let Some((letter, behind)) = rest.split_first() else {
-        return None;
-    };
-    let Some(ch) = of_letter(*letter) else {
-        return None;
-    };
-    Some((ch, behind))
-}
-
-/// The character whose escape has this letter.
-#[tactic(auto, unfolding(crate::specs::Spelling::escaped))]
-fn of_letter(letter: u8) -> Option<char>
-    ensures { IfSome result (λ ch. (escaped ch ≡ 92 ∷ letter ∷ []) × IsScalar ch) }
-{
-    match letter {
-        b'"' => Some('"'),
-        b'\\' => Some('\\'),
-        b'b' => Some('\u{8}'),
-        b'f' => Some('\u{c}'),
-        b'n' => Some('\n'),
-        b'r' => Some('\r'),
-        b't' => Some('\t'),
-        _ => None,
-    }
-}
-
-/// A character above ASCII, and what stands behind it.
-fn wide_character(bytes: &[u8]) -> Option<(char, &[u8])>
-    ensures { IfSome result (λ p. BeginsWithCharacter bytes.now p.0 p.1.now) }
-{
-    let width = match *bytes.first()? {
-        0..=223 => 2usize,
-        224..=239 => 3,
-        _ => 4,
-    };
-    let Some((front, rest)) = bytes.split_at_checked(width) else {
-        return None;
-    };
-    let Ok(text) = str::from_utf8(front) else {
-        return None;
-    };
-    let Some(ch) = only_char(text) else {
-        return None;
-    };
-    if u32::from(ch) < 128 {
-        None
-    } else {
-        Some((ch, rest))
-    }
-}
-
-/// A number without leading zeros, and what stands behind it.
-#[inline(always)]
-pub(crate) fn number(bytes: &[u8]) -> Option<(u64, &[u8])>
-    ensures { IfSome result (λ p. bytes.now ≡ decimal p.0 ++ p.1.now) }
-{
-    let Some((first, behind)) = bytes.split_first() else {
-        return None;
-    };
-    if *first == b'0' {
-        return Some((0, behind));
-    }
-    if !is_digit(*first) {
-        return None;
-    }
-    let mut value = u64::from(*first - b'0');
-    let mut rest = behind;
-    'digits: while let Some((next, behind)) = rest.split_first() {
-        if !is_digit(*next) {
-            break;
-        }
-        if value > Id::MAX_COUNTER {
-            return None;
-        }
-        value = 10 * value + u64::from(*next - b'0');
-        rest = behind;
-    }
-    Some((value, rest))
-}
-
-/// A number behind the byte, with which the bytes begin, and what stands behind it.
-#[inline(always)]
-pub(crate) fn number_behind(bytes: &[u8], byte: u8) -> Option<(u64, &[u8])>
-    ensures { IfSome result (λ p. bytes.now ≡ byte ∷ (decimal p.0 ++ p.1.now)) }
-{
-    let Some(rest) = after_byte(bytes, byte) else {
-        return None;
-    };
-    number(rest)
-}
-
-fn is_digit(byte: u8) -> bool
-    ensures { OnTrue result ((48 ≤ byte) × (byte < 58)) }
-{
-    byte >= b'0' && byte <= b'9'
+    element(counter, replica)
 }

@@ -1,9 +1,9 @@
 //! Pieces of lines, put into bytes from a place on: each function answers where its piece ends.
-ghost use Rattle.std.specs.Prelude.{◌≡◌, ◌≤◌, ◌<◌, ◌+◌, ◌++◌, ◌∷◌, length, take, decimal};
+ghost use Rattle.std.specs.Prelude.{◌≡◌, ◌≤◌, ◌<◌, ◌+◌, ◌++◌, ◌∷◌, MatchOption, IfSome, if◌then◌else◌, length, take, decimal, nat_lt};
+ghost use Rattle.std.specs.Char.{digit_char, encode_utf8};
 ghost use Rattle.rga_lines.specs.Spelling.{code_escape, escaped};
 
 use crate::bytes::{put, put_array};
-use crate::escapes::{hex_digit, short_escape};
 use itoa::write_digits;
 
 /// Puts a character as it stands between quotes.
@@ -119,4 +119,33 @@ fn count_few(number: u64) -> usize
         return 2;
     }
     if number < 1000 { 3 } else { 4 }
+}
+
+/// The escape of a character that has a short one, where JSON (RFC 8259, section 7) asks for one.
+#[tactic(auto, unfolding(crate::specs::Spelling::escaped))]
+pub(crate) fn short_escape(ch: char) -> Option<&'static str>
+    ensures escape { MatchOption result
+        (escaped ch ≡ (if nat_lt ch 32 then code_escape ch else encode_utf8 ch))
+        (λ escape. escape.now ≡ escaped ch) }
+    ensures short { IfSome result (λ escape. length escape.now ≤ 2) }
+{
+    match ch {
+        '"' => Some("\\\""),
+        '\\' => Some("\\\\"),
+        '\u{8}' => Some("\\b"),
+        '\t' => Some("\\t"),
+        '\n' => Some("\\n"),
+        '\u{c}' => Some("\\f"),
+        '\r' => Some("\\r"),
+        _ => None,
+    }
+}
+
+/// The lower-case digit of a number below 16.
+pub(crate) fn hex_digit(value: u32) -> char
+    requires { value < 16 }
+    ensures value { result ≡ digit_char value }
+    ensures ascii { result < 128 }
+{
+    char::from_digit(value, 16).unwrap()
 }

@@ -1,12 +1,11 @@
 //! What the bytes of a line say.
 ghost use Rattle.std.specs.Prelude.{◌≡◌, ◌≢◌, ◌<◌, length, Ok, Err};
-ghost use Rattle.rga_table.specs.Table.{operation_alone, any_line_at, line_at, longest_line};
-ghost use Rattle.rga_table.specs.declared.fault.LineFault.TheVariants.{Memory, Long};
+ghost use Rattle.rga_lines.specs.Table.{operation_alone, any_line_at, line_at, longest_line};
+ghost use Rattle.rga_lines.specs.declared.fault.LineFault.TheVariants.{Memory, Long};
 
-use crate::members::by_members;
 use crate::spelled::spelled;
+use crate::{Line, LineFault, MAX_LINE, line_of};
 use rga_ops::Op;
-use rga_table::{Line, LineFault, MAX_LINE, line_of};
 use serde_json::Value;
 use std::alloc::Global;
 
@@ -35,11 +34,8 @@ pub fn read_any(alloc: Global, bytes: &[u8]) -> Result<Line, LineFault>
     if bytes.len() > MAX_LINE {
         return Err(LineFault::Long);
     }
-    if let Some(line) = spelled(alloc, bytes)? {
+    if let Some(line) = spelled(bytes) {
         return Ok(line);
-    }
-    if let Some(op) = by_members(bytes) {
-        return Ok(Line::One(op));
     }
     match Value::from_slice(alloc, bytes) {
         Ok(value) => line_of(alloc, &value),

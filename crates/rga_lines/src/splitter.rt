@@ -4,10 +4,10 @@ ghost use Rattle.std.specs.Prelude.{IsOk, IfOk, IfErr, OnOk, OnErr, MatchOption,
 ghost use Rattle.std.specs.Prelude.{vec_items, vec_len, length, take, drop, position};
 ghost use Rattle.rga_lines.specs.Stream.{Splitting, splitting_code, IsKept, HasNoNewline};
 ghost use Rattle.rga_lines.specs.Stream.{EndsNextLine, splitting_with, newline, fed, next_of};
-ghost use Rattle.rga_table.specs.declared.fault.LineFault.TheVariants.{Long, Memory};
+ghost use Rattle.rga_lines.specs.declared.fault.LineFault.TheVariants.{Long, Memory};
 
+use crate::{LineFault, MAX_LINE};
 use memchr::memchr;
-use rga_table::{LineFault, MAX_LINE};
 use std::alloc::Global;
 use std::marker::Model;
 

@@ -5,17 +5,17 @@ ghost use Rattle.std.specs.Char.{IsScalar};
 ghost use Rattle.rga_ops.specs.Operation.{checked};
 ghost use Rattle.rga_ops.specs.declared.op.Op.TheVariants.{Insert, Delete};
 ghost use Rattle.std.specs.List.{flat_map, AllByRecursion};
-ghost use Rattle.rga_table.specs.Runs.{IsRun};
+ghost use Rattle.rga_lines.specs.Runs.{IsRun};
 ghost use Rattle.rga_lines.specs.Spelling.{code_escape, escaped, pair_text, line, run_line};
 ghost use Rattle.rga_lines.specs.Spelling.{deletion_run_line, head_line, end_line};
 ghost use Rattle.rga_lines.specs.Spelling.{IsWritableRun};
 ghost use Rattle.rga_lines.specs.Spelling.{IsElementOrRoot, IsWritable};
-ghost use Rattle.rga_table.specs.declared.fault.LineFault.TheVariants.{Memory};
+ghost use Rattle.rga_lines.specs.declared.fault.LineFault.TheVariants.{Memory};
 
-use crate::escapes::{hex_digit, short_escape};
+use crate::pieces::{hex_digit, short_escape};
+use crate::{DeletionRun, LineFault, Run};
 use itoa::Buffer;
 use rga_ops::{Id, Op};
-use rga_table::{DeletionRun, LineFault, Run};
 use std::alloc::{AllocError, Global};
 
 /// Room for any line that is written, the text of a run aside. The longest is an insertion's: 38
@@ -53,12 +53,15 @@ pub fn write_run(alloc: Global, run: &Run) -> Result<String, LineFault>
 /// The line of a run of deletions without its newline, as `deletion_run_line` of
 /// `specs/Spelling.antt` has it. `read_any` gives back any that it gives. `Memory` is the only
 /// refusal.
+#[tactic(auto, unfolding(crate::specs::Spelling::deletion_run_line))]
 pub fn write_deletion_run(alloc: Global, run: &DeletionRun) -> Result<String, LineFault>
     ensures ok { IfOk result (λ s. string_bytes s ≡ deletion_run_line run.now) }
     ensures memory { IfErr result (λ e. e ≡ Memory) }
 {
     let mut text = String::with_capacity(alloc, ROOM)?;
-    push_deletion_run(&mut text, run)?;
+    push_count(&mut text, run.count)?;
+    push_id(&mut text, ",\"id\":", &run.id)?;
+    text.push_str(",\"op\":\"dels\"}")?;
     Ok(text)
 }
 
@@ -147,18 +150,6 @@ fn push_run(text: &mut String, run: &Run) -> Result<(), AllocError>
     text.push_str(",\"text\":\"")?;
     push_all(text, &run.chars)?;
     text.push_str("\"}")?;
-    Ok(())
-}
-
-/// Adds the line of a run of deletions.
-#[tactic(auto, unfolding(crate::specs::Spelling::deletion_run_line))]
-fn push_deletion_run(text: &mut String, run: &DeletionRun) -> Result<(), AllocError>
-    ensures { OnOk result
-        (string_bytes text.new ≡ string_bytes text.old ++ deletion_run_line run.now) }
-{
-    push_count(text, run.count)?;
-    push_id(text, ",\"id\":", &run.id)?;
-    text.push_str(",\"op\":\"dels\"}")?;
     Ok(())
 }
 

@@ -1,14 +1,22 @@
-use Rattle.std.proofs.Common.{◌≡◌, ◌/◌, ◌++◌, take, length, decimal, ap, ◌∙◌, arith, length-append}
+use Rattle.std.proofs.Common.{◌≡◌, ◌+◌, ◌-◌, ◌/◌, ◌++◌, take, length, decimal, ap, ◌∙◌, arith, length-append}
 use Rattle.std.proofs.lemmas.List.{length-take}
+use Rattle.itoa.proofs.Decimal.{pair, PAIRS_at}
+use Rattle.rga_lines.specs.declared.hundred.TheConstants.{ROOM}
 use Rattle.rga_lines.proofs.DigitsLemmas.{at_most_eighteen}
-use Rattle.rga_lines.proofs.FrontLemmas.{hundred_put}
+use Rattle.rga_lines.proofs.FrontLemmas.{part_put, hundred_put}
 use Rattle.rga_lines.proofs.hundred.Hundred.put.Goals as goal
 
 pub returns-clause-put : goal.returns-clause-put
 returns-clause-put c =
     let h = c.self.inside in
+    let at = c.args.at in
     let held = c.self.invariant.0 ∙ ap (λ l. l ++ decimal (h.first / 100)) c.self.view_is in
-    hundred_put (take c.args.at c.args.bytes.now) (take c.put_front-at.result c.put_front-at.new.bytes) (take c.put_two.result c.put_two.new.bytes) (take h.end h.bytes) c.args.self.now c.args.number h.first c.put_front-at.ensures.put held c.put_two.ensures.put (omega arith) c.self.invariant.1 (omega arith) (omega arith) (omega arith)
+    let room : c.put_array-digits.result ≡ at + ROOM = omega arith in
+    let copied : take c.put_array-digits.result c.put_array-digits.new.bytes ≡ take at c.args.bytes.now ++ h.bytes = c.put_array-digits.ensures.put in
+    let front : take (at + h.end) c.put_array-digits.new.bytes ≡ take at c.args.bytes.now ++ take h.end h.bytes = part_put at h.end ROOM c.put_array-digits.new.bytes c.args.bytes.now h.bytes (rw room at copied) (omega arith) (omega arith) in
+    let digits = PAIRS_at (c.args.number - h.first) (omega arith) in
+    let two : take c.put_array.result c.put_array.new.bytes ≡ take (at + h.end) c.put_array-digits.new.bytes ++ pair (c.args.number - h.first) = rw (← digits.0, ← digits.1) c.put_array.ensures.put in
+    hundred_put (take at c.args.bytes.now) (take (at + h.end) c.put_array-digits.new.bytes) (take c.put_array.result c.put_array.new.bytes) (take h.end h.bytes) c.args.self.now c.args.number h.first front held two (omega arith) c.self.invariant.1 (omega arith) (omega arith) (omega arith)
 
 pub returns-clause-within : goal.returns-clause-within
 returns-clause-within c =

@@ -1,0 +1,233 @@
+-- What a line says is well-formed, and an operation alone where its kind is one.
+use Rattle.std.proofs.Common.{◌≡◌, ℕ, ◌<◌, ◌≤◌, ◌+◌, zero, suc, ◌&&◌, ◌||◌, ◌==◌, Bool, true, false, cond, nat_le, nat_lt, List, length, Option, Some, None, Result, Ok, Err, option_and_then, refl, arith, ne_eqb}
+use Rattle.std.proofs.lemmas.Bool.{and_left, and_parts, leb-true, leb-false, ltb-false}
+use Rattle.std.specs.Prelude.{⊤, codes, is_some, if◌then◌else◌}
+use Rattle.std.specs.Str.{is_utf8, chars, bytes_eq}
+use Rattle.serde_json.specs.Data.{Data, null, boolean, number, string, array, object, Items, Members}
+use Rattle.serde_json.specs.Events.{members_len}
+use Rattle.serde_json.specs.Read.{read}
+use Rattle.serde_json.specs.Find.{get_member, as_str, as_array}
+use Rattle.rga_ops.specs.Identifier.{Identifier, identifier, is_root, is_in_range}
+use Rattle.rga_ops.specs.declared.id.TheConstants.Id.{MAX_COUNTER}
+use Rattle.rga_ops.specs.Operation.{checked}
+use Rattle.rga_ops.specs.declared.op.Op.TheVariants.{Insert}
+use Rattle.rga_lines.specs.declared.deletion_run.DeletionRun.{DeletionRun}
+use Rattle.rga_lines.specs.declared.fault.LineFault.{LineFault}
+use Rattle.rga_lines.specs.declared.fault.LineFault.TheVariants as fault
+use Rattle.rga_lines.specs.declared.line.Line.TheVariants.{One, Run, Deletions, Head, Last}
+use Rattle.rga_lines.specs.Runs.{longest_run, stretch, IsRun, deletion_run, IsDeletionRun}
+use Rattle.rga_lines.specs.Table as table
+use Rattle.rga_lines.specs.Table.{Reading, AnyReading, number_of, two_numbers, element_of, parent_of, if_in_range, longest_line}
+use Rattle.rga_lines.specs.Faults.{LineKind, insertion_line, deletion_line, run_line, deletions_line, head_line, end_line, kinds, kind_among, kind_of, is_single, is_operation}
+
+abbrev pub IsSoundOperation : Reading → Type 0
+IsSoundOperation (Ok op) = checked op ≡ Ok tt
+IsSoundOperation (Err e) = ⊤
+
+-- what is said is well-formed, and an operation alone where that is told
+abbrev pub IsSound : Bool → AnyReading → Type 0
+IsSound single (Ok (One op)) = (checked op ≡ Ok tt) × (single ≡ true)
+IsSound single (Ok (Run r)) = IsRun r × (single ≡ false)
+IsSound single (Ok (Deletions r)) = IsDeletionRun r × (single ≡ false)
+IsSound single (Ok Head) = single ≡ false
+IsSound single (Ok (Last operations)) = single ≡ false
+IsSound single (Err e) = ⊤
+
+-- the second of two readings is taken where a test failed
+either : {A : Type 0} (P : A → Type 0) (b : Bool) (r q : A) → P r → (b ≡ false → P q) → P (cond b r q)
+either P true r q first second = first
+either P false r q first second = second refl
+
+or_none : (a b : Bool) → a || b ≡ false → (a ≡ false) × (b ≡ false)
+or_none true b h = absurd cc
+or_none false b h = (refl, h)
+
+not_zero : (n : ℕ) → (n == 0) ≡ false → 0 < n
+not_zero zero h = absurd cc
+not_zero (suc n) h = omega arith
+
+-- ---- identifiers
+
+-- the identifier of an element is in the ranges
+abbrev IsInRange : Option Identifier → Type 0
+IsInRange (Some id) = is_in_range id.counter id.replica ≡ true
+IsInRange None = ⊤
+
+element_is_in_range : (p : Option (ℕ × ℕ)) → IsInRange (option_and_then if_in_range p)
+element_is_in_range None = tt
+element_is_in_range (Some p) = by_range (is_in_range p.0 p.1) refl
+  where
+    by_range : (within : Bool) → is_in_range p.0 p.1 ≡ within → IsInRange (cond within (Some (identifier p.0 p.1)) None)
+    by_range true is = is
+    by_range false is = tt
+
+-- so it is not the root
+root_is_out : (counter replica : ℕ) → is_in_range counter replica ≡ true → is_root (identifier counter replica) ≡ false
+root_is_out counter replica e =
+    let counters = and_parts (nat_le 1 counter && nat_le counter MAX_COUNTER) (nat_le 1 replica && nat_le replica 65535) e in
+    let least = and_parts (nat_le 1 counter) (nat_le counter MAX_COUNTER) counters.0 in
+    let above : 1 ≤ counter = leb-true 1 counter least.0 in
+    and_left (counter == 0) (replica == 0) (ne_eqb counter 0 (λ zero. omega (arith, above)))
+
+-- ---- operations
+
+sound_char : (id parent : Identifier) (ch : Option ℕ) → is_root id ≡ false → IsSoundOperation (table.with_char id parent ch)
+sound_char id parent (Some ch) e =
+    either IsSoundOperation (nat_le id.counter parent.counter) (Err fault.Order) (Ok (Insert id parent ch)) tt (λ order. rw (e, order))
+sound_char id parent None e = tt
+
+sound_identifiers : (id parent : Option Identifier) (text : List ℕ) → IsInRange id → IsSoundOperation (table.with_identifiers id parent text)
+sound_identifiers (Some id) (Some parent) text e = sound_char id parent (table.only_char (chars text)) (root_is_out id.counter id.replica e)
+sound_identifiers (Some id) None text e = tt
+sound_identifiers None parent text e = tt
+
+sound_insertion : (four : Bool) (text : Option (List ℕ)) (id parent : Option Items) → IsSoundOperation (cond four (table.with_types text id parent) (Err fault.Member))
+sound_insertion false text id parent = tt
+sound_insertion true None id parent = tt
+sound_insertion true (Some text) None parent = tt
+sound_insertion true (Some text) (Some id) None = tt
+sound_insertion true (Some text) (Some id) (Some parent) = sound_identifiers (element_of id) (parent_of parent) text (element_is_in_range (two_numbers id))
+
+sound_identifier : (id : Option Identifier) → IsInRange id → IsSoundOperation (table.with_identifier id)
+sound_identifier (Some id) e = rw (root_is_out id.counter id.replica e)
+sound_identifier None e = tt
+
+sound_deletion : (two : Bool) (id : Option Items) → IsSoundOperation (cond two (table.with_type id) (Err fault.Member))
+sound_deletion false id = tt
+sound_deletion true None = tt
+sound_deletion true (Some id) = sound_identifier (element_of id) (element_is_in_range (two_numbers id))
+
+sound_one : (r : Reading) → IsSoundOperation r → IsSound true (table.single_reading r)
+sound_one (Ok op) sound = (sound, refl)
+sound_one (Err e) sound = tt
+
+-- ---- runs
+
+sound_run_identifiers : (id parent : Option Identifier) (text : List ℕ) → IsSound false (table.with_run_identifiers id parent text)
+sound_run_identifiers (Some id) (Some parent) text =
+    let count : ℕ = length (chars text) in
+    either (IsSound false) (nat_lt (MAX_COUNTER + 1) (id.counter + count)) (Err fault.Id) (table.with_run_chars id parent (chars text)) tt (λ end.
+    either (IsSound false) ((count == 0) || nat_lt longest_run count) (Err fault.Char) (table.with_run_order id parent (chars text)) tt (λ fits.
+    either (IsSound false) (nat_le id.counter parent.counter) (Err fault.Order) (Ok (Run (stretch id parent (chars text)))) tt (λ order.
+    let p = or_none (count == 0) (nat_lt longest_run count) fits in
+    let run : IsRun (stretch id parent (chars text)) = record {
+      some = not_zero count p.0;
+      few = ltb-false longest_run count p.1;
+      end = ltb-false (MAX_COUNTER + 1) (id.counter + count) end;
+      rising = leb-false id.counter parent.counter order;
+    } in
+    (run, refl))))
+sound_run_identifiers (Some id) None text = tt
+sound_run_identifiers None parent text = tt
+
+sound_run : (four : Bool) (text : Option (List ℕ)) (id parent : Option Items) → IsSound false (cond four (table.with_run_types text id parent) (Err fault.Member))
+sound_run false text id parent = tt
+sound_run true None id parent = tt
+sound_run true (Some text) None parent = tt
+sound_run true (Some text) (Some id) None = tt
+sound_run true (Some text) (Some id) (Some parent) = sound_run_identifiers (element_of id) (parent_of parent) text
+
+abbrev IsSoundRun : Result DeletionRun LineFault → Type 0
+IsSoundRun (Ok r) = IsDeletionRun r
+IsSoundRun (Err e) = ⊤
+
+sound_deletion_identifier : (id : Option Identifier) (count : ℕ) → IsInRange id → IsSoundRun (table.with_deletion_identifier id count)
+sound_deletion_identifier (Some id) count element =
+    either IsSoundRun (nat_lt (MAX_COUNTER + 1) (id.counter + count)) (Err fault.Id) (table.with_deletion_count id count) tt (λ end.
+    either IsSoundRun ((count == 0) || nat_lt longest_run count) (Err fault.Char) (Ok (deletion_run id count)) tt (λ fits.
+    let p = or_none (count == 0) (nat_lt longest_run count) fits in record {
+      element = element;
+      some = not_zero count p.0;
+      few = ltb-false longest_run count p.1;
+      end = ltb-false (MAX_COUNTER + 1) (id.counter + count) end;
+    }))
+sound_deletion_identifier None count element = tt
+
+sound_deletions : (three : Bool) (count : Option ℕ) (id : Option Items) → IsSoundRun (cond three (table.with_deletion_types count id) (Err fault.Member))
+sound_deletions false count id = tt
+sound_deletions true None id = tt
+sound_deletions true (Some count) None = tt
+sound_deletions true (Some count) (Some id) = sound_deletion_identifier (element_of id) count (element_is_in_range (two_numbers id))
+
+sound_run_of_deletions : (r : Result DeletionRun LineFault) → IsSoundRun r → IsSound false (table.run_of_deletions r)
+sound_run_of_deletions (Ok r) sound = (sound, refl)
+sound_run_of_deletions (Err e) sound = tt
+
+-- ---- the head and the end of an exchange
+
+sound_heading : (two : Bool) (version : Option ℕ) → IsSound false (cond two (table.with_version version) (Err fault.Member))
+sound_heading false version = tt
+sound_heading true None = tt
+sound_heading true (Some version) = either (IsSound false) (version == 2) (Ok Head) (Err fault.Kind) refl (λ _. tt)
+
+sound_last : (r : Result ℕ LineFault) → IsSound false (table.last r)
+sound_last (Ok operations) = refl
+sound_last (Err e) = tt
+
+-- ---- the whole
+
+-- by which of the words of `op` the line has
+abbrev pub kind_by : Bool → Bool → Bool → Bool → Bool → Bool → Option LineKind
+kind_by insertion deletion run deletions_run head end =
+    if insertion then Some insertion_line else (if deletion then Some deletion_line else (if run then Some run_line
+    else (if deletions_run then Some deletions_line else (if head then Some head_line else (if end then Some end_line else None)))))
+
+abbrev pub reading_by : Members → Bool → Bool → Bool → Bool → Bool → Bool → AnyReading
+reading_by ms insertion deletion run deletions_run head end =
+    if insertion then table.single_reading (table.insertion (members_len ms) (object ms))
+    else (if deletion then table.single_reading (table.deletion (members_len ms) (object ms))
+    else (if run then table.run (members_len ms) (object ms)
+    else (if deletions_run then table.run_of_deletions (table.deletions_reading (members_len ms) (object ms))
+    else (if head then table.heading (members_len ms) (object ms)
+    else (if end then table.last (table.ending (members_len ms) (object ms)) else Err fault.Kind)))))
+
+sound_kind : (ms : Members) (i d r ds h e : Bool) → IsSound (is_single (kind_by i d r ds h e)) (reading_by ms i d r ds h e)
+sound_kind ms true d r ds h e =
+    let text : Option (List ℕ) = option_and_then as_str (get_member (codes "char") ms) in
+    let id : Option Items = option_and_then as_array (get_member (codes "id") ms) in
+    let parent : Option Items = option_and_then as_array (get_member (codes "parent") ms) in
+    let four : Bool = (members_len ms == 4) && (is_some (get_member (codes "char") ms) && (is_some (get_member (codes "id") ms) && is_some (get_member (codes "parent") ms))) in
+    sound_one (table.insertion (members_len ms) (object ms)) (sound_insertion four text id parent)
+sound_kind ms false true r ds h e =
+    let two : Bool = (members_len ms == 2) && is_some (get_member (codes "id") ms) in
+    sound_one (table.deletion (members_len ms) (object ms)) (sound_deletion two (option_and_then as_array (get_member (codes "id") ms)))
+sound_kind ms false false true ds h e =
+    let text : Option (List ℕ) = option_and_then as_str (get_member (codes "text") ms) in
+    let id : Option Items = option_and_then as_array (get_member (codes "id") ms) in
+    let parent : Option Items = option_and_then as_array (get_member (codes "parent") ms) in
+    sound_run ((members_len ms == 4) && (is_some (get_member (codes "id") ms) && (is_some (get_member (codes "parent") ms) && is_some (get_member (codes "text") ms)))) text id parent
+sound_kind ms false false false true h e =
+    let count : Option ℕ = option_and_then number_of (get_member (codes "count") ms) in
+    let three : Bool = (members_len ms == 3) && (is_some (get_member (codes "count") ms) && is_some (get_member (codes "id") ms)) in
+    sound_run_of_deletions (table.deletions_reading (members_len ms) (object ms)) (sound_deletions three count (option_and_then as_array (get_member (codes "id") ms)))
+sound_kind ms false false false false true e =
+    sound_heading ((members_len ms == 2) && is_some (get_member (codes "version") ms)) (option_and_then number_of (get_member (codes "version") ms))
+sound_kind ms false false false false false true = sound_last (table.ending (members_len ms) (object ms))
+sound_kind ms false false false false false false = tt
+
+sound_name : (ms : Members) (name : Option (List ℕ))
+    → IsSound (is_single (option_and_then (kind_among kinds) name)) (table.with_name (members_len ms) (object ms) name)
+sound_name ms None = tt
+sound_name ms (Some name) =
+    sound_kind ms (bytes_eq name (codes "ins")) (bytes_eq name (codes "del")) (bytes_eq name (codes "run")) (bytes_eq name (codes "dels"))
+    (bytes_eq name (codes "head")) (bytes_eq name (codes "end"))
+
+sound_op : (ms : Members) (op : Option Data) → IsSound (is_single (kind_of op)) (table.with_op (members_len ms) (object ms) op)
+sound_op ms None = tt
+sound_op ms (Some op) = sound_name ms (as_str op)
+
+sound_text : (is_text : Bool) (d : Option Data) → IsSound (is_operation d) (table.text_line is_text d)
+unfolding table.value_line
+sound_text true (Some null) = tt
+sound_text true (Some (boolean b)) = tt
+sound_text true (Some (number n)) = tt
+sound_text true (Some (string s)) = tt
+sound_text true (Some (array ds)) = tt
+sound_text true (Some (object ms)) = sound_op ms (get_member (codes "op") ms)
+sound_text true None = tt
+sound_text false d = tt
+
+pub sound_line : (bytes : List ℕ) → IsSound (is_operation (read bytes)) (table.any_line_at bytes)
+unfolding table.any_line_at
+sound_line bytes =
+    either (IsSound (is_operation (read bytes))) (nat_lt longest_line (length bytes)) (Err fault.Long) (table.text_line (is_utf8 bytes) (read bytes)) tt (λ _. sound_text (is_utf8 bytes) (read bytes))

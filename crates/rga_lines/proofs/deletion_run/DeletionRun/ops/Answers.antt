@@ -1,0 +1,15 @@
+use Rattle.std.proofs.Common.{rules, ◌≡◌, ◌+◌, ◌-◌, [], ◌∷◌, ◌++◌, sym, ap, ◌∙◌}
+use Rattle.rga_ops.specs.Identifier.{identifier}
+use Rattle.rga_ops.specs.declared.op.Op.TheVariants.{Delete}
+use Rattle.rga_lines.specs.Runs.{deletions_from}
+use Rattle.rga_lines.proofs.NextDeletion.{next_deletion}
+use Rattle.rga_lines.proofs.deletion_run.DeletionRun.ops.Goals as goal
+
+pub deletions-preserved : goal.deletions-preserved
+deletions-preserved c =
+    let here = identifier c.deletions.counter c.replica-replica.result in
+    let next = identifier (c.deletions.counter + 1) c.replica-replica.result in
+    let is : c.in-Ok.id ≡ here = search rules in
+    ap (λ ops. ops ++ deletions_from next (c.deletions.left - 1)) (c.in_ok-push.ensures.items ∙ (λ k. c.deletions.ops.items ++ Delete (is k) ∷ []))
+    ∙ sym (next_deletion c.deletions.ops.items here c.deletions.left c.deletions-test.true)
+    ∙ c.deletions.invariant

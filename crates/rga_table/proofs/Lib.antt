@@ -1,3 +1,0 @@
-mod ValueLemmas
-mod NextDeletion
-mod FaultLaws

@@ -1,4 +1,0 @@
-pub mod Table
-pub mod Runs
-pub mod FaultName
-pub mod Faults
