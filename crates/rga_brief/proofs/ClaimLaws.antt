@@ -7,7 +7,7 @@ use Rattle.serde_json.specs.declared.value.Value.{Value}
 use Rattle.serde_json.specs.View.{items_view}
 use Rattle.std.proofs.Math.Nat.{div-lt_iff_lt-mul}
 use Rattle.rga_lines.specs.Table.{two_numbers}
-use Rattle.rga_digest.specs.declared.block.Block.{Block}
+use Rattle.rga_brief.specs.declared.block.Block.{Block}
 use Rattle.rga_brief.specs.declared.claim.Claim.{Claim}
 use Rattle.rga_brief.specs.Claims.{block_of, digest_of, with_digests, claim_with, claim_of, claim_data, IsInRange}
 

@@ -9,7 +9,7 @@ use Rattle.std.proofs.lemmas.List.Folds.{list_all-append}
 use Rattle.std.proofs.lemmas.List.Sums.{AllPass-from_list_all}
 use Rattle.serde_json.specs.Written.{has_float, compact_text}
 use Rattle.serde_json.proofs.OnLiterals.{serde_json_on_literals}
-use Rattle.rga_digest.specs.declared.block.Block.{Block}
+use Rattle.rga_brief.specs.declared.block.Block.{Block}
 use Rattle.rga_brief.specs.declared.claim.Claim.{Claim}
 use Rattle.rga_brief.specs.Claims.{IsDigest, IsInRange, claim_data, claim_line, pair_text, part_text, with_digests}
 

@@ -1,9 +1,11 @@
+pub mod DigestLaws
+pub mod MissingLaws
+pub mod OneSummary
 pub mod ClaimLaws
 pub mod ClaimLineLaws
 pub mod SummaryLaws
 pub mod LineLaws
 pub mod TellingLaws
 pub mod HearingLaws
-pub mod SentLaws
 pub mod HeardLaws
 pub mod ReceivedLaws

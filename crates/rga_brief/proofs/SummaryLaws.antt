@@ -11,11 +11,11 @@ use Rattle.std.specs.declared.cmp.Ordering.{Ordering}
 use Rattle.std.specs.declared.cmp.Ordering.TheVariants.{Less, Equal, Greater}
 use Rattle.std.proofs.lemmas.List.{append-nil}
 use Rattle.rga_ops.specs.Content.{Content}
-use Rattle.rga_digest.specs.declared.block.Block.{Block}
-use Rattle.rga_digest.specs.declared.digests.Digests.{Digests}
-use Rattle.rga_digest.specs.Digest.{block_cmp}
-use Rattle.rga_digest.specs.Summary.{Summary, IsSummary, digests_at}
-use Rattle.rga_digest.proofs.OneSummary.{blocks_total}
+use Rattle.rga_brief.specs.declared.block.Block.{Block}
+use Rattle.rga_brief.specs.declared.digests.Digests.{Digests}
+use Rattle.rga_brief.specs.Digest.{block_cmp}
+use Rattle.rga_brief.specs.Summary.{Summary, IsSummary, digests_at}
+use Rattle.rga_brief.proofs.OneSummary.{blocks_total}
 use Rattle.rga_brief.specs.declared.claim.Claim.{Claim}
 use Rattle.rga_brief.specs.Summaries.{entry_claim, claims_of, put_claims, summary_from, last_claimed}
 

@@ -30,10 +30,10 @@ use Rattle.rga_lines.proofs.SpellingLemmas.{end_data, compact_end}
 use Rattle.rga_exchange.proofs.AppendedLaws.{cut_again}
 use Rattle.rga_exchange.specs.declared.fault.ReceiveFault.{ReceiveFault}
 use Rattle.rga_exchange.specs.declared.fault.ReceiveFault.TheVariants.{Count}
-use Rattle.rga_digest.specs.Summary.{Summary, IsSummary}
-use Rattle.rga_digest.proofs.OneSummary.{one_summary}
+use Rattle.rga_brief.specs.Summary.{Summary, IsSummary}
+use Rattle.rga_brief.proofs.OneSummary.{one_summary}
 use Rattle.rga_brief.specs.declared.claim.Claim.{Claim}
-use Rattle.rga_digest.specs.declared.block.Block.{Block}
+use Rattle.rga_brief.specs.declared.block.Block.{Block}
 use Rattle.rga_brief.specs.Claims.{claim_of, claim_in, claim_data, claim_line, digest_data, pair_data, pair_text, part_text, with_digests, IsDigest, IsInRange}
 use Rattle.rga_brief.specs.Summaries.{claims_of, summary_from}
 use Rattle.rga_brief.proofs.ClaimLaws.{claim_back}
