@@ -2,16 +2,17 @@
 use Rattle.std.proofs.Common.{◌≡◌, ℕ, zero, suc, ◌+◌, ◌<◌, ◌⊎◌, Bool, true, false, List, [], ◌∷◌, ◌++◌, length, map, get_or, replicate, length-append, Some, slice_get, slice_set, refl, sym, ap, ◌∙◌, subst, inl, inr, arith}
 use Rattle.std.specs.Prelude.{Result, Ok, Err}
 use Rattle.std.proofs.lemmas.List.{map-set, map-append}
-use Rattle.std.proofs.lemmas.Option.{slice_get-get_or, same_Some, none-some}
+use Rattle.std.proofs.lemmas.Option.{slice_get-get_or, slice_get_within, same_Some, none-some}
 use Rattle.rga_ops.specs.declared.refusal.Refusal.{Refusal}
 use Rattle.rga_ops.specs.declared.refusal.Refusal.TheVariants.{Range}
 use Rattle.rga_store.specs.Limit.{is_limit}
 use Rattle.rga_ops.specs.Content.{nothing}
 use Rattle.rga_world.specs.Sites.{Site, site, World, world}
 use Rattle.rga_world.specs.SiteStates.{SiteState, new_site, AreSites}
-use Rattle.rga_world.specs.Steps.{Outcome, outcome_then, found, changed, replica_of}
-use Rattle.rga_doc.specs.LocalEdit.{room_answer}
-use Rattle.rga_world.specs.Outcomes.{Happens, HasRoomAt}
+use Rattle.rga_world.specs.Steps.{Outcome, outcome_then, found, changed, own_site, replica_of}
+use Rattle.rga_world.specs.Outcomes.{Happens, HasRoomAlone, MayWantMemory}
+use Rattle.rga_world.specs.declared.event.Event.{Event}
+use Rattle.rga_world.specs.declared.event.Event.TheVariants.{Edit, Revert, Save, SaveOne, Deliver, DeliverList, Restart}
 use Rattle.rga_world.specs.declared.refusal.WorldRefusal.{WorldRefusal}
 use Rattle.rga_world.specs.declared.refusal.WorldRefusal.TheVariants.{NoSite}
 use Rattle.rga_world.proofs.ListPlaces.{set_new, place_mapped}
@@ -75,13 +76,23 @@ happens_in xs limit number x y change r w are inside is happens rest view =
     (happens_at xs limit number x y (change limit (replica_of number)) r inside is
     (subst (λ n. Happens r x.site y.site (change n (replica_of number) x.site)) x_is.1 (subst (λ n. Happens r x.site y.site (change x.limit n x.site)) x_is.0 happens)) rest)
 
--- a site that has room is one of the world's that has
-pub room_in : (xs : List SiteState) (limit number count : ℕ) (x : SiteState) (w : World)
-    → AreSites limit xs → number < length xs → x ≡ get_or xs number x → room_answer x.limit x.site.content count ≡ Ok tt → world (sites_of xs) limit ≡ w → HasRoomAt w number count
-room_in xs limit number count x w are inside is room view =
+-- an event of one site alone, which has room, may want memory
+wants_alone : (w : World) (number : ℕ) (s : Site) (event : Event) → own_site event ≡ Some number → slice_get w.sites number ≡ Some s → HasRoomAlone w.limit s.content event → MayWantMemory w event
+wants_alone w number s (Edit at lo hi put) own there room = ((s, ap (slice_get w.sites) (same_Some at number own) ∙ there, room.0), room.1)
+wants_alone w number s (Revert at gone back) own there room = (s, ap (slice_get w.sites) (same_Some at number own) ∙ there, room)
+wants_alone w number s (Save at) own there room = slice_get_within w.sites at s (ap (slice_get w.sites) (same_Some at number own) ∙ there)
+wants_alone w number s (SaveOne at place) own there room = slice_get_within w.sites at s (ap (slice_get w.sites) (same_Some at number own) ∙ there)
+wants_alone w number s (Restart at) own there room = slice_get_within w.sites at s (ap (slice_get w.sites) (same_Some at number own) ∙ there)
+wants_alone w number s (Deliver taker giver place) own there room = absurd (none-some number own)
+wants_alone w number s (DeliverList taker giver lo hi) own there room = absurd (none-some number own)
+
+-- the same, by what a site knows of its own limit
+pub room_in : (xs : List SiteState) (limit number : ℕ) (x : SiteState) (w : World) (event : Event)
+    → AreSites limit xs → number < length xs → x ≡ get_or xs number x → own_site event ≡ Some number → HasRoomAlone x.limit x.site.content event → world (sites_of xs) limit ≡ w → MayWantMemory w event
+room_in xs limit number x w event are inside is own room view =
     let there : slice_get xs number ≡ Some x = slice_get-get_or xs number x inside ∙ ap Some (sym is) in
-    subst (λ (v : World). HasRoomAt v number count) view
-    (x.site, place_mapped (λ (s : SiteState). s.site) xs number x there, subst (λ n. room_answer n x.site.content count ≡ Ok tt) ((are number x there).1) room)
+    subst (λ (v : World). MayWantMemory v event) view
+    (wants_alone (world (sites_of xs) limit) number x.site event own (place_mapped (λ (s : SiteState). s.site) xs number x there) (subst (λ n. HasRoomAlone n x.site.content event) ((are number x there).1) room))
 
 -- ---- new sites
 
