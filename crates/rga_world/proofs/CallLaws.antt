@@ -13,17 +13,8 @@ use Rattle.rga_world.specs.declared.event.Event.{Event}
 use Rattle.rga_world.specs.declared.refusal.WorldRefusal.{WorldRefusal}
 use Rattle.rga_world.specs.declared.refusal.WorldRefusal.TheVariants.{Store}
 use Rattle.rga_world.proofs.RunLaws.{reached_on, reached_consistent, step_no_conflict}
-
--- what was made has a limit that stores have
-pub made_within : (limit : ℕ) (w : World) → (is_limit limit ≡ false → ◌≡◌ {A = Result World Refusal} (Ok w) (Err Range)) → is_limit limit ≡ true
-made_within limit w h = by (is_limit limit) refl
-  where
-    clash : ◌≡◌ {A = Result World Refusal} (Ok w) (Err Range) → ⊥
-    clash e = cc
-
-    by : (b : Bool) → is_limit limit ≡ b → b ≡ true
-    by true e = refl
-    by false e = absurd (clash (h e))
+use Rattle.rga_world.proofs.StepLaws.{same_Ok, err-ok}
+use Rattle.rga_world.proofs.RefusalLaws.{same_Err, ok-err}
 
 pub step_reached : (r : Result (Unit {0}) WorldRefusal) (w v : World) (event : Event) → IsReached w → PutsCharacters event → Happens r w v (stepped w event) → IsReached v
 step_reached (Ok u) w v event reached characters h = subst IsReached (ap (kept w) h) (reached_on w (event ∷ []) reached (characters, tt))
@@ -36,32 +27,20 @@ memory-conflict id h = let inside : Memory ≡ Conflict id = cc in absurd (clash
     clash e = cc
 
 pub step_conflict : (r : Result (Unit {0}) WorldRefusal) (w v : World) (event : Event) (id : Identifier) → IsReached w → Happens r w v (stepped w event) → r ≡ Err (Store (Conflict id)) → ⊥
-step_conflict (Ok u) w v event id reached h is = clash is
-  where
-    clash : ◌≡◌ {A = Result (Unit {0}) WorldRefusal} (Ok u) (Err (Store (Conflict id))) → ⊥
-    clash e = cc
+step_conflict (Ok u) w v event id reached h is = ok-err u (Store (Conflict id)) is
 step_conflict (Err e) w v event id reached h is = elim h.1 [
-  | inl memory ↦ memory-conflict id (sym memory ∙ same is)
-  | inr refused ↦ step_no_conflict w event id (reached_consistent w reached) (refused ∙ ap (λ f. Err f) (same is))
+  | inl memory ↦ memory-conflict id (sym memory ∙ same_Err e (Store (Conflict id)) is)
+  | inr refused ↦ step_no_conflict w event id (reached_consistent w reached) (refused ∙ ap (λ f. Err f) (same_Err e (Store (Conflict id)) is))
 ]
-  where
-    same : ◌≡◌ {A = Result (Unit {0}) WorldRefusal} (Err e) (Err (Store (Conflict id))) → e ≡ Store (Conflict id)
-    same q = cc
 
 -- one event more
 ran-push : (w v : World) (events : List Event) (event : Event) → ran w events ≡ Ok v → ran w (events ++ event ∷ []) ≡ outcome_then (stepped v event) (λ x. Ok x)
-ran-push w v [] event h = let same : w ≡ v = inside h in ap (λ x. outcome_then (stepped x event) (λ y. Ok y)) same
-  where
-    inside : ◌≡◌ {A = Result World WorldRefusal} (Ok w) (Ok v) → w ≡ v
-    inside e = cc
+ran-push w v [] event h = ap (λ x. outcome_then (stepped x event) (λ y. Ok y)) (same_Ok w v h)
 ran-push w v (e ∷ events) event h = by (stepped w e) h (λ x k. ran-push x v events event k)
   where
     by : (r : Result World WorldRefusal) → outcome_then r (λ x. ran x events) ≡ Ok v → ((x : World) → ran x events ≡ Ok v → ran x (events ++ event ∷ []) ≡ outcome_then (stepped v event) (λ y. Ok y)) → outcome_then r (λ x. ran x (events ++ event ∷ [])) ≡ outcome_then (stepped v event) (λ y. Ok y)
     by (Ok x) h rest = rest x h
-    by (Err f) h rest = absurd (clash h)
-      where
-        clash : ◌≡◌ {A = Result World WorldRefusal} (Err f) (Ok v) → ⊥
-        clash q = cc
+    by (Err f) h rest = absurd (err-ok f v h)
 
 take-next : (events : List Event) (i : ℕ) (e : Event) → i < length events → e ≡ get_or events i e → take (suc i) events ≡ take i events ++ e ∷ []
 take-next [] i e inside is = absurd (omega (arith, inside))

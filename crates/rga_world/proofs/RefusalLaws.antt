@@ -15,10 +15,10 @@ use Rattle.rga_world.proofs.StepLaws.{found_ok}
 
 -- ---- outcomes
 
-pub same_Err : {A : Type 0} (d e : WorldRefusal) → ◌≡◌ {A = Outcome A} (Err d) (Err e) → d ≡ e
+pub same_Err : {A E : Type 0} (d e : E) → ◌≡◌ {A = Result A E} (Err d) (Err e) → d ≡ e
 same_Err d e h = cc
 
-pub ok-err : {A : Type 0} (x : A) (e : WorldRefusal) → ◌≡◌ {A = Outcome A} (Ok x) (Err e) → ⊥
+pub ok-err : {A E : Type 0} (x : A) (e : E) → ◌≡◌ {A = Result A E} (Ok x) (Err e) → ⊥
 ok-err x e h = cc
 
 -- one of the parts was refused

@@ -16,6 +16,7 @@ use Rattle.rga_world.specs.declared.event.Event.TheVariants.{Edit, Revert, Save,
 use Rattle.rga_world.specs.declared.refusal.WorldRefusal.{WorldRefusal}
 use Rattle.rga_world.specs.declared.refusal.WorldRefusal.TheVariants.{NoSite}
 use Rattle.rga_world.proofs.ListPlaces.{set_new, place_mapped}
+use Rattle.rga_world.proofs.RefusalLaws.{ok-err}
 
 abbrev pub sites_of : List SiteState → List Site
 sites_of xs = map (λ s. s.site) xs
@@ -135,13 +136,10 @@ one_more_new limit number xs x h is = record {
 pub pushed_new : (limit number : ℕ) (xs ys : List SiteState) (x : SiteState) → AreNew limit number xs → ys ≡ xs ++ x ∷ [] → x ≡ new_site (number + 1) limit → AreNew limit (number + 1) ys
 pushed_new limit number xs ys x h pushed is = subst (AreNew limit (number + 1)) (sym pushed) (one_more_new limit number xs x h is)
 
--- a site that was made has a limit that stores have
-pub limit_of_made : (limit : ℕ) (s : SiteState) → (is_limit limit ≡ false → ◌≡◌ {A = Result SiteState Refusal} (Ok s) (Err Range)) → is_limit limit ≡ true
-limit_of_made limit s h = by (is_limit limit) refl
+-- what was made has a limit that stores have
+pub limit_of_made : {A : Type 0} (limit : ℕ) (x : A) → (is_limit limit ≡ false → ◌≡◌ {A = Result A Refusal} (Ok x) (Err Range)) → is_limit limit ≡ true
+limit_of_made limit x h = by (is_limit limit) refl
   where
-    clash : ◌≡◌ {A = Result SiteState Refusal} (Ok s) (Err Range) → ⊥
-    clash e = cc
-
     by : (b : Bool) → is_limit limit ≡ b → b ≡ true
     by true e = refl
-    by false e = absurd (clash (h e))
+    by false e = absurd (ok-err x Range (h e))
