@@ -35,8 +35,7 @@ use Rattle.rga_world.specs.declared.event.Event.TheVariants.{Save, SaveOne, Deli
 use Rattle.rga_world.specs.declared.refusal.WorldRefusal.TheVariants.{NoOperation, Store}
 use Rattle.rga_world.proofs.ListPlaces.{contains_place, set_here, set_old}
 use Rattle.rga_world.proofs.SiteSteps.{set_same}
-use Rattle.rga_world.proofs.StepLaws.{same_Ok, place_held, single_within, err-ok}
-use Rattle.rga_world.proofs.RefusalLaws.{ok-err}
+use Rattle.rga_world.proofs.StepLaws.{same_Ok, place_held, single_within, err-ok, ok-err}
 use Rattle.rga_world.proofs.WordLaws.{changed_to, gives, list_found, saved-iff, saves, store-iff, restarted-iff}
 use Rattle.rga_world.proofs.RunLaws.{reached_consistent, saved_joinable}
 use Rattle.rga_world.proofs.StoredLaws.{reached_storable, held_listed}

@@ -22,8 +22,7 @@ use Rattle.rga_world.specs.declared.event.Event.{Event}
 use Rattle.rga_world.specs.declared.event.Event.TheVariants.{Edit, Revert, Save, SaveOne, Deliver, DeliverList, Restart}
 use Rattle.rga_world.specs.declared.refusal.WorldRefusal.{WorldRefusal}
 use Rattle.rga_world.specs.declared.refusal.WorldRefusal.TheVariants.{NoSite, NoOperation, Store}
-use Rattle.rga_world.proofs.StepLaws.{same_Ok, then_ok, found_ok, store_ok, is_changed, takes_given, joined_ok, saved_one_ok, saved_list_ok, err-ok}
-use Rattle.rga_world.proofs.RefusalLaws.{ok-err, then_err, found_none, of_err, same_Store, site-operation, site-store, operation-store, joined_err, saved_list_err, nowhere, within, refusal, from_nowhere, of_nothing, not_taken, ungiven, none_there, not_saved, unsaved}
+use Rattle.rga_world.proofs.StepLaws.{same_Ok, then_ok, found_ok, store_ok, is_changed, takes_given, joined_ok, saved_one_ok, saved_list_ok, err-ok, ok-err, then_err, found_none, of_err, same_Store, site-operation, site-store, operation-store, joined_err, saved_list_err, nowhere, within, refusal, from_nowhere, of_nothing, not_taken, ungiven, none_there, not_saved, unsaved}
 use Rattle.rga_world.proofs.RunLaws.{took_or}
 
 -- ---- outcomes
