@@ -1,11 +1,7 @@
-pub mod DigestLaws
 pub mod MissingLaws
 pub mod OneSummary
-pub mod ClaimLaws
-pub mod ClaimLineLaws
-pub mod SummaryLaws
-pub mod LineLaws
 pub mod TellingLaws
+pub mod LineLaws
 pub mod HearingLaws
 pub mod HeardLaws
 pub mod ReceivedLaws

@@ -4,7 +4,7 @@ use Rattle.rga_ops.specs.declared.op.Op.{Op}
 use Rattle.rga_brief.specs.Digest.{block_of}
 use Rattle.rga_brief.specs.Summary.{digests_at, lacks_by}
 use Rattle.rga_brief.specs.Lacking.{lacks_between}
-use Rattle.rga_brief.proofs.DigestLaws.{same_block}
+use Rattle.rga_brief.proofs.MissingLaws.{same_block}
 use Rattle.rga_brief.proofs.lacks.Lacked.is_lacked.Goals as goal
 
 pub returns-then-eq-clause-exact : goal.returns-then-eq-clause-exact

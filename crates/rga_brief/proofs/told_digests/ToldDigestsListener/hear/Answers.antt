@@ -5,7 +5,7 @@ use Rattle.rga_ops.specs.declared.op.Op.{Op}
 use Rattle.rga_brief.specs.declared.digests.Digests.{Digests}
 use Rattle.rga_brief.specs.Digest.{block_of, is_block, with_operation}
 use Rattle.rga_brief.specs.Hearing.{digests_told}
-use Rattle.rga_brief.proofs.DigestLaws.{operation_mixed}
+use Rattle.rga_brief.proofs.MissingLaws.{operation_mixed}
 use Rattle.rga_brief.proofs.told_digests.ToldDigestsListener.hear.Goals as goal
 
 pub returns-clause-ok : goal.returns-clause-ok
