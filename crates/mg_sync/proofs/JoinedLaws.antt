@@ -20,8 +20,8 @@ use Rattle.rga_exchange.specs.declared.taking.Form.TheVariants.{Exchange}
 use Rattle.rga_exchange.specs.declared.fault.ReceiveFault.{ReceiveFault}
 use Rattle.rga_exchange.specs.declared.fault.ReceiveFault.TheVariants.{Cut, Read, Memory}
 use Rattle.rga_exchange.proofs.OperationLaws.{stream_is_taken}
-use Rattle.rga_digest.specs.Summary.{Summary, IsSummary, DigestsTellApart}
-use Rattle.rga_digest.proofs.SentLaws.{sent_within, missing_agrees, missing_suffices}
+use Rattle.rga_brief.specs.Summary.{Summary, IsSummary, DigestsTellApart}
+use Rattle.rga_brief.proofs.MissingLaws.{sent_within, missing_agrees, missing_suffices}
 use Rattle.rga_brief.specs.Told.{TellsSummary, summary_heard, summary_text}
 use Rattle.mg_files.specs.Calls.{Call}
 use Rattle.mg_buffer.specs.OpenState.{OpenState}

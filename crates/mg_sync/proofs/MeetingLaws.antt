@@ -6,7 +6,7 @@ use Rattle.rga_exchange.specs.Counting.{Calls}
 use Rattle.rga_lines.specs.Log.{operations_of, behind_head}
 use Rattle.rga_exchange.specs.declared.fault.ReceiveFault.{ReceiveFault}
 use Rattle.rga_exchange.specs.declared.fault.SendFault.{SendFault}
-use Rattle.rga_digest.specs.Summary.{Summary}
+use Rattle.rga_brief.specs.Summary.{Summary}
 use Rattle.mg_buffer.specs.State.{State}
 use Rattle.mg_files.specs.declared.port.CallKind.TheVariants.{Connect, Accept, Finish}
 use Rattle.mg_files.specs.declared.port.PortFault.{PortFault}

@@ -6,7 +6,7 @@ use Rattle.rga_exchange.specs.declared.fault.ReceiveFault.{ReceiveFault}
 use Rattle.rga_exchange.specs.declared.fault.ReceiveFault.TheVariants as receive
 use Rattle.rga_exchange.specs.declared.fault.SendFault.{SendFault}
 use Rattle.rga_exchange.specs.declared.fault.SendFault.TheVariants as send
-use Rattle.rga_digest.specs.Summary.{Summary, IsSummary}
+use Rattle.rga_brief.specs.Summary.{Summary, IsSummary}
 use Rattle.rga_brief.specs.Heard.{ReadsToBlock}
 use Rattle.rga_brief.specs.Told.{TellsSummary, summary_heard, summary_text}
 use Rattle.mg_buffer.specs.OpenState.{OpenState}

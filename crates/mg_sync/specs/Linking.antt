@@ -5,7 +5,7 @@ use Rattle.rga_exchange.specs.Counting.{Calls}
 use Rattle.rga_exchange.specs.declared.counted.TheConstants.{MAX_CALLS}
 use Rattle.rga_exchange.specs.declared.fault.ReceiveFault.{ReceiveFault}
 use Rattle.rga_exchange.specs.declared.fault.SendFault.{SendFault}
-use Rattle.rga_digest.specs.Summary.{Summary}
+use Rattle.rga_brief.specs.Summary.{Summary}
 use Rattle.mg_files.specs.Calls.{Call, Adds}
 use Rattle.mg_files.specs.Links.{KeepsBytes}
 use Rattle.mg_buffer.specs.OpenState.{OpenState}

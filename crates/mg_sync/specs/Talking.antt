@@ -13,7 +13,7 @@ use Rattle.rga_exchange.specs.declared.fault.ReceiveFault.{ReceiveFault}
 use Rattle.rga_exchange.specs.declared.fault.ReceiveFault.TheVariants as receive
 use Rattle.rga_exchange.specs.declared.fault.SendFault.{SendFault}
 use Rattle.rga_exchange.specs.declared.fault.SendFault.TheVariants as send
-use Rattle.rga_digest.specs.Summary.{Summary, missing}
+use Rattle.rga_brief.specs.Summary.{Summary, missing}
 use Rattle.mg_buffer.specs.Following.{TakesOperations}
 use Rattle.mg_buffer.specs.State.{State}
 use Rattle.mg_buffer.specs.OpenState.{OpenState}

@@ -6,8 +6,7 @@ ghost use Rattle.mg_sync.specs.Asking.{Asks, Connects, LearnsOver, SaysOver, Wai
 
 use crate::fault::ExchangeFault;
 use mg_buffer::VisitedBuffer;
-use rga_brief::{hear_summary, send_lines, summary_lines};
-use rga_digest::Summary;
+use rga_brief::{Summary, hear_summary, send_lines, summary_lines};
 use rga_exchange::{Counted, ReceiveFault, SendFault};
 use rga_ops::Refusal;
 use rga_store::Teller;

@@ -2,7 +2,7 @@
 ghost use Rattle.std.specs.Prelude.{◌≡◌, false, ℕ, List, Some, Ok};
 ghost use Rattle.rga_ops.specs.Content.{Content, IsWithin, IsSound, join, content_of};
 ghost use Rattle.rga_lines.specs.Log.{stream_operations};
-ghost use Rattle.rga_digest.specs.Summary.{DigestsTellApart};
+ghost use Rattle.rga_brief.specs.Summary.{DigestsTellApart};
 ghost use Rattle.mg_buffer.specs.OpenState.{OpenState};
 ghost use Rattle.mg_sync.specs.Asking.{Role, Connects, Waits};
 ghost use Rattle.mg_sync.specs.Linking.{Account, ExchangesOver, Whole};

@@ -6,8 +6,8 @@ use Rattle.std.proofs.lemmas.List.{take-append-drop}
 use Rattle.std.proofs.lemmas.Option.{none-some, same_Some}
 use Rattle.rga_ops.specs.Content.{Content}
 use Rattle.rga_exchange.specs.declared.fault.ReceiveFault.{ReceiveFault}
-use Rattle.rga_digest.specs.Summary.{Summary, IsSummary}
-use Rattle.rga_digest.proofs.OneSummary.{one_summary}
+use Rattle.rga_brief.specs.Summary.{Summary, IsSummary}
+use Rattle.rga_brief.proofs.OneSummary.{one_summary}
 use Rattle.rga_brief.specs.Told.{IsHeardAs, summary_heard}
 use Rattle.rga_brief.proofs.HeardLaws.{heard-iff}
 use Rattle.mgr_claims.specs.declared.fault.MissingFault.{MissingFault}

@@ -14,9 +14,8 @@ use Rattle.rga_lines.specs.Stream.{rest_of}
 use Rattle.rga_lines.proofs.StandLemmas.{nothing_stands}
 use Rattle.rga_exchange.specs.Sending.{StandsFor, log_text}
 use Rattle.rga_exchange.specs.declared.log.LogRead.{LogRead}
-use Rattle.rga_digest.specs.Summary.{Summary, missing}
-use Rattle.rga_digest.proofs.SentLaws.{sent_agreed}
-use Rattle.rga_brief.proofs.SentLaws.{missing_well_formed}
+use Rattle.rga_brief.specs.Summary.{Summary, missing}
+use Rattle.rga_brief.proofs.MissingLaws.{sent_agreed, missing_well_formed}
 use Rattle.mgr_show.specs.Shown.{log_content}
 use Rattle.mgr_show.specs.Stored.{IsRead}
 use Rattle.mgr_claims.specs.Missing.{claims_heard, lacked, OnBoth, WritesMissing, BeginsMissing}

@@ -14,8 +14,8 @@ use Rattle.rga_exchange.specs.Sending.{StandsFor}
 use Rattle.rga_exchange.proofs.OperationLaws.{log_joined}
 use Rattle.rga_exchange.proofs.LogLaws.{log_joinable, log_stands, log_that_stands}
 use Rattle.rga_store.specs.declared.text_store.TheConstants.{MAX_LIMIT}
-use Rattle.rga_digest.specs.Summary.{Summary, IsSummary, DigestsTellApart, missing}
-use Rattle.rga_digest.proofs.SentLaws.{sent_within, missing_suffices, missing_agrees}
+use Rattle.rga_brief.specs.Summary.{Summary, IsSummary, DigestsTellApart, missing}
+use Rattle.rga_brief.proofs.MissingLaws.{sent_within, missing_suffices, missing_agrees}
 use Rattle.mgr_show.specs.Shown.{log_content}
 use Rattle.mgr_show.specs.Note.{IsReadable}
 use Rattle.mgr_show.proofs.NoteLaws.{note_read}

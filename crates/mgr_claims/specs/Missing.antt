@@ -9,7 +9,7 @@ use Rattle.rga_exchange.specs.declared.fault.ReceiveFault.{ReceiveFault}
 use Rattle.rga_exchange.specs.declared.fault.ReceiveFault.TheVariants as claim
 use Rattle.rga_exchange.specs.declared.fault.SendFault.{SendFault}
 use Rattle.rga_exchange.specs.declared.fault.SendFault.TheVariants as send
-use Rattle.rga_digest.specs.Summary.{Summary, missing}
+use Rattle.rga_brief.specs.Summary.{Summary, missing}
 use Rattle.rga_brief.specs.Told.{summary_heard}
 use Rattle.mgr_show.specs.Log.{ShowOutcome}
 use Rattle.mgr_show.specs.Shown.{log_content, IsOfInput}

@@ -7,7 +7,7 @@ ghost use Rattle.rga_lines.specs.Table.{any_line_at};
 ghost use Rattle.rga_exchange.specs.Log.{log_outcome};
 ghost use Rattle.rga_exchange.specs.Sending.{StandsFor};
 ghost use Rattle.rga_exchange.specs.declared.log.LogRead.{LogRead};
-ghost use Rattle.rga_digest.specs.Summary.{Summary, IsSummary, DigestsTellApart};
+ghost use Rattle.rga_brief.specs.Summary.{Summary, IsSummary, DigestsTellApart};
 ghost use Rattle.rga_brief.specs.Lines.{claim_line_at};
 ghost use Rattle.rga_brief.specs.Told.{IsHeardAs};
 ghost use Rattle.mgr_show.specs.Shown.{log_content};

@@ -8,7 +8,7 @@ use Rattle.rga_lines.specs.LineFault.{LineFault}
 use Rattle.rga_lines.specs.LineFault.TheVariants as line_fault
 use Rattle.rga_exchange.specs.declared.fault.ReceiveFault.{ReceiveFault}
 use Rattle.rga_exchange.specs.declared.fault.ReceiveFault.TheVariants as fault
-use Rattle.rga_digest.specs.Summary.{Summary}
+use Rattle.rga_brief.specs.Summary.{Summary}
 use Rattle.rga_brief.specs.declared.claim.Claim.{Claim}
 use Rattle.rga_brief.specs.Summaries.{summary_from}
 use Rattle.rga_brief.specs.Lines.{claim_line_at}
@@ -113,15 +113,7 @@ stops_so claims [] rest (Err (fault.Line n e)) h =
     ap (λ b. cond b (failed (fault.Line (length claims + 1) line_fault.Long)) (failed fault.Cut)) (lt-ltb MAX_LINE (length rest) h.0)
     ∙ (λ k. failed (fault.Line (sym h.2 k) (sym h.1 k)))
 stops_so claims [] rest (Err fault.Cut) h = ap (λ b. cond b (failed (fault.Line (length claims + 1) line_fault.Long)) (failed fault.Cut)) (le-ltb MAX_LINE (length rest) h)
-stops_so claims [] rest (Ok s) h = elim h [ ]
-stops_so claims [] rest (Err fault.Count) h = elim h [ ]
-stops_so claims [] rest (Err fault.Read) h = elim h [ ]
-stops_so claims [] rest (Err (fault.Refused _ _)) h = elim h [ ]
-stops_so claims [] rest (Err fault.Memory) h = elim h [ ]
-stops_so claims (line ∷ later) rest (Err fault.Cut) h = elim h [ ]
-stops_so claims (line ∷ later) rest (Err fault.Read) h = elim h [ ]
-stops_so claims (line ∷ later) rest (Err (fault.Refused _ _)) h = elim h [ ]
-stops_so claims (line ∷ later) rest (Err fault.Memory) h = elim h [ ]
+stops_so claims lines rest answer h = elim h [ ]
 
 pub heard-iff : (bytes : List ℕ) (answer : Answer) → (summary_heard bytes ≡ answer) ↔ IsHeardAs bytes answer
 heard-iff bytes answer = (

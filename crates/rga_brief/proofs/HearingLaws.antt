@@ -12,7 +12,7 @@ use Rattle.rga_lines.specs.LineFault.TheVariants as line_fault
 use Rattle.rga_lines.proofs.SplitterLemmas.{GivesLine, rest_is_all}
 use Rattle.rga_exchange.specs.declared.fault.ReceiveFault.{ReceiveFault}
 use Rattle.rga_exchange.specs.declared.fault.ReceiveFault.TheVariants as fault
-use Rattle.rga_digest.specs.Summary.{Summary}
+use Rattle.rga_brief.specs.Summary.{Summary}
 use Rattle.rga_brief.specs.declared.claim.Claim.{Claim}
 use Rattle.rga_brief.specs.Heard.{HasHeard}
 use Rattle.rga_brief.specs.Lines.{claim_line_at}

@@ -1,9 +1,7 @@
-pub mod ClaimLaws
-pub mod ClaimLineLaws
-pub mod SummaryLaws
-pub mod LineLaws
+pub mod MissingLaws
+pub mod OneSummary
 pub mod TellingLaws
+pub mod LineLaws
 pub mod HearingLaws
-pub mod SentLaws
 pub mod HeardLaws
 pub mod ReceivedLaws

@@ -20,11 +20,10 @@ use Rattle.rga_exchange.specs.Receiving.{number_received, exchange_outcome}
 use Rattle.rga_exchange.specs.Sending.{exchange_text, stream_text, AreWritable}
 use Rattle.rga_exchange.proofs.HeadLaws.{as_log}
 use Rattle.rga_exchange.proofs.AppendedLaws.{later_writable, later_well_formed, lines_and_end, exchange_lines-cut, exchange_rest, exchange_says, sound_list}
-use Rattle.rga_digest.specs.Summary.{Summary, IsSummary, DigestsTellApart, lacks, missing}
-use Rattle.rga_digest.specs.Taking.{Outcome, taken_in_turn}
-use Rattle.rga_digest.specs.Taking as turn
-use Rattle.rga_digest.proofs.SentLaws.{from_chosen, missing_taken}
-use Rattle.rga_brief.proofs.SentLaws.{missing_well_formed}
+use Rattle.rga_brief.specs.Summary.{Summary, IsSummary, DigestsTellApart, lacks, missing}
+use Rattle.rga_brief.specs.Taking.{Outcome, taken_in_turn}
+use Rattle.rga_brief.specs.Taking as turn
+use Rattle.rga_brief.proofs.MissingLaws.{from_chosen, missing_taken, missing_well_formed}
 use Rattle.rga_brief.specs.Alike.{AreReceivedAlike}
 
 -- ---- lines of operations, and then the end

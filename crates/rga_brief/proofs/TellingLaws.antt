@@ -1,22 +1,32 @@
--- A summary is heard as it was told.
-use Rattle.std.proofs.Common.{◌≡◌, ℕ, ◌+◌, ◌/◌, ◌%◌, ◌<◌, ◌≤◌, ◌^◌, Bool, true, false, cond, List, [], ◌∷◌, ◌++◌, map, length, codes, decimal, refl, sym, ap, ◌∙◌, subst, append_assoc, append-nil, arith, lit≤}
-use Rattle.std.specs.Prelude.{All, Option, Some, None, Result, Ok, Err, IfOk, OnOk, Vec, option_and_then}
-use Rattle.std.specs.List.{AllByRecursion}
+-- What a claim says and how it is spelled, and a summary that is heard as it was told.
+use Rattle.std.proofs.Common.{◌≡◌, ℕ, ◌+◌, ◌*◌, ◌/◌, ◌%◌, ◌^◌, ◌<◌, ◌≤◌, cond, lt-ltb, List, [], ◌∷◌, length, refl, ap, ◌∙◌, arith, lit<, ◌≢◌, Bool, true, false, not, ◌&&◌, ◌==◌, ◌++◌, codes, decimal, sym, true≢false, map, subst, append_assoc, append-nil, lit≤}
+use Rattle.std.specs.Prelude.{Option, Some, None, Result, Ok, Err, IfOk, OnOk, Vec, option_and_then}
+use Rattle.serde_json.specs.Data.{depth, Data}
+use Rattle.serde_json.specs.Read.{max_depth, read, of_json}
+use Rattle.serde_json.specs.declared.value.Value.{Value}
+use Rattle.serde_json.specs.View.{items_view}
+use Rattle.std.proofs.Math.Nat.{div-lt_iff_lt-mul, div-le_self, mod-le}
+use Rattle.rga_lines.specs.Table.{two_numbers}
+use Rattle.rga_brief.specs.declared.block.Block.{Block}
+use Rattle.rga_brief.specs.declared.claim.Claim.{Claim}
+use Rattle.rga_brief.specs.Claims.{block_of, digest_of, with_digests, claim_with, claim_of, claim_data, IsInRange, IsDigest, claim_line, pair_text, part_text, claim_in, digest_data, pair_data}
+use Rattle.std.specs.List.{All, list_all, AllByRecursion}
+use Rattle.std.proofs.lemmas.Bool.Decides.{nat_tests}
+use Rattle.std.proofs.lemmas.Fmt.{decimal_by_steps, length-decimal-le}
+use Rattle.std.proofs.lemmas.List.Folds.{list_all-append}
+use Rattle.std.proofs.lemmas.List.Sums.{AllPass-from_list_all}
+use Rattle.serde_json.specs.Written.{has_float, compact_text, outline}
+use Rattle.serde_json.proofs.OnLiterals.{serde_json_on_literals}
 use Rattle.std.specs.Str.{IsUtf8, is_utf8}
 use Rattle.std.proofs.lemmas.Bool.{eq-eqb}
-use Rattle.std.proofs.lemmas.Fmt.{length-decimal-le}
 use Rattle.std.proofs.lemmas.List.{length-append}
 use Rattle.std.proofs.lemmas.List.Elements.{All-nil, All-cons}
 use Rattle.std.proofs.lemmas.Str.{IsUtf8-append, is_utf8-from_IsUtf8}
 use Rattle.json.specs.Lex.{tokens}
-use Rattle.json.specs.Tree as tree
 use Rattle.json.proofs.Printed.Decimals.{IsNumber-decimal}
 use Rattle.json.proofs.Printed.Tokens.{tokens-print}
 use Rattle.json.proofs.Printed.Trees.{ArePrintable-json_tokens}
 use Rattle.json.proofs.Printed.Utf8.{IsUtf8-are_ascii}
-use Rattle.serde_json.specs.Data.{Data}
-use Rattle.serde_json.specs.Read.{read, of_json, max_depth}
-use Rattle.serde_json.specs.Written.{compact_text, outline}
 use Rattle.serde_json.proofs.Numbers.{number_of-decimal}
 use Rattle.serde_json.proofs.Texts.{print-outline}
 use Rattle.rga_ops.specs.Content.{Content}
@@ -30,19 +40,135 @@ use Rattle.rga_lines.proofs.SpellingLemmas.{end_data, compact_end}
 use Rattle.rga_exchange.proofs.AppendedLaws.{cut_again}
 use Rattle.rga_exchange.specs.declared.fault.ReceiveFault.{ReceiveFault}
 use Rattle.rga_exchange.specs.declared.fault.ReceiveFault.TheVariants.{Count}
-use Rattle.rga_digest.specs.Summary.{Summary, IsSummary}
-use Rattle.rga_digest.proofs.OneSummary.{one_summary}
-use Rattle.rga_brief.specs.declared.claim.Claim.{Claim}
-use Rattle.rga_digest.specs.declared.block.Block.{Block}
-use Rattle.rga_brief.specs.Claims.{claim_of, claim_in, claim_data, claim_line, digest_data, pair_data, pair_text, part_text, with_digests, IsDigest, IsInRange}
+use Rattle.rga_brief.specs.Summary.{Summary, IsSummary}
+use Rattle.rga_brief.proofs.OneSummary.{one_summary, comes_back}
 use Rattle.rga_brief.specs.Summaries.{claims_of, summary_from}
-use Rattle.rga_brief.proofs.ClaimLaws.{claim_back}
-use Rattle.rga_brief.proofs.ClaimLineLaws.{halves, line_of, one_line}
-use Rattle.rga_brief.proofs.SummaryLaws.{comes_back}
 use Rattle.rga_brief.specs.Lines.{claim_line_at, end_said}
 use Rattle.rga_brief.proofs.LineLaws.{said}
 use Rattle.rga_brief.specs.Told.{IsTold, TellsSummary, claim_lines, summary_text, after_claim_line, lines_heard, summary_heard}
 use Rattle.rga_brief.specs.declared.claim_line.ClaimLine.TheVariants.{One, Last}
+use Rattle.json.specs.Tree as tree
+
+-- ---- the JSON of a claim says that claim
+
+-- ---- two numbers
+
+pub too_few : (values : List Value) → length values < 2 → two_numbers (items_view values) ≡ None
+too_few [] h = refl
+too_few (v ∷ []) h = refl
+too_few (v ∷ w ∷ values) h = absurd (omega arith)
+
+pub too_many : (values : List Value) → 3 ≤ length values → two_numbers (items_view values) ≡ None
+too_many [] h = absurd (omega arith)
+too_many (v ∷ []) h = absurd (omega arith)
+too_many (v ∷ w ∷ []) h = absurd (omega arith)
+too_many (v ∷ w ∷ u ∷ values) h = refl
+
+-- ---- a digest
+
+whole : (n d : ℕ) → 0 < n → (d / n) * n + d % n ≡ d
+whole n d h = omega arith
+
+part_small : (n d : ℕ) → 0 < n → d % n < n
+part_small n d h = omega arith
+
+high_small : (n d e : ℕ) → 0 < n → e ≡ n * n → d < e → d / n < n
+high_small n d e some is h = (div-lt_iff_lt-mul some).1 (omega (arith, is))
+
+digest_back : (d : ℕ) → d < 2 ^ 64 → digest_of (d / 4294967296, d % 4294967296) ≡ Some (Some d)
+digest_back d h =
+    (λ k. cond (lt-ltb (d / 4294967296) 4294967296 (high_small 4294967296 d (2 ^ 64) (lit< tt) refl h) k) (cond (lt-ltb (d % 4294967296) 4294967296 (part_small 4294967296 d (lit< tt)) k) (Some (Some ((d / 4294967296) * 4294967296 + d % 4294967296))) None) None)
+    ∙ ap (λ n. Some (Some n)) (whole 4294967296 d (lit< tt))
+
+block_back : (b : Block) → b.replica < 65536 → block_of (b.replica, b.number) ≡ Some b
+block_back b h = ap (λ x. cond x (Some b) None) (lt-ltb b.replica 65536 h)
+
+-- ---- a claim
+
+back : (b : Block) (e i : Option ℕ) → IsInRange (with_digests b e i) → claim_of (claim_data (with_digests b e i)) ≡ Some (with_digests b e i)
+back b None None h = ap (λ o. claim_with (claim_data (with_digests b None None)) o (Some None) (Some None)) (block_back b h.0)
+back b (Some d) None h = λ k. claim_with (claim_data (with_digests b (Some d) None)) (block_back b h.0 k) (digest_back d h.2 k) (Some None)
+back b None (Some d) h = λ k. claim_with (claim_data (with_digests b None (Some d))) (block_back b h.0 k) (Some None) (digest_back d h.3 k)
+back b (Some d) (Some f) h = λ k. claim_with (claim_data (with_digests b (Some d) (Some f))) (block_back b h.0 k) (digest_back d h.2 k) (digest_back f h.3 k)
+
+pub claim_back : (claim : Claim) → IsInRange claim → claim_of (claim_data claim) ≡ Some claim
+claim_back claim h = back claim.block claim.digests.deleted claim.digests.inserted h
+
+shallow : (b : Block) (e i : Option ℕ) → depth (claim_data (with_digests b e i)) ≤ max_depth
+shallow b None None = omega arith
+shallow b (Some d) None = omega arith
+shallow b None (Some d) = omega arith
+shallow b (Some d) (Some f) = omega arith
+
+pub not_deep : (claim : Claim) → depth (claim_data claim) ≤ max_depth
+not_deep claim = shallow claim.block claim.digests.deleted claim.digests.inserted
+
+-- ---- how the JSON of a claim is spelled
+
+without_float : (b : Block) (e i : Option ℕ) → has_float (claim_data (with_digests b e i)) ≡ false
+without_float b None None = refl
+without_float b (Some d) None = refl
+without_float b None (Some d) = refl
+without_float b (Some d) (Some f) = refl
+
+pub no_float : (claim : Claim) → has_float (claim_data claim) ≡ false
+no_float claim = without_float claim.block claim.digests.deleted claim.digests.inserted
+
+spelled : (b : Block) (e i : Option ℕ) → compact_text (claim_data (with_digests b e i)) ≡ claim_line (with_digests b e i)
+unfolding serde_json_on_literals claim_line
+spelled b None None = refl
+spelled b (Some d) None = refl
+spelled b None (Some d) = refl
+spelled b (Some d) (Some f) = refl
+
+pub line_of : (claim : Claim) → compact_text (claim_data claim) ≡ claim_line claim
+line_of claim = spelled claim.block claim.digests.deleted claim.digests.inserted
+
+-- ---- the halves of a digest are numbers of the types
+
+half_small : (n d : ℕ) → d < 2 ^ 64 → d / n < 2 ^ 64
+half_small n d h = omega (arith, div-le_self d n)
+
+rest_small : (n d : ℕ) → d < 2 ^ 64 → d % n < 2 ^ 64
+rest_small n d h = omega (arith, mod-le d n)
+
+pub halves : (digest : ℕ) → digest < 2 ^ 64 → (digest / 4294967296 < 2 ^ 64) × (digest % 4294967296 < 2 ^ 64)
+halves digest h = (half_small 4294967296 digest h, rest_small 4294967296 digest h)
+
+-- ---- no newline
+
+abbrev none : List ℕ → Bool
+none bytes = list_all (λ b. not (b == 10)) bytes
+
+both : (xs ys : List ℕ) → none xs ≡ true → none ys ≡ true → none (xs ++ ys) ≡ true
+both xs ys p q = list_all-append (λ b. not (b == 10)) xs ys ∙ (λ k. p k && q k)
+
+digit : (n : ℕ) → not ((48 + n) == 10) ≡ true
+digit n = grind (arith, nat_tests)
+
+none-decimal : (n : ℕ) → n < 2 ^ 64 → none (decimal n) ≡ true
+none-decimal n h =
+    decimal_by_steps (λ _ ds. none ds ≡ true) (λ k lt. (λ i. digit k i && true)) (λ k ds le done. both ds ((48 + k % 10) ∷ []) done (λ i. digit (k % 10) i && true)) n h
+
+none-pair : (a b : ℕ) → a < 2 ^ 64 → b < 2 ^ 64 → none (pair_text a b) ≡ true
+none-pair a b f g = both (decimal a) _ (none-decimal a f) (both (decimal b) (codes "]") (none-decimal b g) refl)
+
+none-part : (name : List ℕ) (digest : Option ℕ) (more : List ℕ) → none name ≡ true → IsDigest digest → none more ≡ true → none (part_text name digest more) ≡ true
+none-part name None more n h m = m
+none-part name (Some d) more n h m =
+    both name _ n (both (pair_text (d / 4294967296) (d % 4294967296)) more (none-pair (d / 4294967296) (d % 4294967296) (halves d h).0 (halves d h).1) m)
+
+none-line : (claim : Claim) → IsInRange claim → none (claim_line claim) ≡ true
+unfolding claim_line
+none-line claim h =
+    both (pair_text claim.block.replica claim.block.number) _ (none-pair claim.block.replica claim.block.number (omega (arith, h.0)) h.1)
+    (none-part (codes "del") claim.digests.deleted _ refl h.2 (none-part (codes "ins") claim.digests.inserted (codes "}") refl h.3 refl))
+
+pub one_line : (claim : Claim) → IsInRange claim → All (λ b. b ≢ 10) (claim_line claim)
+one_line claim h k d l e =
+    true≢false (sym (AllPass-from_list_all (λ b. not (b == 10)) (claim_line claim) (none-line claim h) k d l) ∙ ap (λ b. not (b == 10)) e)
+
+-- ---- a summary is heard as it was told
 
 -- ---- what a written value reads as
 

@@ -6,7 +6,7 @@ use Rattle.serde_json.specs.Events.{members_len}
 use Rattle.serde_json.specs.Read.{read}
 use Rattle.serde_json.specs.Find.{get, as_array, as_object}
 use Rattle.rga_lines.specs.Table.{two_numbers}
-use Rattle.rga_digest.specs.declared.block.Block.{Block}
+use Rattle.rga_brief.specs.declared.block.Block.{Block}
 use Rattle.rga_brief.specs.declared.claim.TheConstants.{HALF}
 use Rattle.rga_brief.specs.declared.claim.Claim.{Claim}
 

@@ -1,3 +1,8 @@
+pub mod Digest
+pub mod Summary
+pub mod Taking
+pub mod Hearing
+pub mod Lacking
 pub mod Claims
 pub mod Summaries
 pub mod Lines

@@ -2,11 +2,11 @@
 use Rattle.std.specs.Prelude.{List, [], ◌∷◌, map, Option, Some, None, if◌then◌else◌}
 use Rattle.std.specs.Option.{option_or}
 use Rattle.std.specs.BTreeMap.{insert_entry}
-use Rattle.rga_digest.specs.declared.block.Block.{Block}
-use Rattle.rga_digest.specs.declared.digests.Digests.{Digests}
+use Rattle.rga_brief.specs.declared.block.Block.{Block}
+use Rattle.rga_brief.specs.declared.digests.Digests.{Digests}
 use Rattle.std.specs.Ordering.{eq_by_cmp}
-use Rattle.rga_digest.specs.Digest.{block_cmp}
-use Rattle.rga_digest.specs.Summary.{Summary}
+use Rattle.rga_brief.specs.Digest.{block_cmp}
+use Rattle.rga_brief.specs.Summary.{Summary}
 use Rattle.rga_brief.specs.declared.claim.Claim.{Claim}
 
 abbrev pub entry_claim : Block × Digests → Claim

@@ -9,7 +9,7 @@ use Rattle.rga_lines.specs.LineFault.{LineFault}
 use Rattle.rga_lines.specs.LineFault.TheVariants as line_fault
 use Rattle.rga_exchange.specs.declared.fault.ReceiveFault.{ReceiveFault}
 use Rattle.rga_exchange.specs.declared.fault.ReceiveFault.TheVariants as fault
-use Rattle.rga_digest.specs.Summary.{Summary, IsSummary}
+use Rattle.rga_brief.specs.Summary.{Summary, IsSummary}
 use Rattle.rga_brief.specs.Claims.{claim_line}
 use Rattle.rga_brief.specs.Summaries.{claims_of, summary_from}
 use Rattle.rga_brief.specs.declared.claim.Claim.{Claim}

@@ -1,5 +1,6 @@
 //! What a line of a summary says.
-use rga_digest::{Block, Digests};
+use crate::block::Block;
+use crate::digests::Digests;
 
 /// What each half of a digest is below.
 pub(crate) const HALF: u64 = 4294967296;

@@ -2,8 +2,10 @@
 ghost use Rattle.std.specs.Prelude.{◌≡◌, IfOk, IfErr, OnOk};
 ghost use Rattle.rga_brief.specs.Summaries.{claims_of, put_claim, put_claims, summary_from};
 
+use crate::block::Block;
 use crate::claim::Claim;
-use rga_digest::{Block, Digests, Summary};
+use crate::digests::Digests;
+use crate::summary::Summary;
 use rga_ops::Refusal;
 use std::alloc::Global;
 use std::collections::BTreeMap;

@@ -14,7 +14,7 @@ ghost use Rattle.rga_brief.specs.declared.claim_line.ClaimLine.TheVariants.{One,
 use crate::claim::Claim;
 use crate::claim_line::{ClaimLine, read_claim_line};
 use crate::claims::summary_from;
-use rga_digest::Summary;
+use crate::summary::Summary;
 use rga_exchange::{BLOCK, Counted, ReceiveFault};
 use rga_lines::{LineFault, Splitter};
 use std::alloc::Global;

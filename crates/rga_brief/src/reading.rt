@@ -4,8 +4,9 @@ ghost use Rattle.serde_json.specs.View.{items_view, view};
 ghost use Rattle.rga_lines.specs.Table.{two_numbers};
 ghost use Rattle.rga_brief.specs.Claims as spec;
 
+use crate::block::Block;
 use crate::claim::{Claim, HALF};
-use rga_digest::{Block, Digests};
+use crate::digests::Digests;
 use rga_ops::Refusal;
 use serde_json::Value;
 use std::alloc::Global;

@@ -6,15 +6,16 @@ ghost use Rattle.rga_exchange.specs.Counting.{CountsAs, Writes, WritesFront};
 ghost use Rattle.rga_lines.specs.Stream.{bytes_of_lines, newline};
 ghost use Rattle.rga_exchange.specs.Sending.{exchange_text};
 ghost use Rattle.rga_exchange.specs.Receiving.{exchange_outcome};
-ghost use Rattle.rga_digest.specs.Summary.{missing};
+ghost use Rattle.rga_brief.specs.Summary.{missing};
 ghost use Rattle.rga_brief.specs.Claims.{IsInRange, claim_line};
 ghost use Rattle.rga_brief.specs.Summaries.{claims_of};
 ghost use Rattle.rga_brief.specs.Told.{IsTold, summary_text};
 
 use crate::claim::Claim;
 use crate::claims::claims_of;
+use crate::lacks::missing;
+use crate::summary::{Summary, summary_of};
 use crate::writing::write_claim;
-use rga_digest::{Summary, missing, summary_of};
 use rga_exchange::{Counted, SendFault, send_list};
 use rga_lines::write_end;
 use rga_ops::Refusal;

@@ -1,6 +1,8 @@
 //! What one store has and another lacks, by a summary that goes over in lines.
-use rga_brief::{Claim, claims_of, read_claim, summary_from, write_claim};
-use rga_digest::{Block, Digests, Summary, missing, summary_of};
+use rga_brief::{
+    Block, Claim, Digests, Summary, claims_of, missing, read_claim, summary_from, summary_of,
+    write_claim,
+};
 use rga_ops::{Op, Refusal};
 use rga_store::{Teller, TextStore};
 use rga_tree::TreeStore;

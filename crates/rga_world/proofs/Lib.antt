@@ -1,11 +1,9 @@
 pub mod ListPlaces
 pub mod Consistent
 pub mod StepLaws
-pub mod RefusalLaws
 pub mod TogetherLaws
 pub mod RunLaws
 pub mod SiteSteps
-pub mod CallLaws
 pub mod WordLaws
 pub mod StoredLaws
 pub mod ProgramLaws

@@ -35,7 +35,7 @@ use Rattle.rga_world.specs.declared.event.Event.TheVariants.{Save, SaveOne, Deli
 use Rattle.rga_world.specs.declared.refusal.WorldRefusal.TheVariants.{NoOperation, Store}
 use Rattle.rga_world.proofs.ListPlaces.{contains_place, set_here, set_old}
 use Rattle.rga_world.proofs.SiteSteps.{set_same}
-use Rattle.rga_world.proofs.StepLaws.{same_Ok, place_held, single_within}
+use Rattle.rga_world.proofs.StepLaws.{same_Ok, place_held, single_within, err-ok, ok-err}
 use Rattle.rga_world.proofs.WordLaws.{changed_to, gives, list_found, saved-iff, saves, store-iff, restarted-iff}
 use Rattle.rga_world.proofs.RunLaws.{reached_consistent, saved_joinable}
 use Rattle.rga_world.proofs.StoredLaws.{reached_storable, held_listed}
@@ -111,13 +111,7 @@ restart_from_log w v number s t bytes reached step at there stands =
 
 take_ok : (r : Result Content Refusal) (f : Content → Result Content Refusal) (d : Content) → and_take r f ≡ Ok d → (c : Content) × (r ≡ Ok c) × (f c ≡ Ok d)
 take_ok (Ok c) f d h = (c, refl, h)
-take_ok (Err e) f d h = absurd (clash h)
-  where
-    clash : ◌≡◌ {A = Result Content Refusal} (Err e) (Ok d) → ⊥
-    clash q = cc
-
-inside_ok : (c d : Content) → ◌≡◌ {A = Result Content Refusal} (Ok c) (Ok d) → c ≡ d
-inside_ok c d h = cc
+take_ok (Err e) f d h = absurd (err-ok e d h)
 
 -- ---- a save of one operation
 
@@ -190,10 +184,7 @@ pub one_not_refused : (w : World) (number place : ℕ) (e : Refusal) → IsReach
 one_not_refused w number place e reached h =
     let (op, t, refused) = (store-iff w (SaveOne number place) e).0 h in
     let taken_so = one_taken w number t.before op reached t.at (place_held t.before.content place op t.held) in
-    clash (join t.before.saved (single op)) (sym taken_so ∙ ap (after_answer t.before.saved op) refused)
-  where
-    clash : (c : Content) → ◌≡◌ {A = Result Content Refusal} (Ok c) (Err e) → ⊥
-    clash c q = cc
+    ok-err (join t.before.saved (single op)) e (sym taken_so ∙ ap (after_answer t.before.saved op) refused)
 
 pub one_save_in_log : (w v : World) (number place : ℕ) (s t : Site) (op : Op) (bytes : List ℕ)
     → IsReached w → stepped w (SaveOne number place) ≡ Ok v → slice_get w.sites number ≡ Some s → slice_get v.sites number ≡ Some t
@@ -232,7 +223,7 @@ pub all_delivered : (ops : List Op) (place taker giver : ℕ) (w : World) (s g :
     → taken_one_by_one w.limit s.content ops ≡ Ok d
     → ran w (deliveries taker giver place (length ops)) ≡ Ok (with_site w taker (with_content s d))
 all_delivered [] place taker giver w s g d at there each took =
-    let same : s.content ≡ d = inside_ok s.content d took in
+    let same : s.content ≡ d = same_Ok s.content d took in
     ap (λ xs. Ok (record w { sites = xs })) (sym (set_same w.sites taker s at)) ∙ ap (λ c. Ok (with_site w taker (with_content s c))) same
 all_delivered (op ∷ ops) place taker giver w s g d at there each took =
     let (c, first, rest) = take_ok (taken w.limit s.content op) (λ e. taken_one_by_one w.limit e ops) d took in

@@ -22,8 +22,7 @@ use Rattle.rga_world.specs.declared.event.Event.{Event}
 use Rattle.rga_world.specs.declared.event.Event.TheVariants.{Edit, Revert, Save, SaveOne, Deliver, DeliverList, Restart}
 use Rattle.rga_world.specs.declared.refusal.WorldRefusal.{WorldRefusal}
 use Rattle.rga_world.specs.declared.refusal.WorldRefusal.TheVariants.{NoSite, NoOperation, Store}
-use Rattle.rga_world.proofs.StepLaws.{same_Ok, then_ok, found_ok, store_ok, is_changed, takes_given, joined_ok, saved_one_ok, saved_list_ok}
-use Rattle.rga_world.proofs.RefusalLaws.{ok-err, then_err, found_none, of_err, same_Store, site-operation, site-store, operation-store, joined_err, saved_list_err, nowhere, within, refusal, from_nowhere, of_nothing, not_taken, ungiven, none_there, not_saved, unsaved}
+use Rattle.rga_world.proofs.StepLaws.{same_Ok, then_ok, found_ok, store_ok, is_changed, takes_given, joined_ok, saved_one_ok, saved_list_ok, err-ok, ok-err, then_err, found_none, of_err, same_Store, site-operation, site-store, operation-store, joined_err, saved_list_err, nowhere, within, refusal, from_nowhere, of_nothing, not_taken, ungiven, none_there, not_saved, unsaved}
 use Rattle.rga_world.proofs.RunLaws.{took_or}
 
 -- ---- outcomes
@@ -176,10 +175,7 @@ answered_ok limit c d op h = by (answer limit c op) h
   where
     by : (r : Result Taken Refusal) → after_answer c op r ≡ Ok d → (t : Taken) × (r ≡ Ok t)
     by (Ok t) h = (t, refl)
-    by (Err e) h = absurd (clash h)
-      where
-        clash : ◌≡◌ {A = Result Content Refusal} (Err e) (Ok d) → ⊥
-        clash q = cc
+    by (Err e) h = absurd (err-ok e d h)
 
 taken_ok : (limit : ℕ) (c : Content) (op : Op) (t : Taken) → answer limit c op ≡ Ok t → taken limit c op ≡ Ok (join c (single op))
 taken_ok limit c op t h =

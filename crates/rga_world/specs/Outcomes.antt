@@ -1,5 +1,6 @@
 -- What calls leave.
 use Rattle.std.specs.Prelude.{◌≡◌, ◌<◌, ◌≤◌, ◌⊎◌, ℕ, nat_le, ◌&&◌, Bool, Some, Result, Ok, Err, MatchResult, length, slice_get}
+use Rattle.rga_ops.specs.Content.{Content}
 use Rattle.rga_ops.specs.declared.refusal.Refusal.TheVariants.{Memory}
 use Rattle.rga_doc.specs.LocalEdit.{room_answer}
 use Rattle.rga_world.specs.Sites.{Site, World}
@@ -16,6 +17,12 @@ Happens r old new outcome = MatchResult r (λ _. outcome ≡ Ok new) (λ e. (new
 -- a site is there, and has room for so many identifiers more
 abbrev pub HasRoomAt : World → ℕ → ℕ → Type 0
 HasRoomAt w number count = (s : Site) × (slice_get w.sites number ≡ Some s) × (room_answer w.limit s.content count ≡ Ok tt)
+
+-- of an edit and of a revert: there is room for what is put; and the places of an edit are in order
+abbrev pub HasRoomAlone : ℕ → Content → Event → Type 0
+HasRoomAlone limit c (Edit number lo hi put) = (room_answer limit c (length put.items) ≡ Ok tt) × (lo ≤ hi)
+HasRoomAlone limit c (Revert number gone back) = room_answer limit c (length back.items) ≡ Ok tt
+HasRoomAlone limit c event = Unit {0}
 
 -- The sites of the event are there; of an edit and of a revert there is room for what is put, and the places of an edit
 -- and of a list are in order.

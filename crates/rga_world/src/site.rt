@@ -1,16 +1,16 @@
 //! A site.
 ghost use Rattle.std.specs.Prelude.{◌≡◌, ◌≤◌, ◌⊎◌, Some, None, IfOk, IfErr, MatchResult, true, false, length, slice_get};
 ghost use Rattle.rga_ops.specs.Prelude.{operations, text};
-ghost use Rattle.rga_doc.specs.LocalEdit.{room_answer};
 ghost use Rattle.rga_store.specs.Limit.{is_limit};
-ghost use Rattle.rga_world.specs.Outcomes.{Happens};
+ghost use Rattle.rga_world.specs.Outcomes.{Happens, HasRoomAlone};
 ghost use Rattle.rga_world.specs.SiteStates.{new_site};
-ghost use Rattle.rga_world.specs.Steps.{edited, reverted, delivered, list_delivered, saved_list, saved_site, saved_one, restarted};
+ghost use Rattle.rga_world.specs.Steps.{alone, delivered, list_delivered, saved_list, saved_one};
 ghost use Rattle.std.specs.Prelude.{Ok, Err};
 
+use crate::event::Event;
 use crate::refusal::WorldRefusal;
 use rga_doc::Doc;
-use rga_ops::{Id, Op, Refusal};
+use rga_ops::{Op, Refusal};
 use rga_store::{Taker, TextStore};
 use std::alloc::Global;
 use std::marker::Model;
@@ -51,59 +51,47 @@ impl<S: TextStore> Site<S> {
         Ok(Site { document, saved })
     }
 
-    /// One splice of the text.
-    pub(crate) fn edit(&mut self, lo: usize, hi: usize, put: &[char]) -> Result<(), WorldRefusal>
+    /// An event of this site alone happens. A delivery leaves the site as it is.
+    pub(crate) fn step(&mut self, alloc: Global, event: &Event) -> Result<(), WorldRefusal>
         ensures happens { Happens result self.old.site self.new.site
-            (edited self.old.limit self.old.replica lo hi put.now self.old.site) }
+            (alone self.old.limit self.old.replica event.now self.old.site) }
         ensures memory { result ≡ Err (WorldRefusal.Store Refusal.Memory) →
-            (room_answer self.old.limit self.old.site.content (length put.now) ≡ Ok tt)
-            × (lo ≤ hi) }
+            HasRoomAlone self.old.limit self.old.site.content event.now }
         ensures rest { self.new ≡ record self.old { site = self.new.site } }
     {
-        drop(self.document.splice(lo, hi, put)?);
-        Ok(())
-    }
-
-    /// One revert.
-    pub(crate) fn revert(&mut self, gone: &[Id], back: &[(Id, char)]) -> Result<(), WorldRefusal>
-        ensures happens { Happens result self.old.site self.new.site
-            (reverted self.old.limit self.old.replica gone.now back.now self.old.site) }
-        ensures memory { result ≡ Err (WorldRefusal.Store Refusal.Memory) →
-            room_answer self.old.limit self.old.site.content (length back.now) ≡ Ok tt }
-        ensures rest { self.new ≡ record self.old { site = self.new.site } }
-    {
-        drop(self.document.revert(gone, back)?);
-        Ok(())
-    }
-
-    /// What is held is saved.
-    pub(crate) fn save(&mut self) -> Result<(), WorldRefusal>
-        ensures happens { Happens result self.old.site self.new.site
-            (Ok (saved_site self.old.site)) }
-        ensures rest { self.new ≡ record self.old { site = self.new.site } }
-    {
-        self.saved = self.document.store().copy()?;
-        Ok(())
+        match event {
+            Event::Edit { lo, hi, put, .. } => {
+                drop(self.document.splice(*lo, *hi, put)?);
+                Ok(())
+            }
+            Event::Revert { gone, back, .. } => {
+                drop(self.document.revert(gone, back)?);
+                Ok(())
+            }
+            Event::Save { .. } => {
+                self.saved = self.document.store().copy()?;
+                Ok(())
+            }
+            Event::SaveOne { place, .. } => self.save_one(*place),
+            Event::Restart { .. } => {
+                self.document = Doc::new(alloc, self.saved.copy()?, self.document.replica())?;
+                Ok(())
+            }
+            Event::Deliver { .. } | Event::DeliverList { .. } => Ok(()),
+        }
     }
 
     /// One of the operations that are held is saved.
-    pub(crate) fn save_one(&mut self, place: usize) -> Result<(), WorldRefusal>
+    fn save_one(&mut self, place: usize) -> Result<(), WorldRefusal>
         ensures happens { Happens result self.old.site self.new.site
             (saved_one self.old.limit place self.old.site) }
         ensures rest { self.new ≡ record self.old { site = self.new.site } }
     {
-        let op = self.held_operation(place)?;
-        let _taken = self.saved.apply(op)?;
-        Ok(())
-    }
-
-    /// What is saved is held, and nothing else.
-    pub(crate) fn restart(&mut self, alloc: Global) -> Result<(), WorldRefusal>
-        ensures happens { Happens result self.old.site self.new.site
-            (Ok (restarted self.old.site)) }
-        ensures rest { self.new ≡ record self.old { site = self.new.site } }
-    {
-        self.document = Doc::new(alloc, self.saved.copy()?, self.document.replica())?;
+        let ops = self.document.store().ops()?;
+        let Some(op) = ops.as_slice().get(place) else {
+            return Err(WorldRefusal::NoOperation);
+        };
+        let _taken = self.saved.apply(*op)?;
         Ok(())
     }
 
@@ -150,20 +138,6 @@ impl<S: TextStore> Site<S> {
             ⊎ ((e ≡ WorldRefusal.NoOperation) × (op ≡ None))) }
     {
         let ops = self.saved_ops()?;
-        match ops.as_slice().get(place) {
-            Some(op) => Ok(*op),
-            None => Err(WorldRefusal::NoOperation),
-        }
-    }
-
-    /// The one at a place of the operations that are held.
-    fn held_operation(&self, place: usize) -> Result<Op, WorldRefusal>
-        ensures { let op = slice_get (operations self.now.site.content) place in MatchResult result
-            (λ o. op ≡ Some o)
-            (λ e. (e ≡ WorldRefusal.Store Refusal.Memory)
-            ⊎ ((e ≡ WorldRefusal.NoOperation) × (op ≡ None))) }
-    {
-        let ops = self.document.store().ops()?;
         match ops.as_slice().get(place) {
             Some(op) => Ok(*op),
             None => Err(WorldRefusal::NoOperation),

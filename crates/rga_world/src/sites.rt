@@ -1,9 +1,9 @@
 //! Sites by their numbers.
 ghost use Rattle.std.specs.Prelude.{◌≡◌, ◌<◌, ◌≤◌, Some, None, Ok, Err, MatchResult, true, false, length, slice_get};
 ghost use Rattle.rga_store.specs.Limit.{is_limit};
-ghost use Rattle.rga_world.specs.Outcomes.{Happens, HasRoomAt, MayWantMemory};
+ghost use Rattle.rga_world.specs.Outcomes.{Happens, MayWantMemory};
 ghost use Rattle.rga_world.specs.Sites.{new_world};
-ghost use Rattle.rga_world.specs.Steps.{edited, reverted, delivered, list_delivered, saved_site, saved_one, restarted, replica_of, changed, given, stepped, saved_operation, saved_list};
+ghost use Rattle.rga_world.specs.Steps.{alone, own_site, delivered, list_delivered, replica_of, changed, given, stepped, saved_operation, saved_list};
 ghost use Rattle.rga_ops.specs.declared.refusal.Refusal.TheVariants.{Memory};
 ghost use Rattle.rga_world.specs.declared.refusal.WorldRefusal.TheVariants.{Store};
 
@@ -11,7 +11,7 @@ use crate::event::Event;
 use crate::refusal::WorldRefusal;
 use crate::site::Site;
 use crate::world::MAX_SITES;
-use rga_ops::{Id, Op, Refusal};
+use rga_ops::{Op, Refusal};
 use rga_store::TextStore;
 use std::alloc::Global;
 use std::marker::Model;
@@ -66,72 +66,17 @@ impl<S: TextStore> Sites<S> {
         Ok(&self.all[number])
     }
 
-    fn edit(
-        &mut self,
-        number: usize,
-        lo: usize,
-        hi: usize,
-        put: &[char],
-    ) -> Result<(), WorldRefusal>
+    /// An event of one site alone.
+    fn alone(&mut self, number: usize, event: &Event) -> Result<(), WorldRefusal>
+        requires { own_site event.now ≡ Some number }
         ensures happens { Happens result self.old self.new (changed self.old number
-            (edited self.old.limit (replica_of number) lo hi put.now)) }
-        ensures memory { result ≡ Err (Store Memory) →
-            HasRoomAt self.old number (length put.now) × (lo ≤ hi) }
+            (alone self.old.limit (replica_of number) event.now)) }
+        ensures memory { result ≡ Err (Store Memory) → MayWantMemory self.old event.now }
     {
         if number >= self.all.as_slice().len() {
             return Err(WorldRefusal::NoSite);
         }
-        self.all[number].edit(lo, hi, put)
-    }
-
-    fn revert(
-        &mut self,
-        number: usize,
-        gone: &[Id],
-        back: &[(Id, char)],
-    ) -> Result<(), WorldRefusal>
-        ensures happens { Happens result self.old self.new (changed self.old number
-            (reverted self.old.limit (replica_of number) gone.now back.now)) }
-        ensures memory { result ≡ Err (Store Memory) →
-            HasRoomAt self.old number (length back.now) }
-    {
-        if number >= self.all.as_slice().len() {
-            return Err(WorldRefusal::NoSite);
-        }
-        self.all[number].revert(gone, back)
-    }
-
-    fn save(&mut self, number: usize) -> Result<(), WorldRefusal>
-        ensures happens { Happens result self.old self.new
-            (changed self.old number (λ s. Ok (saved_site s))) }
-        ensures memory { result ≡ Err (Store Memory) → number < length self.old.sites }
-    {
-        if number >= self.all.as_slice().len() {
-            return Err(WorldRefusal::NoSite);
-        }
-        self.all[number].save()
-    }
-
-    fn save_one(&mut self, number: usize, place: usize) -> Result<(), WorldRefusal>
-        ensures happens { Happens result self.old self.new
-            (changed self.old number (saved_one self.old.limit place)) }
-        ensures memory { result ≡ Err (Store Memory) → number < length self.old.sites }
-    {
-        if number >= self.all.as_slice().len() {
-            return Err(WorldRefusal::NoSite);
-        }
-        self.all[number].save_one(place)
-    }
-
-    fn restart(&mut self, number: usize) -> Result<(), WorldRefusal>
-        ensures happens { Happens result self.old self.new
-            (changed self.old number (λ s. Ok (restarted s))) }
-        ensures memory { result ≡ Err (Store Memory) → number < length self.old.sites }
-    {
-        if number >= self.all.as_slice().len() {
-            return Err(WorldRefusal::NoSite);
-        }
-        self.all[number].restart(self.alloc)
+        self.all[number].step(self.alloc, event)
     }
 
     fn take(&mut self, number: usize, op: Op) -> Result<(), WorldRefusal>
@@ -189,10 +134,10 @@ impl<S: TextStore> Sites<S> {
         ensures memory { result ≡ Err (Store Memory) → MayWantMemory self.old event.now }
     {
         match event {
-            Event::Edit { site, lo, hi, put } => self.edit(*site, *lo, *hi, put),
-            Event::Revert { site, gone, back } => self.revert(*site, gone, back),
-            Event::Save { site } => self.save(*site),
-            Event::SaveOne { site, place } => self.save_one(*site, *place),
+            Event::Edit { site, .. } => self.alone(*site, event),
+            Event::Revert { site, .. } => self.alone(*site, event),
+            Event::Save { site } => self.alone(*site, event),
+            Event::SaveOne { site, .. } => self.alone(*site, event),
             Event::Deliver {
                 taker,
                 giver,
@@ -204,7 +149,7 @@ impl<S: TextStore> Sites<S> {
                 lo,
                 hi,
             } => self.deliver_list(*taker, *giver, *lo, *hi),
-            Event::Restart { site } => self.restart(*site),
+            Event::Restart { site } => self.alone(*site, event),
         }
     }
 }

@@ -1,5 +1,5 @@
 use Rattle.std.proofs.Common.{rules, ◌≡◌, Option, Result, Err, sym, subst, ◌∙◌}
-use Rattle.rga_digest.specs.Summary.{Summary}
+use Rattle.rga_brief.specs.Summary.{Summary}
 use Rattle.mg_sync.specs.Asking.{Asks, Waits}
 use Rattle.mg_sync.specs.declared.fault.ExchangeFault.{ExchangeFault}
 use Rattle.mg_sync.specs.declared.fault.ExchangeFault.TheVariants.{Send}

@@ -1,4 +1,4 @@
-use Rattle.rga_brief.proofs.SummaryLaws.{comes_back}
+use Rattle.rga_brief.proofs.OneSummary.{comes_back}
 use Rattle.rga_brief.proofs.laws.a_summary_comes_back_from_its_claims.Goals as goal
 
 pub returns : goal.returns

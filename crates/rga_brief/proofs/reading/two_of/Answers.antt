@@ -1,5 +1,5 @@
 use Rattle.std.proofs.Common.{sym, arith}
-use Rattle.rga_brief.proofs.ClaimLaws.{too_few, too_many}
+use Rattle.rga_brief.proofs.TellingLaws.{too_few, too_many}
 use Rattle.rga_brief.proofs.reading.two_of.Goals as goal
 
 pub returns-in_default : goal.returns-in_default

@@ -1,5 +1,5 @@
 use Rattle.std.proofs.Common.{◌∙◌}
-use Rattle.rga_brief.proofs.SentLaws.{missing_received}
+use Rattle.rga_brief.proofs.MissingLaws.{missing_received}
 use Rattle.rga_brief.proofs.telling.send_missing.Goals as goal
 
 pub returns-clause-received : goal.returns-clause-received

@@ -5,8 +5,7 @@ use Rattle.serde_json.specs.Data.{Data, depth}
 use Rattle.serde_json.specs.Read.{max_depth}
 use Rattle.rga_brief.specs.Claims.{claim_of}
 use Rattle.serde_json.specs.Written.{has_float, compact_text}
-use Rattle.rga_brief.proofs.ClaimLineLaws.{no_float, line_of, one_line}
-use Rattle.rga_brief.proofs.ClaimLaws.{claim_back, not_deep}
+use Rattle.rga_brief.proofs.TellingLaws.{no_float, line_of, one_line, claim_back, not_deep}
 use Rattle.rga_brief.proofs.writing.write_claim.Goals as goal
 
 pub returns-clause-ok : goal.returns-clause-ok

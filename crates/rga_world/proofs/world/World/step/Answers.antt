@@ -1,7 +1,7 @@
 use Rattle.std.proofs.Common.{subst}
 use Rattle.rga_world.specs.Sites.{World}
 use Rattle.rga_world.specs.Outcomes.{MayWantMemory}
-use Rattle.rga_world.proofs.CallLaws.{step_reached, step_conflict}
+use Rattle.rga_world.proofs.SiteSteps.{step_reached, step_conflict}
 use Rattle.rga_world.proofs.world.World.step.Goals as goal
 
 pub invariant_of-self : goal.invariant_of-self

@@ -1,0 +1,10 @@
+use Rattle.std.proofs.Common.{[], ◌∙◌}
+use Rattle.rga_ops.specs.Operations.{insertions, deletions}
+use Rattle.rga_brief.specs.Hearing.{hears_on}
+use Rattle.rga_brief.proofs.summary.summary_of.Goals as goal
+
+pub returns-clause-ok : goal.returns-clause-ok
+returns-clause-ok g c =
+    let content = g.S.Taker.content c.args.store.now in
+    let told = hears_on c.new-told.result c.tell_insertions.new.listener c.tell_deletions.new.listener (insertions content) (deletions content) c.in_ok-tell_insertions.ensures.ok c.in_ok-tell_deletions.ensures.ok in
+    record { in_order = c.in_ok-digests.ensures.ordered; digests = λ b. c.in_ok-digests.ensures.ok b ∙ told [] c.new-told.ensures b }

@@ -1,0 +1,16 @@
+use Rattle.std.proofs.Common.{cond, sym, ap, ◌∙◌}
+use Rattle.std.specs.Prelude.{Option, Some}
+use Rattle.rga_ops.specs.Operation.{id_of}
+use Rattle.rga_ops.specs.declared.op.Op.{Op}
+use Rattle.rga_brief.specs.declared.digests.Digests.{Digests}
+use Rattle.rga_brief.specs.Digest.{block_of, is_block, with_operation}
+use Rattle.rga_brief.specs.Hearing.{digests_told}
+use Rattle.rga_brief.proofs.MissingLaws.{operation_mixed}
+use Rattle.rga_brief.proofs.told_digests.ToldDigestsListener.hear.Goals as goal
+
+pub returns-clause-ok : goal.returns-clause-ok
+returns-clause-ok c = λ told has b.
+    let op : Op = c.args.op.now in
+    c.in_ok-add_operation.ensures.ok b
+    ∙ ap (λ (before : Option Digests). cond (is_block (block_of (id_of op)) b) (Some (with_operation before op)) before) ((λ k. digests_told (c.self.view_is k) b) ∙ has b)
+    ∙ sym (operation_mixed b told op)

@@ -1,3 +1,0 @@
-pub mod DigestLaws
-pub mod SentLaws
-pub mod OneSummary

@@ -1,5 +1,0 @@
-use Rattle.rga_digest.proofs.SentLaws.{missing_taken, missing_suffices, both_end_alike}
-use Rattle.rga_digest.proofs.laws.what_is_missing_is_enough.Goals as goal
-
-pub returns : goal.returns
-returns c = record { taken = missing_taken; joined = missing_suffices; one_content = both_end_alike }
