@@ -18,10 +18,9 @@ pub use Rattle.rga_doc.specs.Document.{Document}
 pub use Rattle.rga_doc.specs.UndoGroup.{deleted_elements, element_characters, inserted_elements}
 pub use Rattle.rga_doc.specs.Revert.{StandsDirectlyBehind, are_restorable, distinct_elements, restorations, revert_answer, revert_operations}
 pub use Rattle.rga_doc.specs.LocalEdit.{edit_answer, splices_answer, splices_operations}
-pub use Rattle.mg_slots.specs.Slots.{with_element, with_elements}
 pub use Rattle.rga_ops.proofs.MemberLaws.{all_append, all_map, all_members}
 pub use Rattle.mg_buffer.specs.Groups.{Past, all_substituted, are_revertible, group_to_undo, instead, last_group, past_at, past_of, point_after, stand_in, substituted, with_group}
-pub use Rattle.mg_buffer.specs.Slots.{IsFilled, PastList, Slotted, any_repeats, deleted_at_slot, deleted_ones, element_at_slot, greatest_counter, past_by, pasts_by, repeats, with_past}
+pub use Rattle.mg_buffer.specs.Restored.{AreApart, AreFirst, AreNewerThan, AreRising, IsFirst, PastList, Restored, Restores, deleted_ones, greatest_counter, latest, newest_restored, old_ones, restored_by}
 pub use Rattle.mg_buffer.specs.State.{State}
 pub use Rattle.mg_buffer.specs.Kept.{IsAtHand, IsKeptBuffer, IsLineOfPlace, stands}
 pub use Rattle.mg_buffer.specs.Sight.{CommandCall, Notes, command_call, effect_of_call, place_of, situation_of}

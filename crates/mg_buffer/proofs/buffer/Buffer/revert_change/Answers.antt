@@ -1,7 +1,7 @@
-use Rattle.mg_buffer.proofs.Prelude.{rules, ◌≡◌, ◌+◌, ℕ, Some, slice_get, Identifier, true, sym, subst, Ok, identifier, clock_of, join, content_of, order, text, Document, are_restorable, revert_operations, revert_answer, StandsDirectlyBehind, Past}
+use Rattle.mg_buffer.proofs.Prelude.{rules, ◌≡◌, ◌≤◌, ◌+◌, arith, newest_restored, ℕ, Some, slice_get, Identifier, true, sym, subst, Ok, identifier, clock_of, join, content_of, order, text, Document, are_restorable, revert_operations, revert_answer, StandsDirectlyBehind, Past}
 use Rattle.rga_doc.proofs.PutBackLaws.{revert_behind}
 use Rattle.mg_buffer.proofs.GroupLaws.{past_restorable, reverted_revertible, point_stands, mark_stands_still}
-use Rattle.mg_buffer.proofs.StandInLaws.{others_old}
+use Rattle.mg_buffer.proofs.OldLaws.{clock_goes_on}
 use Rattle.mg_buffer.proofs.buffer.Buffer.revert_change.Given.{Over}
 use Rattle.mg_buffer.proofs.buffer.Buffer.revert_change.Goals.{In_ok-front}
 use Rattle.mg_buffer.proofs.buffer.Buffer.revert_change.Goals as goal
@@ -25,6 +25,9 @@ module _ (g : Over) (c : In_ok-front g) where
 pub take_reverted-requires-clause-able : goal.take_reverted-requires-clause-able
 take_reverted-requires-clause-able g c = let all = past_restorable c.self.inside.doc.content c.self.inside.history.pasts c.args.index c.self.invariant.revertible in search rules
 
+pub take_reverted-requires-clause-at : goal.take_reverted-requires-clause-at
+take_reverted-requires-clause-at g c = (c.args.index, search rules)
+
 pub invariant_of-self-2 : goal.invariant_of-self-2
 invariant_of-self-2 g c =
     let doc : Document = c.self.inside.doc in
@@ -33,7 +36,8 @@ invariant_of-self-2 g c =
     let point = point_stands doc.limit doc.replica doc.content undone.inserted undone.deleted (allowed g b) c.self.inside.point.element c.self.invariant.point_stands in
     let mark = mark_stands_still doc.content (content_of (revert_operations doc.replica doc.content undone.inserted undone.deleted)) c.self.inside.mark c.self.invariant.mark_stands in
     let line = c.kept_in-self-inside.ensures (text doc.content) (text c.take_reverted.new.doc.content) c.in_ok-front.ensures.front in
-    let old = others_old doc.replica doc.content c.self.inside.history.slots.elements undone c.self.invariant.old (able g b) in
+    let ops = revert_operations doc.replica doc.content undone.inserted undone.deleted in
+    let old : newest_restored c.take_reverted.new.history ≤ clock_of (join doc.content (content_of ops)) = omega (arith, c.in_ok-front.ensures.taken.2, clock_goes_on doc.content (content_of ops)) in
     let revertible = reverted_revertible doc.limit doc.replica doc.content undone.inserted undone.deleted (allowed g b) c.self.inside.history.pasts c.self.invariant.revertible in
     search rules
 
