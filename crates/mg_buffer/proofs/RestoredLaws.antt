@@ -1,10 +1,11 @@
 -- What stands for elements after all that was restored, and what an undo adds to that.
-use Rattle.mg_buffer.proofs.Prelude.{◌≡◌, ℕ, zero, suc, ◌+◌, ◌<◌, ◌≤◌, true, false, cond, is_some, List, [], ◌∷◌, ◌++◌, map, length, get_or, filter, refl, sym, ap, ◌∙◌, subst, arith, append-nil, Option, Some, None, same_Some, if◌then◌else◌, or_parts, map-id, all_map, all_append, list_any, AllByRecursion, Identifier, is_id, Content, clock_of, is_visible, Op, Insert, Delete, are_restorable, distinct_elements, restorations, revert_operations, inserted_elements, Past, past_at, stand_in, substituted, all_substituted, AreApart, AreFirst, AreNewerThan, AreRising, PastList, Restored, Restores, deleted_ones, greatest_counter, latest, newest_restored, old_ones, restored_by}
+use Rattle.mg_buffer.proofs.Prelude.{◌≡◌, ℕ, zero, suc, ◌+◌, ◌<◌, ◌≤◌, true, false, cond, is_some, List, [], ◌∷◌, ◌++◌, map, length, get_or, filter, refl, sym, ap, ◌∙◌, subst, arith, true≢false, append-nil, Option, Some, None, same_Some, if◌then◌else◌, or_parts, map-id, all_map, all_append, list_any, AllByRecursion, Identifier, is_id, Content, clock_of, is_visible, Op, Insert, Delete, are_restorable, distinct_elements, restorations, revert_operations, inserted_elements, Past, past_at, stand_in, substituted, all_substituted, AreApart, AreFirst, AreNewerThan, AreRising, IsShortened, PastList, Restored, Restores, deleted_ones, greatest_counter, latest, newest_restored, old_ones, restored_by}
 use Rattle.std.specs.Map.{lookup}
+use Rattle.indexmap.specs.IndexMap.{insert_entry}
 use Rattle.std.proofs.lemmas.Option.{none-some}
 use Rattle.rga_ops.proofs.IdentifierLaws.{is_id-is}
 use Rattle.rga_doc.proofs.RevertSets.{id_swap}
-use Rattle.rga_doc.proofs.UndoLists.{AreNewer, newer_still}
+use Rattle.rga_doc.proofs.UndoLists.{AreNewer, newer_still as still_newer}
 use Rattle.mg_buffer.proofs.OldLaws.{either, map-map, same_map}
 use Rattle.mg_buffer.proofs.RestorableLaws.{Back, inserted_by_revert, newer_apart, restorable_apart, restorable_old}
 
@@ -80,6 +81,49 @@ pub past_not_restored : (rs : Restored) (groups : List Past) (i : ℕ) → AreRi
 past_not_restored rs [] i rising = tt
 past_not_restored rs (g ∷ groups) zero rising = deleted_not_restored rs g.deleted rising
 past_not_restored rs (g ∷ groups) (suc i) rising = past_not_restored rs groups i rising
+
+-- ---- what is found in fewer steps
+
+latest_newer : (n : ℕ) (rs : Restored) (id : Identifier) → AreNewerThan n rs → n < id.counter → n < (latest rs id).counter
+latest_newer n [] id newer low = low
+latest_newer n (r ∷ rs) id newer low = latest_newer n rs (if is_id r.0 id then r.1 else id) newer.1 (either (λ (x : Identifier). n < x.counter) (is_id r.0 id) r.1 id newer.0 low)
+
+newer_still : (n : ℕ) (rs : Restored) (id x : Identifier) → AreNewerThan n rs → n < x.counter → AreNewerThan n (insert_entry is_id rs id x)
+newer_still n [] id x newer low = (low, tt)
+newer_still n (r ∷ rs) id x newer low = elim (is_id id r.0) as (λ b. AreNewerThan n (if b then (r.0, x) ∷ rs else r ∷ insert_entry is_id rs id x)) [
+  | true ↦ (low, newer.1)
+  | false ↦ (newer.0, newer_still n rs id x newer.1 low)
+]
+
+-- an element is noted with what stands for it in the end
+pub shortened : (rs : Restored) (id last : Identifier) → AreRising rs → is_some (lookup (is_id id) rs) ≡ true → last ≡ latest rs id → IsShortened rs (insert_entry is_id rs id last)
+shortened [] id last rising there is = absurd (true≢false (sym there))
+shortened (r ∷ rs) id last rising there is = elim (is_id id r.0) as (λ b. is_id id r.0 ≡ b → is_some (cond b (Some r.1) (lookup (is_id id) rs)) ≡ true → IsShortened (r ∷ rs) (if b then (r.0, last) ∷ rs else r ∷ insert_entry is_id rs id last)) [
+  | true ↦ λ same _.
+      let final : last ≡ latest rs r.1 = is ∙ ap (λ b. latest rs (if b then r.1 else id)) (id_swap r.0 id ∙ same) in
+      let again : latest rs last ≡ latest rs r.1 = ap (latest rs) final ∙ latest_none rs (latest rs r.1) (latest_not_restored rs r.1 rising.1) in
+      let newer = subst (λ (x : Identifier). r.0.counter < x.counter) (sym final) (latest_newer r.0.counter rs r.1 rising.0.1 rising.0.0) in
+      record {
+        rising = ((newer, rising.0.1), rising.1);
+        same = λ k x. elim (is_id r.0 x) as (λ b. latest rs (if b then last else x) ≡ latest rs (if b then r.1 else x)) [ true ↦ again | false ↦ refl ] k;
+        ones = refl;
+      }
+  | false ↦ λ other rest.
+      let final : last ≡ latest rs id = is ∙ ap (λ b. latest rs (if b then r.1 else id)) (id_swap r.0 id ∙ other) in
+      let s = shortened rs id last rising.1 rest final in
+      let newer = subst (λ (x : Identifier). r.0.counter < x.counter) (sym final) (newer_found r.0.counter rs id rising.1 rising.0.1 rest) in
+      record {
+        rising = ((rising.0.0, newer_still r.0.counter rs id last rising.0.1 newer), s.rising);
+        same = λ k x. s.same k (if is_id r.0 x then r.1 else x);
+        ones = ap (λ ids. r.0 ∷ ids) s.ones;
+      }
+] refl there
+  where
+    newer_found : (n : ℕ) (rs : Restored) (id : Identifier) → AreRising rs → AreNewerThan n rs → is_some (lookup (is_id id) rs) ≡ true → n < (latest rs id).counter
+    newer_found n rs id rising newer there = elim (lookup (is_id id) rs) as (λ o. lookup (is_id id) rs ≡ o → is_some o ≡ true → n < (latest rs id).counter) [
+      | Some x ↦ λ found _. subst (λ (y : Identifier). n < y.counter) (latest_next rs id x rising found) (latest_newer n rs x newer (found_all (λ y. n < y.counter) rs id x newer found))
+      | None ↦ λ _ clash. absurd (true≢false (sym clash))
+    ] refl there
 
 -- ---- elements that stand for themselves
 
@@ -188,7 +232,7 @@ module _ (replica : ℕ) (c : Content) (undone : Past) (able : are_restorable c 
     where
       each : (back : Back) (last : ℕ) → AreNewer last (inserted_elements (restorations replica last back))
       each [] last = tt
-      each (b ∷ back) last = (omega arith, newer_still last (last + 1) (inserted_elements (restorations replica (last + 1) back)) (omega arith) (each back (last + 1)))
+      each (b ∷ back) last = (omega arith, still_newer last (last + 1) (inserted_elements (restorations replica (last + 1) back)) (omega arith) (each back (last + 1)))
 
   pub restores : (h : PastList) (i : ℕ) → undone ≡ past_at h.pasts i → newest_restored h ≤ clock_of c → Restores h ops
   restores h i is known = record {

@@ -53,6 +53,12 @@ abbrev pub AreRising : Restored → Type 0
 AreRising [] = Unit {0}
 AreRising (r ∷ rs) = AreNewerThan r.0.counter (r ∷ rs) × AreRising rs
 
+-- the same stands for each element, found in fewer steps
+pub record IsShortened (old new : Restored) : Type 0 where
+  pub rising : AreRising new
+  pub same : latest new ≡ latest old
+  pub ones : old_ones new ≡ old_ones old
+
 -- an operation restores nothing that was restored already
 abbrev pub IsFirst : Restored → Op → Type 0
 IsFirst rs (Insert id parent ch) = lookup (is_id parent) rs ≡ None

@@ -6,7 +6,7 @@ ghost use Rattle.mg_buffer.specs.Groups.{all_substituted, past_at, stand_in, sub
 ghost use Rattle.mg_buffer.specs.Restored.{Restores, latest, newest_restored, restored_by};
 
 use crate::change::Change;
-use crate::restored::{follow_change, follow_groups, is_any_restored, restore_all};
+use crate::restored::{follow_change, follow_groups, is_any_restored, restore_all, shorten_all};
 use indexmap::IndexMap;
 use rga_ops::{Id, Op, Refusal};
 use std::alloc::Global;
@@ -58,12 +58,16 @@ impl History {
         self.groups.as_slice().len()
     }
 
-    /// What the group at an index did, by what stands for its elements now. `Memory` alone.
-    pub(crate) fn change_at(&self, alloc: Global, index: usize) -> Result<Change, Refusal>
-        requires { index < length self.now.pasts }
-        ensures ok { IfOk result (λ change. change ≡ past_at self.now.pasts index) }
+    /// What the group at an index did, by what stands for its elements now. What it deleted is found
+    /// at once from then on. `Memory` alone; groups stay.
+    pub(crate) fn change_at(&mut self, alloc: Global, index: usize) -> Result<Change, Refusal>
+        requires { index < length self.old.pasts }
+        ensures ok { IfOk result (λ change. change ≡ past_at self.old.pasts index) }
+        ensures pasts { self.new.pasts ≡ self.old.pasts }
+        ensures newest { newest_restored self.new ≡ newest_restored self.old }
         ensures memory { IfErr result (λ e. e ≡ Refusal.Memory) }
     {
+        shorten_all(&mut self.restored, &self.groups[index].deleted);
         follow_change(alloc, &self.restored, &self.groups[index])
     }
 

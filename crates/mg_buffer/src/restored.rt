@@ -5,7 +5,7 @@ ghost use Rattle.indexmap.specs.IndexMap.{get, spare};
 ghost use Rattle.rga_ops.specs.Identifier.{is_id};
 ghost use Rattle.rga_doc.specs.UndoGroup.{inserted_elements};
 ghost use Rattle.mg_buffer.specs.Groups.{all_substituted, substituted};
-ghost use Rattle.mg_buffer.specs.Restored.{AreFirst, AreRising, IsFirst, latest, restored_by};
+ghost use Rattle.mg_buffer.specs.Restored.{AreFirst, AreRising, IsFirst, IsShortened, latest, restored_by};
 
 use crate::change::Change;
 use indexmap::IndexMap;
@@ -24,7 +24,31 @@ fn follow(restored: &IndexMap<Id, Id>, id: Id) -> Id
     last
 }
 
-/// The same for each element. `Memory` alone.
+/// Notes what stands for each element in the end, so that it is found at once. Takes no memory.
+pub(crate) fn shorten_all(restored: &mut IndexMap<Id, Id>, deleted: &[(Id, char)])
+    requires { AreRising restored.old.entries }
+    ensures { IsShortened restored.old.entries restored.new.entries }
+{
+    for (id, _) in deleted {
+        shorten(restored, *id);
+    }
+}
+
+/// The same for one element.
+fn shorten(restored: &mut IndexMap<Id, Id>, id: Id)
+    requires { AreRising restored.old.entries }
+    ensures { IsShortened restored.old.entries restored.new.entries }
+{
+    if !restored.contains_key(&id) {
+        return;
+    }
+    let last = follow(restored, id);
+    if restored.insert(id, last).is_err() {
+        unreachable!();
+    }
+}
+
+/// What stands for each element in the end. `Memory` alone.
 fn follow_all(alloc: Global, restored: &IndexMap<Id, Id>, ids: &[Id]) -> Result<Vec<Id>, Refusal>
     requires { AreRising restored.now.entries }
     ensures ok { IfOk result (λ last. last.items ≡ map (latest restored.now.entries) ids.now) }
