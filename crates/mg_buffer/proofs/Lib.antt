@@ -5,7 +5,6 @@ pub mod RestorableLaws
 pub mod RestoredLaws
 pub mod GroupLaws
 pub mod OldLaws
-pub mod HistoryLaws
 pub mod TakingLaws
 pub mod ElementLaws
 pub mod KeptLaws

@@ -29,10 +29,6 @@ greatest_replacement old new n (id ∷ ids) low below =
 
 -- ---- maps
 
-pub same_map : {A B : Type 0} (f g : A → B) (P : A → Type 0) → ((x : A) → P x → f x ≡ g x) → (xs : List A) → AllByRecursion P xs → map f xs ≡ map g xs
-same_map f g P h [] all = refl
-same_map f g P h (x ∷ xs) all = λ k. h x all.0 k ∷ same_map f g P h xs all.1 k
-
 pub map-map : {A B C : Type 0} (f : B → C) (g : A → B) (xs : List A) → map f (map g xs) ≡ map (λ x. f (g x)) xs
 map-map f g [] = refl
 map-map f g (x ∷ xs) = λ k. f (g x) ∷ map-map f g xs k

@@ -6,7 +6,7 @@ use Rattle.std.proofs.lemmas.Option.{none-some}
 use Rattle.rga_ops.proofs.IdentifierLaws.{is_id-is}
 use Rattle.rga_doc.proofs.RevertSets.{id_swap}
 use Rattle.rga_doc.proofs.UndoLists.{AreNewer, newer_still as still_newer}
-use Rattle.mg_buffer.proofs.OldLaws.{either, map-map, same_map}
+use Rattle.mg_buffer.proofs.OldLaws.{either, map-map}
 use Rattle.mg_buffer.proofs.RestorableLaws.{Back, inserted_by_revert, newer_apart, restorable_apart, restorable_old}
 
 older_apart : (old new : Identifier) → old.counter < new.counter → is_id old new ≡ false
@@ -128,11 +128,12 @@ shortened (r ∷ rs) id last rising there is = elim (is_id id r.0) as (λ b. is_
 -- ---- elements that stand for themselves
 
 pub newer_settled : (rs : Restored) (ids : List Identifier) → AreNewer (greatest_counter (old_ones rs)) ids → map (latest rs) ids ≡ ids
-newer_settled rs ids newer = same_map (latest rs) (λ id. id) (λ (id : Identifier). greatest_counter (old_ones rs) < id.counter) (λ id h. alone rs id h) ids newer ∙ map-id ids
+newer_settled rs [] newer = refl
+newer_settled rs (id ∷ ids) newer = λ k. alone rs newer.0 k ∷ newer_settled rs ids newer.1 k
   where
-    alone : (rs : Restored) (id : Identifier) → greatest_counter (old_ones rs) < id.counter → latest rs id ≡ id
-    alone [] id h = refl
-    alone (r ∷ rs) id h = ap (λ b. latest rs (if b then r.1 else id)) (older_apart r.0 id (omega (arith, h))) ∙ alone rs id (omega (arith, h))
+    alone : (rs : Restored) → greatest_counter (old_ones rs) < id.counter → latest rs id ≡ id
+    alone [] h = refl
+    alone (r ∷ rs) h = ap (λ b. latest rs (if b then r.1 else id)) (older_apart r.0 id (omega (arith, h))) ∙ alone rs (omega (arith, h))
 
 pub others_settled : (rs : Restored) (deleted : Back) → list_any (λ (b : Identifier × ℕ). is_some (lookup (is_id b.0) rs)) deleted ≡ false → map (λ (b : Identifier × ℕ). (latest rs b.0, b.1)) deleted ≡ deleted
 others_settled rs [] none = refl

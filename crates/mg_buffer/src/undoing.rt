@@ -50,7 +50,9 @@ impl<S: TextStore> Buffer<S> {
         let Some(index) = self.index_to_undo() else {
             return Err(BufferFault::Notice(Notice::NothingToUndo));
         };
-        self.revert(index)?;
+        let undone = self.history.change_at(self.alloc, index)?;
+        let line = self.line_before(&undone.inserted);
+        self.revert(index, &undone, line)?;
         memo.kind = Kind::Plain;
         Ok(())
     }
@@ -70,33 +72,17 @@ impl<S: TextStore> Buffer<S> {
         Some(count - 1)
     }
 
-    /// Reverts a group. `Full`, `Clock` and `Memory`, as the document has them.
-    fn revert(&mut self, index: usize) -> Result<(), Refusal>
-        requires { index < length self.old.groups }
+    /// Reverts a group, by what it did and a line that is known. `Full`, `Clock` and `Memory`, as the
+    /// document has them.
+    #[tactic(auto, using(crate::proofs::KeptLaws::kept_still))]
+    fn revert(&mut self, index: usize, undone: &Change, line: KnownLine) -> Result<(), Refusal>
+        requires within { index < length self.old.groups }
+        requires at { undone.now ≡ past_at self.old.groups index }
+        requires line { IsLineOfPlace (text self.old.content) line }
         ensures exact { IsAnswer result
             (growth_answer self.old (length (past_at self.old.groups index).deleted)) }
         ensures reverted { OnOk result
             (Reverted index (past_at self.old.groups index) self.old self.new) }
-        ensures same { OnErr result (self.new ≡ self.old) }
-    {
-        let undone = self.history.change_at(self.alloc, index)?;
-        let line = self.line_before(&undone.inserted);
-        self.revert_change(index, &undone, line)
-    }
-
-    /// The same by what the group did, and a line that is known.
-    #[tactic(auto, using(crate::proofs::KeptLaws::kept_still))]
-    fn revert_change(
-        &mut self,
-        index: usize,
-        undone: &Change,
-        line: KnownLine,
-    ) -> Result<(), Refusal>
-        requires within { index < length self.old.groups }
-        requires at { undone.now ≡ past_at self.old.groups index }
-        requires line { IsLineOfPlace (text self.old.content) line }
-        ensures exact { IsAnswer result (growth_answer self.old (length undone.now.deleted)) }
-        ensures reverted { OnOk result (Reverted index undone.now self.old self.new) }
         ensures same { OnErr result (self.new ≡ self.old) }
     {
         let (front, point) = take_reverted(

@@ -1,5 +1,5 @@
 use Rattle.mg_buffer.proofs.Prelude.{rules, ◌≡◌, length, ap, ◌∙◌, unwrap_or, last_group}
-use Rattle.mg_buffer.proofs.HistoryLaws.{last_group_at}
+use Rattle.mg_buffer.proofs.GroupLaws.{last_group_at}
 use Rattle.mg_buffer.proofs.buffer.Buffer.index_to_undo.Goals as goal
 
 pub returns-clause-due : goal.returns-clause-due

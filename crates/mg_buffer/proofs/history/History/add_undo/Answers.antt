@@ -1,5 +1,5 @@
 use Rattle.mg_buffer.proofs.Prelude.{sym, subst, ap, ◌∙◌, arith, PastList, AreRising, all_substituted, deleted_ones, latest, newest_restored, past_at, restored_by, stand_in, substituted, with_group}
-use Rattle.mg_buffer.proofs.HistoryLaws.{map-with_group}
+use Rattle.mg_buffer.proofs.GroupLaws.{map-with_group}
 use Rattle.mg_buffer.proofs.RestoredLaws.{AreNotRestored, none_again, past_not_restored, restored_more, rising_on}
 use Rattle.mg_buffer.proofs.history.History.add_undo.Goals as goal
 

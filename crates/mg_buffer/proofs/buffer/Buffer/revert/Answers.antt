@@ -2,9 +2,9 @@ use Rattle.mg_buffer.proofs.Prelude.{rules, ◌≡◌, ◌≤◌, ◌+◌, arith
 use Rattle.rga_doc.proofs.PutBackLaws.{revert_behind}
 use Rattle.mg_buffer.proofs.GroupLaws.{past_restorable, reverted_revertible, point_stands, mark_stands_still}
 use Rattle.mg_buffer.proofs.OldLaws.{clock_goes_on}
-use Rattle.mg_buffer.proofs.buffer.Buffer.revert_change.Given.{Over}
-use Rattle.mg_buffer.proofs.buffer.Buffer.revert_change.Goals.{In_ok-front}
-use Rattle.mg_buffer.proofs.buffer.Buffer.revert_change.Goals as goal
+use Rattle.mg_buffer.proofs.buffer.Buffer.revert.Given.{Over}
+use Rattle.mg_buffer.proofs.buffer.Buffer.revert.Goals.{In_ok-front}
+use Rattle.mg_buffer.proofs.buffer.Buffer.revert.Goals as goal
 
 module _ (g : Over) (c : In_ok-front g) where
   abbrev doc : Document
