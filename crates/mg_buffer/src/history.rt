@@ -95,6 +95,7 @@ impl History {
 
     /// Where elements to be deleted were restored already, each group gets what stands for its
     /// elements, so that nothing stands for those. `Memory` alone; groups stay.
+    #[tactic(auto, using(crate::proofs::RestoredLaws::none_restored))]
     fn settle(&mut self, alloc: Global, deleted: &[(Id, char)]) -> Result<(), Refusal>
         ensures settled { OnOk result
             (map (λ b. (latest self.new.restored b.0, b.1)) deleted.now ≡ deleted.now) }

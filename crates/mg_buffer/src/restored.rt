@@ -142,19 +142,11 @@ fn restore(restored: &mut IndexMap<Id, Id>, op: &Op)
         ≤ spare restored.new + length (inserted_elements (op.now ∷ [])) }
 {
     match op {
-        Op::Insert { id, parent, .. } => put_in(restored, *parent, *id),
+        Op::Insert { id, parent, .. } => {
+            if restored.insert(*parent, *id).is_err() {
+                unreachable!();
+            }
+        }
         Op::Delete { .. } => {}
-    }
-}
-
-/// Notes what restores an element that was not restored before. There is room.
-fn put_in(restored: &mut IndexMap<Id, Id>, old: Id, new: Id)
-    requires first { get is_id restored.old old ≡ None }
-    requires room { 0 < spare restored.old }
-    ensures entries { restored.new.entries ≡ restored.old.entries ++ (old, new) ∷ [] }
-    ensures room { spare restored.old ≤ spare restored.new + 1 }
-{
-    if restored.insert(old, new).is_err() {
-        unreachable!();
     }
 }

@@ -58,6 +58,7 @@ impl<S: TextStore> Buffer<S> {
     }
 
     /// The index of the group that an undo takes.
+    #[tactic(auto, using(crate::proofs::GroupLaws::last_group_at))]
     fn index_to_undo(&self) -> Option<usize>
         ensures within { IfSome result (λ i. i < length self.now.groups) }
         ensures due { IfSome result (λ i. group_to_undo self.now.groups self.now.undone

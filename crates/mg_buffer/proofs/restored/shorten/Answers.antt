@@ -1,10 +1,7 @@
-use Rattle.mg_buffer.proofs.Prelude.{rules, ◌≡◌, refl, true, is_id, is_some}
+use Rattle.mg_buffer.proofs.Prelude.{rules, ◌≡◌, true, is_id, is_some}
 use Rattle.std.specs.Map.{lookup}
 use Rattle.mg_buffer.proofs.RestoredLaws.{shortened}
 use Rattle.mg_buffer.proofs.restored.shorten.Goals as goal
-
-pub returns-then-not-contains_key : goal.returns-then-not-contains_key
-returns-then-not-contains_key c = record { rising = c.requires; same = refl; ones = refl }
 
 pub returns : goal.returns
 returns c =

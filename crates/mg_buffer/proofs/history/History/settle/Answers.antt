@@ -1,5 +1,5 @@
-use Rattle.mg_buffer.proofs.Prelude.{rules, ◌≡◌, ℕ, List, map, sym, subst, ap, ◌∙◌, map-id, Identifier, PastList, Restored, all_substituted, latest}
-use Rattle.mg_buffer.proofs.RestoredLaws.{none_restored, others_settled}
+use Rattle.mg_buffer.proofs.Prelude.{rules, ◌≡◌, ℕ, List, map, sym, subst, ap, map-id, Identifier, PastList, Restored, latest}
+use Rattle.mg_buffer.proofs.RestoredLaws.{others_settled}
 use Rattle.mg_buffer.proofs.history.History.settle.Goals as goal
 
 abbrev settled_by : List (Identifier × ℕ) → Restored → Type 0
@@ -15,8 +15,3 @@ pub returns-clause-settled : goal.returns-clause-settled
 returns-clause-settled c =
     let here : settled_by c.args.deleted.now c.clear.new.self.entries = subst (settled_by c.args.deleted.now) (sym c.clear.ensures.empty) (map-id c.args.deleted.now) in
     search rules
-
-pub returns-clause-pasts : goal.returns-clause-pasts
-returns-clause-pasts c =
-    let own = ap (λ (h : PastList). h.pasts) c.self.view_is in
-    (λ k. all_substituted (latest (c.clear.ensures.empty k)) c.in_ok-self-inside.field-0.items) ∙ none_restored c.in_ok-self-inside.field-0.items ∙ search rules
