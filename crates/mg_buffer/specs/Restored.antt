@@ -48,7 +48,7 @@ newest_restored h = greatest_counter (old_ones h.restored)
 abbrev pub AreNewerThan : ℕ → Restored → Type 0
 AreNewerThan n rs = AllByRecursion (λ (r : Identifier × Identifier). n < r.1.counter) rs
 
--- no element was restored before one that it is no older than came
+-- each has a lower counter than the one that restores it, and than each that restores another one later
 abbrev pub AreRising : Restored → Type 0
 AreRising [] = Unit {0}
 AreRising (r ∷ rs) = AreNewerThan r.0.counter (r ∷ rs) × AreRising rs

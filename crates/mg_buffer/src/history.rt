@@ -93,8 +93,9 @@ impl History {
         Ok(())
     }
 
-    /// Where elements to be deleted were restored already, each group gets what stands for its
-    /// elements, so that nothing stands for those. `Memory` alone; groups stay.
+    /// If one of these elements was restored before, each group gets what stands for its elements,
+    /// and what was restored is forgotten, so that nothing stands for that one. What is restored
+    /// stays deleted, so no command should meet this. `Memory` alone; groups stay.
     #[tactic(auto, using(crate::proofs::RestoredLaws::none_restored))]
     fn settle(&mut self, alloc: Global, deleted: &[(Id, char)]) -> Result<(), Refusal>
         ensures settled { OnOk result
