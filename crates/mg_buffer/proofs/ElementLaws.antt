@@ -1,5 +1,5 @@
 -- The characters of a text by its visible elements, and a pattern in it from a place on.
-use Rattle.mg_buffer.proofs.Prelude.{◌≡◌, ℕ, true, false, zero, suc, ◌+◌, ◌-◌, ◌<◌, ◌≤◌, List, [], ◌∷◌, Option, Some, None, length, get_or, drop, slice_get, option_map, refl, sym, ap, ◌∙◌, arith, same_Some, get_or_from_slice_get, slice_get_within, Identifier, Content, text, visible}
+use Rattle.mg_buffer.proofs.Prelude.{◌≡◌, ℕ, true, false, zero, suc, ◌+◌, ◌<◌, ◌≤◌, List, [], ◌∷◌, Option, Some, None, length, get_or, drop, slice_get, option_map, refl, sym, ap, ◌∙◌, arith, same_Some, get_or_from_slice_get, slice_get_within, Identifier, Content, text, visible}
 use Rattle.std.specs.FinMap as finite_map
 use Rattle.std.proofs.Common.{length-drop}
 use Rattle.std.proofs.lemmas.List.{get_or-drop}
@@ -8,7 +8,7 @@ use Rattle.mg_plain.specs.Matches.{alike, begins_with}
 use Rattle.mg_plain.proofs.MatchLaws.{alike_here, nothing_left, other_here}
 use Rattle.rga_ops.specs.Content.{Element, element_at}
 use Rattle.rga_ops.specs.Places.{character}
-use Rattle.rga_ops.proofs.VisibleLaws.{text_is, text_long}
+use Rattle.rga_ops.proofs.VisibleLaws.{text_is}
 
 -- ---- one character
 

@@ -1,11 +1,23 @@
 -- Groups: that each can be reverted, and that point keeps a place over an undo.
-use Rattle.mg_buffer.proofs.Prelude.{◌≡◌, ℕ, zero, suc, ◌-◌, true, ◌&&◌, is_some, length, List, slice_get, unwrap_or, [], ◌∷◌, refl, sym, ◌∙◌, true≢false, Option, Some, None, Ok, and_parts, option_map_or, list_all, Identifier, Content, join, content_of, place, is_complete, Splice, Op, splices_operations, splices_answer, revert_operations, revert_answer, are_restorable, inserted_elements, deleted_elements, element_characters, Marker, Past, past_at, past_of, with_group, are_revertible, stand_in, all_substituted, point_after, stands}
+use Rattle.mg_buffer.proofs.Prelude.{◌≡◌, ℕ, zero, suc, ◌-◌, true, ◌&&◌, is_some, length, List, slice_get, unwrap_or, [], ◌∷◌, refl, sym, ◌∙◌, true≢false, Option, Some, None, Ok, and_parts, option_map_or, list_all, Identifier, Content, join, content_of, place, is_complete, Splice, Op, splices_operations, splices_answer, revert_operations, revert_answer, are_restorable, inserted_elements, deleted_elements, element_characters, Marker, Past, past_at, past_of, with_group, are_revertible, stand_in, all_substituted, point_after, stands, ◌<◌, ◌≤◌, option_map, map, ap, arith, map-append, slice_get-get_or, last_group}
 use Rattle.std.proofs.lemmas.List.Folds.{list_all-append}
 use Rattle.rga_ops.proofs.VisibleLaws.{no_place}
 use Rattle.rga_doc.proofs.PlaceLaws.{stands_still}
 use Rattle.rga_doc.proofs.RevertedLaws.{reverted_complete, reverted_restorable}
 use Rattle.rga_doc.proofs.UndoApart.{edit_restorable}
 use Rattle.mg_buffer.proofs.RestorableLaws.{restorable_still, gone_restorable, substituted_restorable}
+
+-- ---- one is added, or taken
+
+pub map-with_group : {A B : Type 0} (f : A → B) (groups : List A) (g : A) (ops : List Op) → map f (with_group groups g ops) ≡ with_group (map f groups) (f g) ops
+map-with_group f groups g [] = refl
+map-with_group f groups g (op ∷ ops) = map-append f groups (g ∷ [])
+
+pub last_group_at : (groups : List Past) (n : ℕ) → 0 < n → n ≤ length groups → last_group groups n ≡ Some (n - 1, past_at groups (n - 1))
+last_group_at groups zero some within = absurd (omega (arith, some))
+last_group_at groups (suc i) some within =
+    let less : i ≡ suc i - 1 = omega arith in
+    ap (option_map (λ (g : Past). (i, g))) (slice_get-get_or groups i _ (omega (arith, within))) ∙ ap (λ k. Some (k, past_at groups k)) less
 
 -- ---- every group can be reverted
 

@@ -2,11 +2,9 @@ pub mod Prelude
 pub mod PlaceLaws
 pub mod LineLaws
 pub mod RestorableLaws
+pub mod RestoredLaws
 pub mod GroupLaws
-pub mod SlotLaws
-pub mod StandInLaws
 pub mod OldLaws
-pub mod HistoryLaws
 pub mod TakingLaws
 pub mod ElementLaws
 pub mod KeptLaws

@@ -1,5 +1,5 @@
 -- Every group can be reverted: its deleted elements are complete and apart, and stay so.
-use Rattle.mg_buffer.proofs.Prelude.{◌≡◌, ℕ, ◌+◌, ◌<◌, ◌≤◌, true, false, not, ◌&&◌, ◌||◌, List, [], ◌∷◌, ◌++◌, map, filter, refl, sym, ap, ◌∙◌, subst, arith, append-nil, true≢false, Ok, if◌then◌else◌, and_parts, not-true, or_parts, or_right, map-id, all_map, list_all, Identifier, identifier, is_id, is_root, Content, clock_of, join, content_of, is_complete, is_visible, Op, Delete, distinct_elements, restorations, revert_operations, revert_answer, are_restorable, inserted_elements, deleted_elements, element_characters, Past, stand_in, substituted, greatest_counter, deleted_ones}
+use Rattle.mg_buffer.proofs.Prelude.{◌≡◌, ℕ, ◌+◌, ◌<◌, ◌≤◌, true, false, not, ◌&&◌, ◌||◌, List, [], ◌∷◌, ◌++◌, map, filter, refl, sym, ap, ◌∙◌, subst, arith, append-nil, true≢false, Ok, if◌then◌else◌, and_parts, not-true, or_parts, or_right, map-id, all_map, list_all, Identifier, identifier, is_id, is_root, Content, clock_of, join, content_of, is_complete, is_visible, Op, Delete, distinct_elements, restorations, revert_operations, revert_answer, are_restorable, inserted_elements, deleted_elements, element_characters, Past, stand_in, substituted, AllByRecursion, AreApart, greatest_counter, deleted_ones}
 use Rattle.rga_ops.proofs.IdentifierLaws.{is_id-itself, is_id-same, is_id-is}
 use Rattle.rga_ops.proofs.NewestTextLaws.{root_or_complete_within}
 use Rattle.rga_doc.proofs.UndoLists.{apart_by_counter, deleted_elements-append, deleted_elements-deletions, inserted_elements-append, inserted_elements-deletions, deleted_elements-restorations}
@@ -8,8 +8,7 @@ use Rattle.rga_doc.proofs.RevertLaws.{back_complete, gone_complete}
 use Rattle.rga_doc.proofs.RevertSets.{among, id_swap}
 use Rattle.rga_doc.proofs.RevertedLaws.{restorable_if, reverted_complete}
 use Rattle.rga_doc.proofs.PlaceLaws.{complete_still}
-use Rattle.mg_buffer.proofs.OldLaws.{either, greatest_replacement, greatest_within, replacement}
-use Rattle.mg_buffer.proofs.SlotLaws.{map-map}
+use Rattle.mg_buffer.proofs.OldLaws.{either, greatest_replacement, greatest_within, map-map, replacement}
 
 abbrev pub Back : Type 0
 Back = List (Identifier × ℕ)
@@ -29,6 +28,15 @@ pub restorable_old : (c : Content) (back : Back) → are_restorable c back ≡ t
 restorable_old c back able =
     greatest_within (clock_of c) (deleted_ones back)
     (all_map (λ id. is_complete c id ≡ true) (λ (id : Identifier). id.counter ≤ clock_of c) (λ id h. root_or_complete_within c id (or_right (is_root id) (is_complete c id) h)) (deleted_ones back) (back_complete c back able))
+
+-- none stands twice
+pub restorable_apart : (c : Content) (back : Back) → are_restorable c back ≡ true → AreApart (deleted_ones back)
+restorable_apart c [] h = tt
+restorable_apart c (b ∷ back) h = let p = parts_of c b back h in (apart_from b.0 back p.apart, restorable_apart c back p.rest)
+  where
+    apart_from : (id : Identifier) (back : Back) → among id back ≡ false → AllByRecursion (λ q. is_id q id ≡ false) (deleted_ones back)
+    apart_from id [] h = tt
+    apart_from id (x ∷ back) h = let p = or_parts (is_id x.0 id) (among id back) h in (p.0, apart_from id back p.1)
 
 -- under every join
 pub restorable_still : (c x : Content) (back : Back) → are_restorable c back ≡ true → are_restorable (join c x) back ≡ true

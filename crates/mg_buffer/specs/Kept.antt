@@ -9,7 +9,7 @@ use Rattle.mg_buffer.specs.declared.line_numbers.KnownLine.{KnownLine}
 use Rattle.mg_buffer.specs.declared.marker.Marker.{Marker}
 use Rattle.mg_buffer.specs.Groups.{are_revertible}
 use Rattle.mg_buffer.specs.LineNumbers.{line_of}
-use Rattle.mg_buffer.specs.Slots.{PastList, greatest_counter}
+use Rattle.mg_buffer.specs.Restored.{PastList, newest_restored}
 
 -- the element has a place
 abbrev pub stands : Content → Marker → Bool
@@ -27,12 +27,12 @@ pub record IsAtHand (d : Document) (point : Marker) (line : KnownLine) (mark : O
   pub line_of_point : line.place ≡ point.place
   pub place_of_mark : IfSome mark (λ s. place d.content s.element ≡ Some s.place)
 
--- point and mark have places, and a line is known; no element in the slots of the groups is newer than the clock, and every
+-- point and mark have places, and a line is known; no element that was restored is newer than the clock, and every
 -- group can be reverted; and what is listed is at hand
 pub record IsKeptBuffer (d : Document) (point : Marker) (line : KnownLine) (mark : Option Marker) (h : PastList) (listed : Bool) : Type 0 where
   pub point_stands : stands d.content point ≡ true
   pub mark_stands : option_map_or (stands d.content) mark true ≡ true
   pub line_known : IsLineOfPlace (text d.content) line
-  pub old : greatest_counter h.slots.elements ≤ clock_of d.content
+  pub old : newest_restored h ≤ clock_of d.content
   pub revertible : are_revertible d.content h.pasts ≡ true
   pub at_hand : listed ≡ true → IsAtHand d point line mark

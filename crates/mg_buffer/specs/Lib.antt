@@ -1,6 +1,5 @@
 pub mod Groups
-pub mod Slots
-pub mod Room
+pub mod Restored
 pub mod State
 pub mod OpenState
 pub mod LineNumbers

@@ -11,7 +11,7 @@ ghost use Rattle.mg_buffer.specs.State.{new_state};
 use crate::characters::string_of;
 use crate::history::History;
 use crate::line_numbers::KnownLine;
-use crate::marker::{Marker, find, find_mark, mark_place};
+use crate::marker::{Marker, find, find_mark};
 use crate::memo::Memo;
 use mg_plain::{Kind, View};
 use rga_doc::Doc;
@@ -162,7 +162,7 @@ impl<S: TextStore> Buffer<S> {
         Some(View {
             text: self.doc.characters(),
             point: self.point.place,
-            mark: mark_place(self.mark),
+            mark: self.mark.map(|marker| marker.place),
             kill: &memo.kill,
             goal: memo.goal,
             last: memo.kind,

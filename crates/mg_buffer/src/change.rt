@@ -1,7 +1,5 @@
 //! What commands and undos did.
 ghost use Rattle.std.specs.Prelude.{◌≡◌, ◌≤◌, length, IfOk, IfErr};
-ghost use Rattle.std.specs.Option.{unwrap_or};
-ghost use Rattle.rga_ops.specs.Places.{character};
 ghost use Rattle.mg_buffer.specs.Groups.{past_of, point_after};
 
 use rga_ops::{Id, Op, Refusal};
@@ -39,7 +37,7 @@ impl Change {
         for op in ops {
             match op {
                 Op::Insert { id, .. } => inserted.push(*id)?,
-                Op::Delete { id } => deleted.push((*id, character_of(store, *id)))?,
+                Op::Delete { id } => deleted.push((*id, store.get(*id).map_or('\0', |p| p.1)))?,
             }
         }
         Ok(Change { inserted, deleted })
@@ -70,14 +68,4 @@ fn count_deletions(ops: &[Op]) -> usize
         }
     }
     count
-}
-
-/// The character of an element that is inserted.
-fn character_of<S: TextStore>(store: &S, id: Id) -> char
-    ensures { result ≡ unwrap_or (character (S.content store.now) id) 0 }
-{
-    match store.get(id) {
-        Some((_, ch)) => ch,
-        None => '\0',
-    }
 }

@@ -4,7 +4,7 @@ ghost use Rattle.std.specs.String.{string_bytes};
 
 use std::alloc::{AllocError, Global};
 
-/// The characters in UTF-8.
+/// The characters in UTF-8. `AllocError` alone.
 pub fn string_of(alloc: Global, characters: &[char]) -> Result<String, AllocError>
     ensures { IfOk result (λ text. string_bytes text ≡ encode_utf8_all characters.now) }
 {
@@ -13,7 +13,7 @@ pub fn string_of(alloc: Global, characters: &[char]) -> Result<String, AllocErro
     Ok(text)
 }
 
-/// Puts characters behind a text.
+/// Puts characters after a text. `AllocError` alone; the text may have some of them then.
 pub fn push_characters(text: &mut String, characters: &[char]) -> Result<(), AllocError>
     ensures { OnOk result
         (string_bytes text.new ≡ string_bytes text.old ++ encode_utf8_all characters.now) }

@@ -2,8 +2,6 @@
 //! nothing here takes memory.
 ghost use Rattle.std.specs.Prelude.{◌≡◌};
 ghost use Rattle.std.specs.List.{slice_get};
-ghost use Rattle.std.specs.Option.{option_map};
-ghost use Rattle.rga_ops.specs.Content.{element_at};
 ghost use Rattle.mg_plain.specs.Matches.{stands_at};
 ghost use Rattle.rga_ops.specs.Prelude.{place, text};
 ghost use Rattle.mg_buffer.specs.Carried.{element_before};
@@ -18,17 +16,7 @@ fn character_at<S: TextStore>(store: &S, place: usize) -> Option<char>
     ensures { result ≡ slice_get (text (S.content store.now)) place }
 {
     match store.element_at(place) {
-        Some(id) => character_of(store, id),
-        None => None,
-    }
-}
-
-/// The character of an element that is inserted.
-fn character_of<S: TextStore>(store: &S, id: Id) -> Option<char>
-    ensures { result ≡ option_map (λ p. p.1) (element_at (S.content store.now) id) }
-{
-    match store.get(id) {
-        Some((_, ch)) => Some(ch),
+        Some(id) => store.get(id).map(|p| p.1),
         None => None,
     }
 }

@@ -67,10 +67,3 @@ pub(crate) fn find_mark<S: TextStore>(doc: &Doc<S>, mark: Option<Marker>) -> Opt
         None => None,
     }
 }
-
-/// The place of a mark, as it was last looked for.
-pub(crate) fn mark_place(mark: Option<Marker>) -> Option<usize>
-    ensures { result ≡ option_map (λ s. s.place) mark }
-{
-    mark.map(|marker| marker.place)
-}

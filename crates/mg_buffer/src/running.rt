@@ -1,7 +1,7 @@
 //! Commands that run on a buffer.
 ghost use Rattle.std.specs.Prelude.{◌≡◌, ◌⊎◌, ◌≤◌, ◌++◌, true, Err, Ok, length, IfSome, IfOk, IfErr, OnOk, OnErr};
 ghost use Rattle.rga_ops.specs.Prelude.{text};
-ghost use Rattle.rga_ops.specs.Content.{join, content_of};
+ghost use Rattle.rga_ops.specs.Content.{clock_of, join, content_of};
 ghost use Rattle.rga_ops.specs.ListAnswer.{IsAnswer};
 ghost use Rattle.rga_ops.specs.Splice.{text_after};
 ghost use Rattle.rga_doc.specs.LocalEdit.{splices_answer, splices_operations};
@@ -11,7 +11,7 @@ ghost use Rattle.mg_buffer.specs.Groups.{past_of, with_group};
 ghost use Rattle.mg_buffer.specs.Kept.{IsLineOfPlace};
 ghost use Rattle.mg_buffer.specs.Ran.{Edited, Ran};
 ghost use Rattle.mg_buffer.specs.Sight.{command_call, effect_of_call};
-ghost use Rattle.mg_buffer.specs.Slots.{with_past};
+ghost use Rattle.mg_buffer.specs.Restored.{newest_restored};
 ghost use Rattle.rga_ops.specs.declared.refusal.Refusal.TheVariants.{Memory};
 ghost use Rattle.mg_buffer.specs.declared.fault.BufferFault.TheVariants.{Store};
 
@@ -133,28 +133,27 @@ fn take_splices<S: TextStore>(
     line: KnownLine,
 ) -> Result<KnownLine, Refusal>
     requires line { IsLineOfPlace (text doc.old.content) line }
+    requires old { newest_restored history.old ≤ clock_of doc.old.content }
     ensures exact { IsAnswer result (splices_answer doc.old.limit doc.old.content splices.now) }
     ensures taken { let d = doc.old in let ops = splices_operations d.replica d.content splices.now
         in OnOk result
         ((doc.new ≡ record d { content = join d.content (content_of ops); listed = true })
         × (text doc.new.content ≡ text_after (text d.content) splices.now)
         × (history.new.pasts ≡ with_group history.old.pasts (past_of d.content ops) ops)
-        × (history.new.slots.elements
-        ≡ with_past history.old.slots.elements (past_of d.content ops))
         × (unsaved.new.items ≡ unsaved.old.items ++ ops)) }
+    ensures newest { newest_restored history.new ≤ newest_restored history.old }
     ensures line { IfOk result (λ known. IsLineOfPlace (text doc.new.content) known) }
     ensures same { OnErr result ((doc.new ≡ record doc.old { listed = doc.new.listed })
         × (history.new.pasts ≡ history.old.pasts)
-        × (history.new.slots.elements ≡ history.old.slots.elements)
         × (unsaved.new.items ≡ unsaved.old.items)) }
 {
     let drafted = doc.draft(splices)?;
     let ops = drafted.as_slice();
-    let (change, room) = prepare(alloc, doc.store(), history, unsaved, ops, false)?;
+    let change = prepare(alloc, doc.store(), history, unsaved, ops, 0)?;
     let stays = least_begin(line.place, splices);
     let front = line.moved(doc.characters(), stays);
     doc.take(splices, ops)?;
-    history.add(room, &change, ops);
+    history.add(change, ops);
     add_all(unsaved, ops);
     Ok(front)
 }

@@ -1,5 +1,5 @@
 //! Undo.
-ghost use Rattle.std.specs.Prelude.{◌≡◌, ◌⊎◌, ◌<◌, ◌≤◌, ◌++◌, true, Err, Some, IsSome, length, map, take, IfSome, IfOk, OnOk, OnErr};
+ghost use Rattle.std.specs.Prelude.{◌≡◌, ◌⊎◌, ◌<◌, ◌≤◌, ℕ, ◌++◌, true, Err, Some, IsSome, length, take, IfSome, IfOk, OnOk, OnErr};
 ghost use Rattle.std.specs.Option.{option_map};
 ghost use Rattle.rga_ops.specs.Content.{clock_of, join, content_of};
 ghost use Rattle.rga_ops.specs.ListAnswer.{IsAnswer};
@@ -9,7 +9,7 @@ ghost use Rattle.mg_buffer.specs.Faults.{growth_answer, undo_answer};
 ghost use Rattle.mg_buffer.specs.Following.{TakesUnsaved};
 ghost use Rattle.mg_buffer.specs.Groups.{all_substituted, group_to_undo, past_at, past_of, point_after, stand_in, with_group};
 ghost use Rattle.mg_buffer.specs.Kept.{IsLineOfPlace};
-ghost use Rattle.mg_buffer.specs.Slots.{greatest_counter, with_deleted};
+ghost use Rattle.mg_buffer.specs.Restored.{newest_restored};
 ghost use Rattle.mg_buffer.specs.Undid.{Reverted, Undid};
 ghost use Rattle.rga_ops.specs.declared.refusal.Refusal.TheVariants.{Memory};
 ghost use Rattle.mg_buffer.specs.declared.fault.BufferFault.TheVariants.{Store};
@@ -50,12 +50,15 @@ impl<S: TextStore> Buffer<S> {
         let Some(index) = self.index_to_undo() else {
             return Err(BufferFault::Notice(Notice::NothingToUndo));
         };
-        self.revert(index)?;
+        let undone = self.history.change_at(self.alloc, index)?;
+        let line = self.line_before(&undone.inserted);
+        self.revert(index, &undone, line)?;
         memo.kind = Kind::Plain;
         Ok(())
     }
 
     /// The index of the group that an undo takes.
+    #[tactic(auto, using(crate::proofs::GroupLaws::last_group_at))]
     fn index_to_undo(&self) -> Option<usize>
         ensures within { IfSome result (λ i. i < length self.now.groups) }
         ensures due { IfSome result (λ i. group_to_undo self.now.groups self.now.undone
@@ -70,33 +73,17 @@ impl<S: TextStore> Buffer<S> {
         Some(count - 1)
     }
 
-    /// Reverts a group. `Full`, `Clock` and `Memory`, as the document has them.
-    fn revert(&mut self, index: usize) -> Result<(), Refusal>
-        requires { index < length self.old.groups }
+    /// Reverts a group, by what it did and a line that is known. `Full`, `Clock` and `Memory`, as the
+    /// document has them.
+    #[tactic(auto, using(crate::proofs::KeptLaws::kept_still))]
+    fn revert(&mut self, index: usize, undone: &Change, line: KnownLine) -> Result<(), Refusal>
+        requires within { index < length self.old.groups }
+        requires at { undone.now ≡ past_at self.old.groups index }
+        requires line { IsLineOfPlace (text self.old.content) line }
         ensures exact { IsAnswer result
             (growth_answer self.old (length (past_at self.old.groups index).deleted)) }
         ensures reverted { OnOk result
             (Reverted index (past_at self.old.groups index) self.old self.new) }
-        ensures same { OnErr result (self.new ≡ self.old) }
-    {
-        let undone = self.history.change_at(self.alloc, index)?;
-        let line = self.line_before(&undone.inserted);
-        self.revert_change(index, &undone, line)
-    }
-
-    /// The same by what the group did, and a line that is known.
-    #[tactic(auto, using(crate::proofs::KeptLaws::kept_still))]
-    fn revert_change(
-        &mut self,
-        index: usize,
-        undone: &Change,
-        line: KnownLine,
-    ) -> Result<(), Refusal>
-        requires within { index < length self.old.groups }
-        requires at { undone.now ≡ past_at self.old.groups index }
-        requires line { IsLineOfPlace (text self.old.content) line }
-        ensures exact { IsAnswer result (growth_answer self.old (length undone.now.deleted)) }
-        ensures reverted { OnOk result (Reverted index undone.now self.old self.new) }
         ensures same { OnErr result (self.new ≡ self.old) }
     {
         let (front, point) = take_reverted(
@@ -104,7 +91,6 @@ impl<S: TextStore> Buffer<S> {
             &mut self.doc,
             &mut self.history,
             &mut self.unsaved,
-            index,
             undone,
             self.point.element,
         )?;
@@ -155,13 +141,11 @@ fn take_reverted<S: TextStore>(
     doc: &mut Doc<S>,
     history: &mut History,
     unsaved: &mut Vec<Op>,
-    index: usize,
     undone: &Change,
     point: Id,
 ) -> Result<(usize, Id), Refusal>
-    requires within { index < length history.old.pasts }
-    requires at { undone.now ≡ past_at history.old.pasts index }
-    requires old { greatest_counter history.old.slots.elements ≤ clock_of doc.old.content }
+    requires at { (index : ℕ) × (undone.now ≡ past_at history.old.pasts index) }
+    requires old { newest_restored history.old ≤ clock_of doc.old.content }
     requires able { are_restorable doc.old.content undone.now.deleted ≡ true }
     ensures exact { IsAnswer result
         (revert_answer doc.old.limit doc.old.content undone.now.deleted) }
@@ -170,8 +154,7 @@ fn take_reverted<S: TextStore>(
         ((doc.new ≡ record d { content = join d.content (content_of ops); listed = doc.new.listed })
         × (history.new.pasts ≡ all_substituted (stand_in ops)
         (with_group history.old.pasts (past_of d.content ops) ops))
-        × (history.new.slots.elements ≡ map (stand_in ops)
-        (with_deleted history.old.slots.elements (past_of d.content ops)))
+        × (newest_restored history.new ≤ clock_of d.content)
         × (unsaved.new.items ≡ unsaved.old.items ++ ops)) }
     ensures front { IfOk result
         (λ p. take p.0 (text doc.new.content) ≡ take p.0 (text doc.old.content)) }
@@ -180,17 +163,17 @@ fn take_reverted<S: TextStore>(
         IfOk result (λ p. p.1 ≡ point_after point (past_of d.content ops)) }
     ensures same { OnErr result ((doc.new ≡ doc.old)
         × (history.new.pasts ≡ history.old.pasts)
-        × (history.new.slots.elements ≡ history.old.slots.elements)
+        × (newest_restored history.new ≤ newest_restored history.old)
         × (unsaved.new.items ≡ unsaved.old.items)) }
 {
     let inserted = undone.inserted.as_slice();
     let deleted = undone.deleted.as_slice();
     let drafted = doc.draft_revert(inserted, deleted)?;
     let ops = drafted.as_slice();
-    let (done, room) = prepare(alloc, doc.store(), history, unsaved, ops, true)?;
+    let done = prepare(alloc, doc.store(), history, unsaved, ops, deleted.len())?;
     let front = doc.take_revert(inserted, deleted, ops)?;
     let element = done.point_after(point);
-    history.add_undo(index, room, &done, ops);
+    history.add_undo(done, ops);
     add_all(unsaved, ops);
     Ok((front, element))
 }

@@ -152,22 +152,13 @@ impl<S: TextStore> VisitedBuffer<S> {
     }
 }
 
-/// Whether it inserts the first character of a text that the replica loaded without a log.
-fn is_first_loaded(replica: u16, op: &Op) -> bool
-    ensures { result ≡ spec.is_first_loaded replica op.now }
-{
-    match op {
-        Op::Insert { id, .. } => id.counter() == 1 && id.replica() == replica,
-        Op::Delete { .. } => false,
-    }
-}
-
-/// Whether operations begin with that.
+/// Whether operations begin with the first character of a text that the replica loaded without a log.
 fn begin_as_loaded(replica: u16, ops: &[Op]) -> bool
     ensures { result ≡ spec.begin_as_loaded replica ops.now }
 {
     match ops.first() {
-        Some(op) => is_first_loaded(replica, op),
+        Some(Op::Insert { id, .. }) => id.counter() == 1 && id.replica() == replica,
+        Some(Op::Delete { .. }) => false,
         None => false,
     }
 }

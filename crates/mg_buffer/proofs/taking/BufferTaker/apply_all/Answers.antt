@@ -10,7 +10,7 @@ invariant_of-self-then-is_empty g c =
     let doc : Document = c.self.inside.doc in
     let none : c.args.ops.now ≡ [] = grind (arith, common_steps) in
     let content = ap (λ xs. join doc.content (content_of xs)) none ∙ join_nothing doc.content in
-    kept_still doc c.take_all.new.doc c.self.inside.point c.self.inside.line c.self.inside.mark c.self.inside.history c.self.inside.history c.self.inside.listed c.self.invariant refl refl
+    kept_still doc c.take_all.new.doc c.self.inside.point c.self.inside.line c.self.inside.mark c.self.inside.history c.self.inside.history c.self.inside.listed c.self.invariant refl (omega arith)
     (c.in_ok-take_all.ensures.whole refl ∙ (λ k. record doc { content = content k; listed = c.in_ok-take_all.ensures.listed refl none k }))
 
 pub invariant_of-self-2 : goal.invariant_of-self-2
