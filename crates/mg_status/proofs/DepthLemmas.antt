@@ -24,11 +24,7 @@ use Rattle.mg_status.specs.StatusText.{
   refused_json,
   window_json,
   changes_members,
-  buffer_members,
-  live_members,
-  echo_members,
-  point_members,
-  report_members,
+  members_after_changes,
   status_members,
   status_json,
 }
@@ -100,32 +96,20 @@ changes_depth : (o : Option (Bor (List Splice))) → members_depth (members_of (
 changes_depth None = omega arith
 changes_depth (Some splices) = omega (arith, items_shallow splice_json 1 splice_depth splices.now)
 
-buffer_members_depth : (s : Status) → members_depth (members_of (buffer_members s)) ≤ 2
-unfolding buffer_members
-buffer_members_depth s = omega (arith, buffer_depth s.buffer, changes_depth s.changes)
-
-live_members_depth : (s : Status) → members_depth (members_of (live_members s)) ≤ 2
-unfolding live_members
-live_members_depth s = omega (arith, or_null_shallow position_json 2 position_depth s.cursor, or_null_shallow buffer_json 2 buffer_depth s.live)
-
-echo_members_depth : (s : Status) → members_depth (members_of (echo_members s)) ≤ 2
-unfolding echo_members
-echo_members_depth s = omega arith
-
-point_members_depth : (s : Status) → members_depth (members_of (point_members s)) ≤ 2
-unfolding point_members
-point_members_depth s = omega (arith, items_shallow place_json 1 place_depth s.places.now, point_depth s.point, or_null_shallow prompt_json 2 prompt_depth s.prompt)
-
-report_members_depth : (s : Status) → members_depth (members_of (report_members s)) ≤ 2
-unfolding report_members
-report_members_depth s = omega (arith, items_shallow refused_json 1 refused_depth s.refused.now, items_shallow window_json 1 window_depth s.windows.now)
-
-members_depth_of : (s : Status) → members_depth (members_of (status_members s)) ≤ 2
-unfolding status_members
-members_depth_of s =
-    appended (buffer_members s) _ 2 (buffer_members_depth s)
-    (appended (live_members s) _ 2 (live_members_depth s)
-    (appended (echo_members s) _ 2 (echo_members_depth s) (appended (point_members s) _ 2 (point_members_depth s) (report_members_depth s))))
+after_changes_depth : (s : Status) → members_depth (members_of (members_after_changes s)) ≤ 2
+unfolding members_after_changes
+after_changes_depth s =
+    omega (
+      arith,
+      or_null_shallow position_json 2 position_depth s.cursor,
+      or_null_shallow buffer_json 2 buffer_depth s.live,
+      items_shallow place_json 1 place_depth s.places.now,
+      point_depth s.point,
+      or_null_shallow prompt_json 2 prompt_depth s.prompt,
+      items_shallow refused_json 1 refused_depth s.refused.now,
+      items_shallow window_json 1 window_depth s.windows.now,
+    )
 
 pub status_depth : (s : Status) → depth (status_json s) ≤ max_depth
-status_depth s = omega (arith, members_depth_of s)
+unfolding status_members
+status_depth s = omega (arith, buffer_depth s.buffer, appended (changes_members s.changes) _ 2 (changes_depth s.changes) (after_changes_depth s))
