@@ -85,22 +85,10 @@ fn wait(mode: Mode, argument: Argument, sequence: Sequence) -> bool
     ensures { result ≡ spec.waits mode argument sequence }
 {
     match mode {
-        Mode::Plain => argument != Argument::Absent || is_started(sequence),
-        Mode::Prompt | Mode::Search => is_character(sequence),
+        Mode::Plain => argument != Argument::Absent || !matches!(sequence, Sequence::Start),
+        Mode::Prompt | Mode::Search => matches!(sequence, Sequence::Character(_)),
         Mode::Query => false,
     }
-}
-
-fn is_started(sequence: Sequence) -> bool
-    ensures { result ≡ spec.is_started sequence }
-{
-    !matches!(sequence, Sequence::Start)
-}
-
-fn is_character(sequence: Sequence) -> bool
-    ensures { result ≡ spec.is_character sequence }
-{
-    matches!(sequence, Sequence::Character(_))
 }
 
 /// Keys of a mode, behind a whole sequence.

@@ -21,191 +21,70 @@ struct Entry {
     command: NamedCommand,
 }
 
-static NAMES: [Entry; 46] = [
-    Entry {
-        name: b"set-mark-command",
-        command: NamedCommand::Key(KeyCommand::SetMarkCommand),
-    },
-    Entry {
-        name: b"beginning-of-line",
-        command: NamedCommand::Key(KeyCommand::BeginningOfLine),
-    },
-    Entry {
-        name: b"end-of-line",
-        command: NamedCommand::Key(KeyCommand::EndOfLine),
-    },
-    Entry {
-        name: b"backward-char",
-        command: NamedCommand::Key(KeyCommand::BackwardChar),
-    },
-    Entry {
-        name: b"forward-char",
-        command: NamedCommand::Key(KeyCommand::ForwardChar),
-    },
-    Entry {
-        name: b"delete-char",
-        command: NamedCommand::Key(KeyCommand::DeleteChar),
-    },
-    Entry {
-        name: b"delete-backward-char",
-        command: NamedCommand::Key(KeyCommand::DeleteBackwardChar),
-    },
-    Entry {
-        name: b"newline-and-indent",
-        command: NamedCommand::Key(KeyCommand::NewlineAndIndent),
-    },
-    Entry {
-        name: b"newline",
-        command: NamedCommand::Key(KeyCommand::Newline),
-    },
-    Entry {
-        name: b"open-line",
-        command: NamedCommand::Key(KeyCommand::OpenLine),
-    },
-    Entry {
-        name: b"kill-line",
-        command: NamedCommand::Key(KeyCommand::KillLine),
-    },
-    Entry {
-        name: b"kill-region",
-        command: NamedCommand::Key(KeyCommand::KillRegion),
-    },
-    Entry {
-        name: b"yank",
-        command: NamedCommand::Key(KeyCommand::Yank),
-    },
-    Entry {
-        name: b"recenter",
-        command: NamedCommand::Key(KeyCommand::Recenter),
-    },
-    Entry {
-        name: b"next-line",
-        command: NamedCommand::Key(KeyCommand::NextLine),
-    },
-    Entry {
-        name: b"previous-line",
-        command: NamedCommand::Key(KeyCommand::PreviousLine),
-    },
-    Entry {
-        name: b"isearch-forward",
-        command: NamedCommand::Key(KeyCommand::IsearchForward),
-    },
-    Entry {
-        name: b"isearch-backward",
-        command: NamedCommand::Key(KeyCommand::IsearchBackward),
-    },
-    Entry {
-        name: b"transpose-chars",
-        command: NamedCommand::Key(KeyCommand::TransposeChars),
-    },
-    Entry {
-        name: b"scroll-up",
-        command: NamedCommand::Key(KeyCommand::ScrollUp),
-    },
-    Entry {
-        name: b"scroll-down",
-        command: NamedCommand::Key(KeyCommand::ScrollDown),
-    },
-    Entry {
-        name: b"undo",
-        command: NamedCommand::Key(KeyCommand::Undo),
-    },
-    Entry {
-        name: b"beginning-of-buffer",
-        command: NamedCommand::Key(KeyCommand::BeginningOfBuffer),
-    },
-    Entry {
-        name: b"end-of-buffer",
-        command: NamedCommand::Key(KeyCommand::EndOfBuffer),
-    },
-    Entry {
-        name: b"backward-word",
-        command: NamedCommand::Key(KeyCommand::BackwardWord),
-    },
-    Entry {
-        name: b"forward-word",
-        command: NamedCommand::Key(KeyCommand::ForwardWord),
-    },
-    Entry {
-        name: b"kill-word",
-        command: NamedCommand::Key(KeyCommand::KillWord),
-    },
-    Entry {
-        name: b"capitalize-word",
-        command: NamedCommand::Key(KeyCommand::CapitalizeWord),
-    },
-    Entry {
-        name: b"downcase-word",
-        command: NamedCommand::Key(KeyCommand::DowncaseWord),
-    },
-    Entry {
-        name: b"upcase-word",
-        command: NamedCommand::Key(KeyCommand::UpcaseWord),
-    },
-    Entry {
-        name: b"fill-paragraph",
-        command: NamedCommand::Key(KeyCommand::FillParagraph),
-    },
-    Entry {
-        name: b"copy-region-as-kill",
-        command: NamedCommand::Key(KeyCommand::CopyRegionAsKill),
-    },
-    Entry {
-        name: b"query-replace",
-        command: NamedCommand::Key(KeyCommand::QueryReplace),
-    },
-    Entry {
-        name: b"save-buffers-kill-emacs",
-        command: NamedCommand::Key(KeyCommand::SaveBuffersKillEmacs),
-    },
-    Entry {
-        name: b"find-file",
-        command: NamedCommand::Key(KeyCommand::FindFile),
-    },
-    Entry {
-        name: b"save-buffer",
-        command: NamedCommand::Key(KeyCommand::SaveBuffer),
-    },
-    Entry {
-        name: b"exchange-point-and-mark",
-        command: NamedCommand::Key(KeyCommand::ExchangePointAndMark),
-    },
-    Entry {
-        name: b"switch-to-buffer",
-        command: NamedCommand::Key(KeyCommand::SwitchToBuffer),
-    },
-    Entry {
-        name: b"kill-buffer",
-        command: NamedCommand::Key(KeyCommand::KillBuffer),
-    },
-    Entry {
-        name: b"mark-whole-buffer",
-        command: NamedCommand::Key(KeyCommand::MarkWholeBuffer),
-    },
-    Entry {
-        name: b"delete-window",
-        command: NamedCommand::Key(KeyCommand::DeleteWindow),
-    },
-    Entry {
-        name: b"delete-other-windows",
-        command: NamedCommand::Key(KeyCommand::DeleteOtherWindows),
-    },
-    Entry {
-        name: b"split-window-vertically",
-        command: NamedCommand::Key(KeyCommand::SplitWindowVertically),
-    },
-    Entry {
-        name: b"other-window",
-        command: NamedCommand::Key(KeyCommand::OtherWindow),
-    },
-    Entry {
-        name: b"replica-exchange",
-        command: NamedCommand::ReplicaExchange,
-    },
-    Entry {
-        name: b"replica-serve",
-        command: NamedCommand::ReplicaServe,
-    },
+/// Entries of the commands that keys are bound to, and behind these of the others.
+macro_rules! name_entries {
+    ($($name:literal $key:ident,)*; $($other:literal $command:ident,)*) => {
+        [
+            $(Entry {
+                name: $name,
+                command: NamedCommand::Key(KeyCommand::$key),
+            },)*
+            $(Entry {
+                name: $other,
+                command: NamedCommand::$command,
+            },)*
+        ]
+    };
+}
+
+static NAMES: [Entry; 46] = name_entries![
+    b"set-mark-command" SetMarkCommand,
+    b"beginning-of-line" BeginningOfLine,
+    b"end-of-line" EndOfLine,
+    b"backward-char" BackwardChar,
+    b"forward-char" ForwardChar,
+    b"delete-char" DeleteChar,
+    b"delete-backward-char" DeleteBackwardChar,
+    b"newline-and-indent" NewlineAndIndent,
+    b"newline" Newline,
+    b"open-line" OpenLine,
+    b"kill-line" KillLine,
+    b"kill-region" KillRegion,
+    b"yank" Yank,
+    b"recenter" Recenter,
+    b"next-line" NextLine,
+    b"previous-line" PreviousLine,
+    b"isearch-forward" IsearchForward,
+    b"isearch-backward" IsearchBackward,
+    b"transpose-chars" TransposeChars,
+    b"scroll-up" ScrollUp,
+    b"scroll-down" ScrollDown,
+    b"undo" Undo,
+    b"beginning-of-buffer" BeginningOfBuffer,
+    b"end-of-buffer" EndOfBuffer,
+    b"backward-word" BackwardWord,
+    b"forward-word" ForwardWord,
+    b"kill-word" KillWord,
+    b"capitalize-word" CapitalizeWord,
+    b"downcase-word" DowncaseWord,
+    b"upcase-word" UpcaseWord,
+    b"fill-paragraph" FillParagraph,
+    b"copy-region-as-kill" CopyRegionAsKill,
+    b"query-replace" QueryReplace,
+    b"save-buffers-kill-emacs" SaveBuffersKillEmacs,
+    b"find-file" FindFile,
+    b"save-buffer" SaveBuffer,
+    b"exchange-point-and-mark" ExchangePointAndMark,
+    b"switch-to-buffer" SwitchToBuffer,
+    b"kill-buffer" KillBuffer,
+    b"mark-whole-buffer" MarkWholeBuffer,
+    b"delete-window" DeleteWindow,
+    b"delete-other-windows" DeleteOtherWindows,
+    b"split-window-vertically" SplitWindowVertically,
+    b"other-window" OtherWindow,
+    ;
+    b"replica-exchange" ReplicaExchange,
+    b"replica-serve" ReplicaServe,
 ];
 
 /// Whether a text is just that name.

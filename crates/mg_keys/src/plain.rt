@@ -12,7 +12,7 @@ use crate::bytes::{CANCEL, CONTROL_X, ESCAPE, QUOTE, TAB};
 use crate::sequence::{Advance, Sequence};
 use crate::step::Step;
 use crate::table::{Prefix, bound};
-use crate::utf8::{Continuation, Read, begin, read_on};
+use crate::utf8::{Read, begin, read_on};
 use mg_plain::Command;
 
 /// The key behind a prefix.
@@ -95,36 +95,20 @@ fn quoted(byte: u8) -> Read
     begin(byte)
 }
 
-fn quotes(argument: Argument, byte: u8) -> Advance
-    ensures { PlainAdvances (plain_rest argument Sequence.Quote) byte result }
-{
-    match quoted(byte) {
-        Read::Character(c) => Advance::Whole(Step::Run(Command::Insert(c), value(argument))),
-        Read::More(begun) => Advance::On(argument, Sequence::Character(begun)),
-        Read::Nothing => Advance::Nothing,
-    }
-}
-
-/// One byte more of a character to insert.
-fn goes_on(argument: Argument, begun: Continuation, byte: u8) -> Advance
-    ensures { PlainAdvances (plain_rest argument (Sequence.Character begun)) byte result }
-{
-    match read_on(begun, byte) {
-        Read::Character(c) => Advance::Whole(Step::Run(Command::Insert(c), value(argument))),
-        Read::More(begun) => Advance::On(argument, Sequence::Character(begun)),
-        Read::Nothing => Advance::Nothing,
-    }
-}
-
 /// What a byte makes of a sequence and its argument.
 pub(crate) fn plain_advance(argument: Argument, sequence: Sequence, byte: u8) -> Advance
     ensures { PlainAdvances (plain_rest argument sequence) byte result }
 {
-    match sequence {
-        Sequence::Start => start(argument, byte),
-        Sequence::Escape => prefixed(argument, Prefix::Escape, byte),
-        Sequence::ControlX => prefixed(argument, Prefix::ControlX, byte),
-        Sequence::Quote => quotes(argument, byte),
-        Sequence::Character(begun) => goes_on(argument, begun, byte),
+    let read = match sequence {
+        Sequence::Start => return start(argument, byte),
+        Sequence::Escape => return prefixed(argument, Prefix::Escape, byte),
+        Sequence::ControlX => return prefixed(argument, Prefix::ControlX, byte),
+        Sequence::Quote => quoted(byte),
+        Sequence::Character(begun) => read_on(begun, byte),
+    };
+    match read {
+        Read::Character(c) => Advance::Whole(Step::Run(Command::Insert(c), value(argument))),
+        Read::More(begun) => Advance::On(argument, Sequence::Character(begun)),
+        Read::Nothing => Advance::Nothing,
     }
 }

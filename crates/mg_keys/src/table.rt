@@ -21,288 +21,75 @@ pub(crate) struct Entry {
     command: KeyCommand,
 }
 
+/// Entries, each by its prefix, its last byte and its command.
+macro_rules! key_entries {
+    ($($prefix:ident $byte:literal $command:ident,)*) => {
+        [$(Entry {
+            prefix: Prefix::$prefix,
+            byte: $byte,
+            command: KeyCommand::$command,
+        },)*]
+    };
+}
+
 /// By the table of keys in mg(1); behind ESC an upper-case letter counts as the lower-case one.
-static TABLE: [Entry; 56] = [
-    Entry {
-        prefix: Prefix::Alone,
-        byte: 0,
-        command: KeyCommand::SetMarkCommand,
-    },
-    Entry {
-        prefix: Prefix::Alone,
-        byte: 1,
-        command: KeyCommand::BeginningOfLine,
-    },
-    Entry {
-        prefix: Prefix::Alone,
-        byte: 5,
-        command: KeyCommand::EndOfLine,
-    },
-    Entry {
-        prefix: Prefix::Alone,
-        byte: 2,
-        command: KeyCommand::BackwardChar,
-    },
-    Entry {
-        prefix: Prefix::Alone,
-        byte: 6,
-        command: KeyCommand::ForwardChar,
-    },
-    Entry {
-        prefix: Prefix::Alone,
-        byte: 4,
-        command: KeyCommand::DeleteChar,
-    },
-    Entry {
-        prefix: Prefix::Alone,
-        byte: 127,
-        command: KeyCommand::DeleteBackwardChar,
-    },
-    Entry {
-        prefix: Prefix::Alone,
-        byte: 10,
-        command: KeyCommand::NewlineAndIndent,
-    },
-    Entry {
-        prefix: Prefix::Alone,
-        byte: 13,
-        command: KeyCommand::Newline,
-    },
-    Entry {
-        prefix: Prefix::Alone,
-        byte: 15,
-        command: KeyCommand::OpenLine,
-    },
-    Entry {
-        prefix: Prefix::Alone,
-        byte: 11,
-        command: KeyCommand::KillLine,
-    },
-    Entry {
-        prefix: Prefix::Alone,
-        byte: 23,
-        command: KeyCommand::KillRegion,
-    },
-    Entry {
-        prefix: Prefix::Alone,
-        byte: 25,
-        command: KeyCommand::Yank,
-    },
-    Entry {
-        prefix: Prefix::Alone,
-        byte: 12,
-        command: KeyCommand::Recenter,
-    },
-    Entry {
-        prefix: Prefix::Alone,
-        byte: 14,
-        command: KeyCommand::NextLine,
-    },
-    Entry {
-        prefix: Prefix::Alone,
-        byte: 16,
-        command: KeyCommand::PreviousLine,
-    },
-    Entry {
-        prefix: Prefix::Alone,
-        byte: 19,
-        command: KeyCommand::IsearchForward,
-    },
-    Entry {
-        prefix: Prefix::Alone,
-        byte: 18,
-        command: KeyCommand::IsearchBackward,
-    },
-    Entry {
-        prefix: Prefix::Alone,
-        byte: 20,
-        command: KeyCommand::TransposeChars,
-    },
-    Entry {
-        prefix: Prefix::Alone,
-        byte: 22,
-        command: KeyCommand::ScrollUp,
-    },
-    Entry {
-        prefix: Prefix::Alone,
-        byte: 31,
-        command: KeyCommand::Undo,
-    },
-    Entry {
-        prefix: Prefix::Escape,
-        byte: b'<',
-        command: KeyCommand::BeginningOfBuffer,
-    },
-    Entry {
-        prefix: Prefix::Escape,
-        byte: b'>',
-        command: KeyCommand::EndOfBuffer,
-    },
-    Entry {
-        prefix: Prefix::Escape,
-        byte: b'%',
-        command: KeyCommand::QueryReplace,
-    },
-    Entry {
-        prefix: Prefix::Escape,
-        byte: b'b',
-        command: KeyCommand::BackwardWord,
-    },
-    Entry {
-        prefix: Prefix::Escape,
-        byte: b'B',
-        command: KeyCommand::BackwardWord,
-    },
-    Entry {
-        prefix: Prefix::Escape,
-        byte: b'f',
-        command: KeyCommand::ForwardWord,
-    },
-    Entry {
-        prefix: Prefix::Escape,
-        byte: b'F',
-        command: KeyCommand::ForwardWord,
-    },
-    Entry {
-        prefix: Prefix::Escape,
-        byte: b'd',
-        command: KeyCommand::KillWord,
-    },
-    Entry {
-        prefix: Prefix::Escape,
-        byte: b'D',
-        command: KeyCommand::KillWord,
-    },
-    Entry {
-        prefix: Prefix::Escape,
-        byte: b'c',
-        command: KeyCommand::CapitalizeWord,
-    },
-    Entry {
-        prefix: Prefix::Escape,
-        byte: b'C',
-        command: KeyCommand::CapitalizeWord,
-    },
-    Entry {
-        prefix: Prefix::Escape,
-        byte: b'l',
-        command: KeyCommand::DowncaseWord,
-    },
-    Entry {
-        prefix: Prefix::Escape,
-        byte: b'L',
-        command: KeyCommand::DowncaseWord,
-    },
-    Entry {
-        prefix: Prefix::Escape,
-        byte: b'u',
-        command: KeyCommand::UpcaseWord,
-    },
-    Entry {
-        prefix: Prefix::Escape,
-        byte: b'U',
-        command: KeyCommand::UpcaseWord,
-    },
-    Entry {
-        prefix: Prefix::Escape,
-        byte: b'q',
-        command: KeyCommand::FillParagraph,
-    },
-    Entry {
-        prefix: Prefix::Escape,
-        byte: b'Q',
-        command: KeyCommand::FillParagraph,
-    },
-    Entry {
-        prefix: Prefix::Escape,
-        byte: b'w',
-        command: KeyCommand::CopyRegionAsKill,
-    },
-    Entry {
-        prefix: Prefix::Escape,
-        byte: b'W',
-        command: KeyCommand::CopyRegionAsKill,
-    },
-    Entry {
-        prefix: Prefix::Escape,
-        byte: b'v',
-        command: KeyCommand::ScrollDown,
-    },
-    Entry {
-        prefix: Prefix::Escape,
-        byte: b'V',
-        command: KeyCommand::ScrollDown,
-    },
-    Entry {
-        prefix: Prefix::Escape,
-        byte: b'x',
-        command: KeyCommand::ExecuteExtendedCommand,
-    },
-    Entry {
-        prefix: Prefix::Escape,
-        byte: b'X',
-        command: KeyCommand::ExecuteExtendedCommand,
-    },
-    Entry {
-        prefix: Prefix::ControlX,
-        byte: 24,
-        command: KeyCommand::ExchangePointAndMark,
-    },
-    Entry {
-        prefix: Prefix::ControlX,
-        byte: 3,
-        command: KeyCommand::SaveBuffersKillEmacs,
-    },
-    Entry {
-        prefix: Prefix::ControlX,
-        byte: 6,
-        command: KeyCommand::FindFile,
-    },
-    Entry {
-        prefix: Prefix::ControlX,
-        byte: 19,
-        command: KeyCommand::SaveBuffer,
-    },
-    Entry {
-        prefix: Prefix::ControlX,
-        byte: b'u',
-        command: KeyCommand::Undo,
-    },
-    Entry {
-        prefix: Prefix::ControlX,
-        byte: b'h',
-        command: KeyCommand::MarkWholeBuffer,
-    },
-    Entry {
-        prefix: Prefix::ControlX,
-        byte: b'b',
-        command: KeyCommand::SwitchToBuffer,
-    },
-    Entry {
-        prefix: Prefix::ControlX,
-        byte: b'k',
-        command: KeyCommand::KillBuffer,
-    },
-    Entry {
-        prefix: Prefix::ControlX,
-        byte: b'0',
-        command: KeyCommand::DeleteWindow,
-    },
-    Entry {
-        prefix: Prefix::ControlX,
-        byte: b'1',
-        command: KeyCommand::DeleteOtherWindows,
-    },
-    Entry {
-        prefix: Prefix::ControlX,
-        byte: b'2',
-        command: KeyCommand::SplitWindowVertically,
-    },
-    Entry {
-        prefix: Prefix::ControlX,
-        byte: b'o',
-        command: KeyCommand::OtherWindow,
-    },
+static TABLE: [Entry; 56] = key_entries![
+    Alone 0 SetMarkCommand,
+    Alone 1 BeginningOfLine,
+    Alone 5 EndOfLine,
+    Alone 2 BackwardChar,
+    Alone 6 ForwardChar,
+    Alone 4 DeleteChar,
+    Alone 127 DeleteBackwardChar,
+    Alone 10 NewlineAndIndent,
+    Alone 13 Newline,
+    Alone 15 OpenLine,
+    Alone 11 KillLine,
+    Alone 23 KillRegion,
+    Alone 25 Yank,
+    Alone 12 Recenter,
+    Alone 14 NextLine,
+    Alone 16 PreviousLine,
+    Alone 19 IsearchForward,
+    Alone 18 IsearchBackward,
+    Alone 20 TransposeChars,
+    Alone 22 ScrollUp,
+    Alone 31 Undo,
+    Escape b'<' BeginningOfBuffer,
+    Escape b'>' EndOfBuffer,
+    Escape b'%' QueryReplace,
+    Escape b'b' BackwardWord,
+    Escape b'B' BackwardWord,
+    Escape b'f' ForwardWord,
+    Escape b'F' ForwardWord,
+    Escape b'd' KillWord,
+    Escape b'D' KillWord,
+    Escape b'c' CapitalizeWord,
+    Escape b'C' CapitalizeWord,
+    Escape b'l' DowncaseWord,
+    Escape b'L' DowncaseWord,
+    Escape b'u' UpcaseWord,
+    Escape b'U' UpcaseWord,
+    Escape b'q' FillParagraph,
+    Escape b'Q' FillParagraph,
+    Escape b'w' CopyRegionAsKill,
+    Escape b'W' CopyRegionAsKill,
+    Escape b'v' ScrollDown,
+    Escape b'V' ScrollDown,
+    Escape b'x' ExecuteExtendedCommand,
+    Escape b'X' ExecuteExtendedCommand,
+    ControlX 24 ExchangePointAndMark,
+    ControlX 3 SaveBuffersKillEmacs,
+    ControlX 6 FindFile,
+    ControlX 19 SaveBuffer,
+    ControlX b'u' Undo,
+    ControlX b'h' MarkWholeBuffer,
+    ControlX b'b' SwitchToBuffer,
+    ControlX b'k' KillBuffer,
+    ControlX b'0' DeleteWindow,
+    ControlX b'1' DeleteOtherWindows,
+    ControlX b'2' SplitWindowVertically,
+    ControlX b'o' OtherWindow,
 ];
 
 fn has_keys(entry: &Entry, prefix: Prefix, byte: u8) -> bool

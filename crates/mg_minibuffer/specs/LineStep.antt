@@ -17,9 +17,10 @@ use Rattle.mg_minibuffer.specs.declared.ending.Request.TheVariants as request
 use Rattle.mg_minibuffer.specs.declared.message.Message.TheVariants as message
 use Rattle.mg_minibuffer.specs.declared.prompt.Asked.{Asked}
 use Rattle.mg_minibuffer.specs.declared.prompt.Asked.TheVariants.{Command, Pattern, Find, Switch, Kill}
-use Rattle.mg_minibuffer.specs.declared.prompt.Prompt.TheVariants.{Line, Replacement}
+use Rattle.mg_minibuffer.specs.declared.prompt.Prompt.TheVariants.{Line}
 use Rattle.mg_minibuffer.specs.Endings.{ending_of, requesting, shows, idles, unbound, closing}
 use Rattle.mg_minibuffer.specs.PlainStep.{plain_step, does, asks_for}
+use Rattle.mg_minibuffer.specs.ReplacementStep.{asks_replacement}
 use Rattle.mg_minibuffer.specs.Scenes.{Scene}
 use Rattle.mg_minibuffer.specs.Typing.{typed, rubbed}
 
@@ -38,9 +39,6 @@ extended answer scene = elim (command_named answer) [
   | None ↦ shows Closed message.NoSuchCommand
 ]
 
-abbrev pub asks_replacement : List ℕ → Reaction
-asks_replacement pattern = shows (Open (Replacement pattern [])) message.Nothing
-
 -- the prompt closes, and that is requested
 abbrev pub requests : Request → Reaction
 requests request = Ends (requesting request (ending_of action.Nothing Closed message.Nothing))
@@ -55,7 +53,7 @@ closes action = Ends (closing (does action))
 
 abbrev pub accepted : Asked → List ℕ → Scene → Reaction
 accepted Command answer scene = extended answer scene
-accepted Pattern answer scene = asks_replacement answer
+accepted Pattern answer scene = asks_replacement answer []
 accepted Find answer scene = finds answer
 accepted Switch answer scene = closes (action.Switch answer)
 accepted Kill answer scene = closes (action.Kill answer)

@@ -39,12 +39,12 @@ asks_at_first_match pattern put scene =
     let failed = message.Refused SearchFailed in
     if nat_eq (length pattern) 0 then shows Closed failed else Ends (asks_or_ends pattern put 0 scene failed)
 
-abbrev pub asks_replacement_on : List ℕ → List ℕ → Reaction
-asks_replacement_on pattern answer = shows (Open (Replacement pattern answer)) message.Nothing
+abbrev pub asks_replacement : List ℕ → List ℕ → Reaction
+asks_replacement pattern answer = shows (Open (Replacement pattern answer)) message.Nothing
 
 abbrev pub replacement_step : List ℕ → List ℕ → Step → Scene → Reaction
-replacement_step pattern answer (Text c) scene = asks_replacement_on pattern (typed answer c)
-replacement_step pattern answer Rub scene = asks_replacement_on pattern (rubbed answer)
+replacement_step pattern answer (Text c) scene = asks_replacement pattern (typed answer c)
+replacement_step pattern answer Rub scene = asks_replacement pattern (rubbed answer)
 replacement_step pattern answer Accept scene = asks_at_first_match pattern answer scene
 replacement_step pattern answer Cancel scene = idles Closed message.Quit
 replacement_step pattern answer _ scene = unbound

@@ -1,6 +1,5 @@
 //! The echo line.
-ghost use Rattle.std.specs.Prelude.{◌≡◌, ◌++◌, IfOk, encode_utf8_all, string_bytes};
-ghost use Rattle.mg_minibuffer.specs.Prompts.{label, typed_answer};
+ghost use Rattle.std.specs.Prelude.{◌≡◌, IfOk, string_bytes};
 ghost use Rattle.mg_minibuffer.specs.Echo as spec;
 
 use crate::dialogue::Dialogue;
@@ -25,38 +24,21 @@ impl Dialogue {
         ensures { result ≡ spec.has_cursor self.now }
     {
         match self.message {
-            Message::Nothing => is_line(&self.prompt),
+            Message::Nothing => matches!(
+                &self.prompt,
+                Some(Prompt::Line { .. }) | Some(Prompt::Replacement { .. })
+            ),
             _ => false,
         }
-    }
-}
-
-fn is_line(prompt: &Option<Prompt>) -> bool
-    ensures { result ≡ spec.is_line prompt.now }
-{
-    match prompt {
-        Some(Prompt::Line { .. }) | Some(Prompt::Replacement { .. }) => true,
-        Some(Prompt::Searching(_)) | Some(Prompt::Replacing { .. }) | Some(Prompt::Quitting) => {
-            false
-        }
-        None => false,
     }
 }
 
 fn prompt_text(alloc: Global, prompt: &Option<Prompt>) -> Result<String, AllocError>
     ensures { IfOk result (λ text. string_bytes text ≡ spec.prompt_text prompt.now) }
 {
-    match prompt {
-        None => Ok(String::new(alloc)),
-        Some(prompt) => asked_text(alloc, prompt),
-    }
-}
-
-fn asked_text(alloc: Global, prompt: &Prompt) -> Result<String, AllocError>
-    ensures { IfOk result
-        (λ text. string_bytes text ≡ label prompt.now
-        ++ encode_utf8_all (typed_answer prompt.now)) }
-{
+    let Some(prompt) = prompt else {
+        return Ok(String::new(alloc));
+    };
     let mut text = String::from_str(alloc, prompt.label())?;
     let answer: String = prompt.answer().iter().copied().collect(alloc)?;
     text.push_str(&answer)?;

@@ -8,6 +8,7 @@ use crate::ending::{Action, Ending, Next, Reaction, Request, closing, idles, sho
 use crate::message::Message;
 use crate::plain::{asks_for, does, plain_step};
 use crate::prompt::{Asked, Prompt};
+use crate::replacing::asks_replacement;
 use crate::scene::Scene;
 use mg_keys::{NamedCommand, Step, named};
 use mg_plain::Chars;
@@ -31,35 +32,6 @@ fn named_step(alloc: Global, command: NamedCommand, scene: &Scene<'_>) -> Ending
     }
 }
 
-fn extended(alloc: Global, answer: &[char], scene: &Scene<'_>) -> Reaction
-    ensures { result ≡ spec.extended answer.now scene.now }
-{
-    match named(answer) {
-        Some(command) => Reaction::Ends(closing(named_step(alloc, command, scene))),
-        None => shows(Next::Closed, Message::NoSuchCommand),
-    }
-}
-
-fn asks_replacement(alloc: Global, pattern: &[char]) -> Result<Reaction, AllocError>
-    ensures { IfOk result (λ reaction. reaction ≡ spec.asks_replacement pattern.now) }
-{
-    let replacement = Prompt::Replacement {
-        pattern: Chars::from_slice(alloc, pattern)?,
-        answer: Chars::new(alloc),
-    };
-    Ok(shows(Next::Open(replacement), Message::Nothing))
-}
-
-/// The prompt closes, and the buffer of that name is asked for; without a name there is none.
-fn finds(alloc: Global, name: &[char]) -> Result<Reaction, AllocError>
-    ensures { IfOk result (λ reaction. reaction ≡ spec.finds name.now) }
-{
-    if name.is_empty() {
-        return Ok(shows(Next::Closed, Message::Nothing));
-    }
-    Ok(requests(Request::Find(Chars::from_slice(alloc, name)?)))
-}
-
 /// The prompt closes, whatever comes of the action.
 fn closes(action: Action) -> Reaction
     ensures { result ≡ spec.closes action }
@@ -76,9 +48,14 @@ fn accepted(
     ensures { IfOk result (λ reaction. reaction ≡ spec.accepted asked answer.now scene.now) }
 {
     match asked {
-        Asked::Command => Ok(extended(alloc, answer, scene)),
-        Asked::Pattern => asks_replacement(alloc, answer),
-        Asked::Find => finds(alloc, answer),
+        Asked::Command => Ok(match named(answer) {
+            Some(command) => Reaction::Ends(closing(named_step(alloc, command, scene))),
+            None => shows(Next::Closed, Message::NoSuchCommand),
+        }),
+        Asked::Pattern => asks_replacement(alloc, answer, Chars::new(alloc)),
+        // Without a name no buffer is asked for.
+        Asked::Find if answer.is_empty() => Ok(shows(Next::Closed, Message::Nothing)),
+        Asked::Find => Ok(requests(Request::Find(Chars::from_slice(alloc, answer)?))),
         Asked::Switch => Ok(closes(Action::Switch(Chars::from_slice(alloc, answer)?))),
         Asked::Kill => Ok(closes(Action::Kill(Chars::from_slice(alloc, answer)?))),
     }

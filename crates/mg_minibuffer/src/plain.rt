@@ -58,16 +58,6 @@ fn search(alloc: Global, origin: usize, direction: Direction) -> Prompt
     })
 }
 
-fn quits(changed: bool) -> Ending
-    ensures { result ≡ spec.quits changed }
-{
-    if changed {
-        opens(Action::EndRun, Prompt::Quitting)
-    } else {
-        asks_for(Request::Quit)
-    }
-}
-
 fn question_step(alloc: Global, question: Question, scene: &Scene<'_>) -> Ending
     ensures { result ≡ spec.plain_step (Ask question) scene.now }
 {
@@ -84,7 +74,8 @@ fn question_step(alloc: Global, question: Question, scene: &Scene<'_>) -> Ending
         ),
         Question::Save => asks_for(Request::Save),
         Question::Undo => does(Action::Undo),
-        Question::Quit => quits(scene.changed),
+        Question::Quit if scene.changed => opens(Action::EndRun, Prompt::Quitting),
+        Question::Quit => asks_for(Request::Quit),
         Question::Find => opens(Action::EndRun, line(alloc, Asked::Find)),
         Question::Switch => opens(Action::EndRun, line(alloc, Asked::Switch)),
         Question::Kill => opens(Action::EndRun, line(alloc, Asked::Kill)),

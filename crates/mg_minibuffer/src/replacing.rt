@@ -11,21 +11,6 @@ use mg_keys::{Answer, Step};
 use mg_plain::{Chars, Command, Direction, Notice, count_matches, find};
 use std::alloc::{AllocError, Global};
 
-fn asks_about(
-    alloc: Global,
-    pattern: &[char],
-    put: &[char],
-    count: usize,
-) -> Result<Prompt, AllocError>
-    ensures { IfOk result (λ prompt. prompt ≡ Prompt.Replacing pattern.now put.now count) }
-{
-    Ok(Prompt::Replacing {
-        pattern: Chars::from_slice(alloc, pattern)?,
-        put: Chars::from_slice(alloc, put)?,
-        count,
-    })
-}
-
 fn search(alloc: Global, pattern: &[char], start: usize) -> Result<Command, AllocError>
     ensures { IfOk result (λ command. command ≡ Command.SearchForward pattern.now start) }
 {
@@ -51,7 +36,11 @@ fn asks_or_ends(
     match find(Direction::Forward, scene.text, pattern, scene.point) {
         Some(_) => Ok(ending_of(
             Action::Run(search(alloc, pattern, scene.point)?, 1),
-            Next::Open(asks_about(alloc, pattern, put, count)?),
+            Next::Open(Prompt::Replacing {
+                pattern: Chars::from_slice(alloc, pattern)?,
+                put: Chars::from_slice(alloc, put)?,
+                count,
+            }),
             Message::Nothing,
         )),
         None => Ok(ending_of(Action::Nothing, Next::Closed, otherwise)),
@@ -73,25 +62,13 @@ pub fn next_match(
     asks_or_ends(alloc, pattern, put, count, scene, Message::Replaced(count))
 }
 
-/// The first match. An empty pattern has none.
-fn first_match(
+/// What the matches of a pattern are replaced by is asked for.
+pub(crate) fn asks_replacement(
     alloc: Global,
     pattern: &[char],
-    put: &[char],
-    scene: &Scene<'_>,
+    answer: Chars,
 ) -> Result<Reaction, AllocError>
-    ensures { let due = spec.asks_at_first_match pattern.now put.now scene.now in
-        IfOk result (λ reaction. reaction ≡ due) }
-{
-    let failed = Message::Refused(Notice::SearchFailed);
-    if pattern.is_empty() {
-        return Ok(shows(Next::Closed, failed));
-    }
-    Ok(Reaction::Ends(asks_or_ends(alloc, pattern, put, 0, scene, failed)?))
-}
-
-fn asks_on(alloc: Global, pattern: &[char], answer: Chars) -> Result<Reaction, AllocError>
-    ensures { IfOk result (λ reaction. reaction ≡ spec.asks_replacement_on pattern.now answer) }
+    ensures { IfOk result (λ reaction. reaction ≡ spec.asks_replacement pattern.now answer) }
 {
     let pattern = Chars::from_slice(alloc, pattern)?;
     let prompt = Prompt::Replacement { pattern, answer };
@@ -109,29 +86,16 @@ pub(crate) fn replacement_step(
     ensures { let due = spec.replacement_step pattern.now answer.now step.now scene.now in
         IfOk result (λ reaction. reaction ≡ due) }
 {
+    let failed = Message::Refused(Notice::SearchFailed);
     match step {
-        Step::Text(ch) => asks_on(alloc, pattern, typed(alloc, answer, *ch)?),
-        Step::Rub => asks_on(alloc, pattern, rubbed(alloc, answer)?),
-        Step::Accept => first_match(alloc, pattern, answer, scene),
+        Step::Text(ch) => asks_replacement(alloc, pattern, typed(alloc, answer, *ch)?),
+        Step::Rub => asks_replacement(alloc, pattern, rubbed(alloc, answer)?),
+        // An empty pattern has no match.
+        Step::Accept if pattern.is_empty() => Ok(shows(Next::Closed, failed)),
+        Step::Accept => Ok(Reaction::Ends(asks_or_ends(alloc, pattern, answer, 0, scene, failed)?)),
         Step::Cancel => Ok(idles(Next::Closed, Message::Quit)),
         _ => Ok(unbound()),
     }
-}
-
-/// The match at point is to be replaced, and then the next one is looked for.
-fn replaces(
-    alloc: Global,
-    pattern: &[char],
-    put: &[char],
-    count: usize,
-) -> Result<Reaction, AllocError>
-    ensures { IfOk result (λ reaction. reaction ≡ Reaction.Replaces pattern.now put.now count) }
-{
-    Ok(Reaction::Replaces {
-        pattern: Chars::from_slice(alloc, pattern)?,
-        put: Chars::from_slice(alloc, put)?,
-        count,
-    })
 }
 
 /// The match at point and all that follow are replaced, in one command.
@@ -167,7 +131,11 @@ pub(crate) fn replacing_step(
         IfOk result (λ reaction. reaction ≡ due) }
 {
     match step {
-        Step::Answer(Answer::Yes) => replaces(alloc, pattern, put, count),
+        Step::Answer(Answer::Yes) => Ok(Reaction::Replaces {
+            pattern: Chars::from_slice(alloc, pattern)?,
+            put: Chars::from_slice(alloc, put)?,
+            count,
+        }),
         Step::Answer(Answer::No) => Ok(Reaction::Ends(next_match(
             alloc, pattern, put, count, scene,
         )?)),

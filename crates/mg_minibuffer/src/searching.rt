@@ -23,16 +23,6 @@ fn from_origin(search: &Search) -> Option<usize>
     }
 }
 
-/// Where the search for a longer pattern begins.
-fn from_match(search: &Search) -> Option<usize>
-    ensures { result ≡ spec.from_match search.now }
-{
-    match search.found {
-        Some(i) => Some(i),
-        None => from_origin(search),
-    }
-}
-
 /// Where the search for the next match begins, if there is a pattern.
 fn past_match(search: &Search) -> Option<usize>
     ensures { result ≡ spec.past_match search.now }
@@ -49,21 +39,15 @@ fn past_match(search: &Search) -> Option<usize>
     }
 }
 
-fn command(alloc: Global, search: &Search, start: usize) -> Result<Command, AllocError>
-    ensures { IfOk result (λ command. command ≡ spec.command search.now start) }
-{
-    let pattern = Chars::from_slice(alloc, search.pattern.as_slice())?;
-    Ok(match search.direction {
-        Direction::Forward => Command::SearchForward { pattern, start },
-        Direction::Backward => Command::SearchBackward { pattern, start },
-    })
-}
-
 /// Point goes to a match that is found from the start on.
 fn goes_to(alloc: Global, search: Search, start: usize, i: usize) -> Result<Reaction, AllocError>
     ensures { IfOk result (λ reaction. reaction ≡ spec.goes_to search start i) }
 {
-    let command = command(alloc, &search, start)?;
+    let pattern = Chars::from_slice(alloc, search.pattern.as_slice())?;
+    let command = match search.direction {
+        Direction::Forward => Command::SearchForward { pattern, start },
+        Direction::Backward => Command::SearchBackward { pattern, start },
+    };
     let found = Search {
         found: Some(i),
         ..search
@@ -100,48 +84,35 @@ fn lengthened(
         pattern: typed(alloc, pattern, ch)?,
         found: search.found,
     };
-    match sought(text, &longer, from_match(search)) {
+    match sought(text, &longer, search.found.or(from_origin(search))) {
         Some((start, i)) => goes_to(alloc, longer, start, i),
         None => Ok(shows(Next::Same, Message::Refused(Notice::SearchFailed))),
     }
 }
 
-fn or_last(alloc: Global, pattern: &[char], last: &[char]) -> Result<Chars, AllocError>
-    ensures { IfOk result (λ chars. chars ≡ spec.or_last pattern.now last.now) }
-{
-    if pattern.is_empty() {
-        Chars::from_slice(alloc, last)
-    } else {
-        Chars::from_slice(alloc, pattern)
-    }
-}
-
-/// The search in a direction, for its pattern or else for the one that was accepted last.
-fn turned(
+/// On to the next match in a direction, of the pattern or else of the one that was accepted last.
+fn goes_on(
     alloc: Global,
     search: &Search,
     direction: Direction,
+    text: &[char],
     last: &[char],
-) -> Result<Search, AllocError>
-    ensures { let due = spec.turned_search search.now direction last.now in
-        IfOk result (λ turned. turned ≡ due) }
-{
-    Ok(Search {
-        origin: search.origin,
-        direction,
-        pattern: or_last(alloc, search.pattern.as_slice(), last)?,
-        found: search.found,
-    })
-}
-
-fn goes_on(alloc: Global, search: Search, text: &[char]) -> Result<Reaction, AllocError>
-    ensures { let due = spec.goes_on search text.now in
+) -> Result<Reaction, AllocError>
+    ensures { let due = spec.goes_on (spec.turned_search search.now direction last.now) text.now in
         IfOk result (λ reaction. reaction ≡ due) }
 {
-    match sought(text, &search, past_match(&search)) {
-        Some((start, i)) => goes_to(alloc, search, start, i),
+    let pattern = search.pattern.as_slice();
+    let pattern = if pattern.is_empty() { last } else { pattern };
+    let turned = Search {
+        origin: search.origin,
+        direction,
+        pattern: Chars::from_slice(alloc, pattern)?,
+        found: search.found,
+    };
+    match sought(text, &turned, past_match(&turned)) {
+        Some((start, i)) => goes_to(alloc, turned, start, i),
         None => Ok(shows(
-            Next::Open(Prompt::Searching(search)),
+            Next::Open(Prompt::Searching(turned)),
             Message::Refused(Notice::SearchFailed),
         )),
     }
@@ -156,37 +127,27 @@ fn returns(alloc: Global, origin: usize, next: Next, message: Message) -> Reacti
     runs(Command::SearchForward { pattern, start }, next, message)
 }
 
-/// The search without the last character of its pattern, and without a match.
-fn shorter(alloc: Global, search: &Search) -> Result<Search, AllocError>
-    ensures { IfOk result (λ shorter. shorter ≡ spec.shorter search.now) }
+/// The search without the last character of its pattern, begun anew at its origin; where there is
+/// no match, point goes there. An empty pattern has none.
+fn shortened(alloc: Global, search: &Search, text: &[char]) -> Result<Reaction, AllocError>
+    ensures { IfOk result (λ reaction. reaction ≡ spec.anew (spec.shorter search.now) text.now) }
 {
-    Ok(Search {
-        origin: search.origin,
+    let origin = search.origin;
+    let shorter = Search {
+        origin,
         direction: search.direction,
         pattern: rubbed(alloc, search.pattern.as_slice())?,
         found: None,
-    })
-}
-
-/// Where a search that begins anew looks first; nowhere without a pattern.
-fn first_start(search: &Search) -> Option<usize>
-    ensures { result ≡ spec.first_start search.now }
-{
-    if search.pattern.as_slice().is_empty() {
-        return None;
-    }
-    Some(search.origin)
-}
-
-/// A search that begins anew at its origin; where there is no match, point goes there.
-fn anew(alloc: Global, search: Search, text: &[char]) -> Result<Reaction, AllocError>
-    ensures { IfOk result (λ reaction. reaction ≡ spec.anew search text.now) }
-{
-    match sought(text, &search, first_start(&search)) {
-        Some((start, i)) => goes_to(alloc, search, start, i),
+    };
+    let start = if shorter.pattern.as_slice().is_empty() {
+        None
+    } else {
+        Some(origin)
+    };
+    match sought(text, &shorter, start) {
+        Some((start, i)) => goes_to(alloc, shorter, start, i),
         None => {
-            let origin = search.origin;
-            let kept = Next::Open(Prompt::Searching(search));
+            let kept = Next::Open(Prompt::Searching(shorter));
             Ok(returns(alloc, origin, kept, Message::Nothing))
         }
     }
@@ -205,17 +166,9 @@ pub(crate) fn search_step(
 {
     match step {
         Step::Text(ch) => lengthened(alloc, search, *ch, text),
-        Step::Rub => anew(alloc, shorter(alloc, search)?, text),
-        Step::Next => goes_on(
-            alloc,
-            turned(alloc, search, Direction::Forward, last)?,
-            text,
-        ),
-        Step::Prev => goes_on(
-            alloc,
-            turned(alloc, search, Direction::Backward, last)?,
-            text,
-        ),
+        Step::Rub => shortened(alloc, search, text),
+        Step::Next => goes_on(alloc, search, Direction::Forward, text, last),
+        Step::Prev => goes_on(alloc, search, Direction::Backward, text, last),
         Step::Accept => Ok(Reaction::Accepts),
         Step::Cancel => Ok(returns(alloc, search.origin, Next::Closed, Message::Quit)),
         _ => Ok(unbound()),

@@ -4,18 +4,10 @@ use Rattle.mg_plain.specs.declared.steps.Direction.{Direction}
 use Rattle.mg_plain.specs.declared.steps.Direction.TheVariants.{Forward, Backward}
 use Rattle.mg_plain.specs.LineEnds.{line_begin, line_end}
 
--- from the begin of a line to the begin of the next one
-abbrev pub next_line_begin : List ℕ → ℕ → Option ℕ
-next_line_begin text b = if nat_lt (line_end text b) (length text) then Some (line_end text b + 1) else None
-
--- from the begin of a line to the begin of the one before
-abbrev pub previous_line_begin : List ℕ → ℕ → Option ℕ
-previous_line_begin text b = if nat_eq b 0 then None else Some (line_begin text (b - 1))
-
--- one line on or back
+-- from the begin of a line to the begin of the next one or of the one before
 abbrev pub line_step : Direction → List ℕ → ℕ → Option ℕ
-line_step Forward text b = next_line_begin text b
-line_step Backward text b = previous_line_begin text b
+line_step Forward text b = if nat_lt (line_end text b) (length text) then Some (line_end text b + 1) else None
+line_step Backward text b = if nat_eq b 0 then None else Some (line_begin text (b - 1))
 
 -- the place that a goal asks for in the line that begins there
 abbrev pub at_goal : List ℕ → ℕ → ℕ → ℕ

@@ -26,15 +26,7 @@ word_end text q = least_from (ends_word text) (q + 1) (length text)
 abbrev pub word_begin : List ℕ → ℕ → ℕ
 word_begin text q = greatest_up_to (begins_word text) (q - 1)
 
--- one step forward; there is none from the length
-abbrev pub word_forward : List ℕ → ℕ → Option ℕ
-word_forward text q = if nat_eq q (length text) then None else Some (word_end text q)
-
--- one step backward; there is none from 0
-abbrev pub word_backward : List ℕ → ℕ → Option ℕ
-word_backward text q = if nat_eq q 0 then None else Some (word_begin text q)
-
--- one word on or back
+-- one word on or back; there is none on from the length, and none back from 0
 abbrev pub word_step : Direction → List ℕ → ℕ → Option ℕ
-word_step Forward text q = word_forward text q
-word_step Backward text q = word_backward text q
+word_step Forward text q = if nat_eq q (length text) then None else Some (word_end text q)
+word_step Backward text q = if nat_eq q 0 then None else Some (word_begin text q)

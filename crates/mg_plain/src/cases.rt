@@ -14,22 +14,6 @@ use rga_ops::Splice;
 use std::alloc::{AllocError, Global};
 
 /// The characters on both sides of point change places.
-fn transpose(alloc: Global, view: &View<'_>) -> Result<Plan, Notice>
-    requires some { 0 < view.now.point }
-    requires more { view.now.point < length view.now.text }
-    ensures { IsEffectAnswer result (Ok (spec.transposition view.now)) }
-{
-    let before = view.text[view.point - 1];
-    let behind = view.text[view.point];
-    edit_once(
-        alloc,
-        view,
-        view.point - 1,
-        view.point + 1,
-        &[behind, before],
-    )
-}
-
 pub(crate) fn transpose_chars(alloc: Global, view: &View<'_>) -> Result<Plan, Notice>
     ensures { IsEffectAnswer result (spec.transpose_chars view.now) }
 {
@@ -39,7 +23,15 @@ pub(crate) fn transpose_chars(alloc: Global, view: &View<'_>) -> Result<Plan, No
     if view.point == view.text.len() {
         return Err(Notice::EndOfBuffer);
     }
-    transpose(alloc, view)
+    let before = view.text[view.point - 1];
+    let behind = view.text[view.point];
+    edit_once(
+        alloc,
+        view,
+        view.point - 1,
+        view.point + 1,
+        &[behind, before],
+    )
 }
 
 /// What becomes of the letters of a word.

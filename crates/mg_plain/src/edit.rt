@@ -1,5 +1,5 @@
 //! Splices, and what they do to places.
-ghost use Rattle.std.specs.Prelude.{◌≡◌, ◌∷◌, [], Ok, IfSome, IfOk};
+ghost use Rattle.std.specs.Prelude.{◌≡◌, ◌∷◌, [], Ok, IfSome};
 ghost use Rattle.mg_plain.specs.Splices.{splice};
 ghost use Rattle.mg_plain.specs.Answer.{IsEffectAnswer};
 ghost use Rattle.mg_plain.specs.Effect.{one_splice, carried_place, place_after, edit_effect};
@@ -8,7 +8,7 @@ use crate::outcome::{Notice, Plan};
 use crate::splice;
 use crate::view::{Kind, View};
 use rga_ops::Splice;
-use std::alloc::{AllocError, Global};
+use std::alloc::Global;
 
 /// Where a place goes as a splice is done; none past the greatest number.
 fn carry(splice: &Splice, q: usize) -> Option<usize>
@@ -88,21 +88,12 @@ pub(crate) fn change(
 ) -> Result<Plan, Notice>
     ensures { IsEffectAnswer result (Ok (edit_effect view.now (one_splice lo hi put.items))) }
 {
-    edit(view, one_splice(alloc, lo, hi, put)?)
-}
-
-fn one_splice(
-    alloc: Global,
-    lo: usize,
-    hi: usize,
-    put: Vec<char>,
-) -> Result<Vec<Splice>, AllocError>
-    ensures { IfOk result (λ v. v.items ≡ one_splice lo hi put.items) }
-{
     let mut splices = Vec::new(alloc);
     if lo == hi && put.as_slice().is_empty() {
-        return Ok(splices);
+        return edit(view, splices);
     }
-    splices.push(Splice { lo, hi, put })?;
-    Ok(splices)
+    let Ok(()) = splices.push(Splice { lo, hi, put }) else {
+        return Err(Notice::Memory);
+    };
+    edit(view, splices)
 }

@@ -11,13 +11,6 @@ use crate::splices::splice;
 use rga_ops::Splice;
 use std::alloc::{AllocError, Global};
 
-/// Whether a word goes into a line, behind so many columns and one space.
-fn fits(column: usize, used: usize, lo: usize, hi: usize) -> bool
-    ensures { result ≡ spec.fits column used (record { lo = lo; hi = hi }) }
-{
-    used < column && hi.saturating_sub(lo) < column - used
-}
-
 /// Whether two lists are the same.
 fn same(a: &[char], b: &[char]) -> bool
     ensures { result ≡ pointwise nat_eq a.now b.now }
@@ -73,7 +66,8 @@ fn push_joint(
             Ok(hi - lo)
         }
         Some(used) => {
-            if fits(column, used, lo, hi) {
+            // Whether the word goes into the line, behind one space.
+            if used < column && hi - lo < column - used {
                 push_gap(alloc, splices, text, at, lo, &[' '])?;
                 Ok(used + 1 + (hi - lo))
             } else {

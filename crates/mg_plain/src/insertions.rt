@@ -12,7 +12,7 @@ use crate::view::View;
 use std::alloc::{AllocError, Global};
 
 /// Characters at point, which goes behind them.
-fn type_in(alloc: Global, view: &View<'_>, chars: Vec<char>) -> Result<Plan, Notice>
+pub(crate) fn type_in(alloc: Global, view: &View<'_>, chars: Vec<char>) -> Result<Plan, Notice>
     ensures { IsEffectAnswer result (Ok (spec.typing view.now chars.items)) }
 {
     let count = chars.as_slice().len();
@@ -33,12 +33,6 @@ pub(crate) fn insert(alloc: Global, view: &View<'_>, ch: char, n: u16) -> Result
     ensures { IsEffectAnswer result (Ok (spec.insert ch n view.now)) }
 {
     type_in(alloc, view, repeated(alloc, ch, n)?)
-}
-
-pub(crate) fn insert_text(alloc: Global, view: &View<'_>, put: &[char]) -> Result<Plan, Notice>
-    ensures { IsEffectAnswer result (Ok (spec.typing view.now put.now)) }
-{
-    type_in(alloc, view, Vec::from_slice(alloc, put)?)
 }
 
 pub(crate) fn open_line(alloc: Global, view: &View<'_>, n: u16) -> Result<Plan, Notice>

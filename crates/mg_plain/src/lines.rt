@@ -5,32 +5,6 @@ ghost use Rattle.mg_plain.specs.Lines as spec;
 use crate::steps::Direction;
 use crate::{line_begin, line_end};
 
-/// The begin of the line behind the one that begins there.
-fn next_line_begin(text: &[char], begin: usize) -> Option<usize>
-    requires { begin ≤ length text.now }
-    ensures next { result ≡ spec.next_line_begin text.now begin }
-    ensures within { IfSome result (λ b. b ≤ length text.now) }
-{
-    let end = line_end(text, begin);
-    if end < text.len() {
-        Some(end + 1)
-    } else {
-        None
-    }
-}
-
-/// The begin of the line before the one that begins there.
-fn previous_line_begin(text: &[char], begin: usize) -> Option<usize>
-    requires { begin ≤ length text.now }
-    ensures previous { result ≡ spec.previous_line_begin text.now begin }
-    ensures within { IfSome result (λ b. b ≤ length text.now) }
-{
-    if begin == 0 {
-        return None;
-    }
-    Some(line_begin(text, begin - 1))
-}
-
 /// From the begin of a line to the begin of the next one or of the one before.
 pub(crate) fn line_step(text: &[char], begin: usize, direction: Direction) -> Option<usize>
     requires { begin ≤ length text.now }
@@ -38,7 +12,15 @@ pub(crate) fn line_step(text: &[char], begin: usize, direction: Direction) -> Op
     ensures within { IfSome result (λ b. b ≤ length text.now) }
 {
     match direction {
-        Direction::Forward => next_line_begin(text, begin),
-        Direction::Backward => previous_line_begin(text, begin),
+        Direction::Forward => {
+            let end = line_end(text, begin);
+            if end < text.len() {
+                Some(end + 1)
+            } else {
+                None
+            }
+        }
+        Direction::Backward if begin == 0 => None,
+        Direction::Backward => Some(line_begin(text, begin - 1)),
     }
 }

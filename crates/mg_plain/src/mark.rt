@@ -1,5 +1,5 @@
 //! The mark, and the region between it and point.
-ghost use Rattle.std.specs.Prelude.{◌≡◌, ◌≤◌, length, Ok};
+ghost use Rattle.std.specs.Prelude.{◌≡◌};
 ghost use Rattle.mg_plain.specs.Answer.{IsEffectAnswer};
 ghost use Rattle.mg_plain.specs.Mark as spec;
 
@@ -8,25 +8,14 @@ use crate::outcome::{Notice, Plan};
 use crate::view::View;
 use std::alloc::Global;
 
-fn mark_at(alloc: Global, view: &View<'_>, point: usize, mark: usize) -> Plan
+/// Point and mark go there.
+pub(crate) fn mark_at(alloc: Global, view: &View<'_>, point: usize, mark: usize) -> Plan
     ensures { result ≡ spec.point_and_mark view.now point mark }
 {
     Plan {
         mark: Some(mark),
         ..move_to(alloc, view, point)
     }
-}
-
-pub(crate) fn set_mark_command(alloc: Global, view: &View<'_>) -> Plan
-    ensures { result ≡ spec.set_mark_command view.now }
-{
-    mark_at(alloc, view, view.point, view.point)
-}
-
-pub(crate) fn mark_whole_buffer(alloc: Global, view: &View<'_>) -> Plan
-    ensures { result ≡ spec.mark_whole_buffer view.now }
-{
-    mark_at(alloc, view, 0, view.text.len())
 }
 
 pub(crate) fn exchange_point_and_mark(alloc: Global, view: &View<'_>) -> Result<Plan, Notice>
@@ -38,24 +27,16 @@ pub(crate) fn exchange_point_and_mark(alloc: Global, view: &View<'_>) -> Result<
     }
 }
 
-/// These characters become the kill buffer.
-fn copy_as_kill(alloc: Global, view: &View<'_>, lo: usize, hi: usize) -> Result<Plan, Notice>
-    requires order { lo ≤ hi }
-    requires within { hi ≤ length view.now.text }
-    ensures { IsEffectAnswer result (Ok (spec.copy_effect view.now lo hi)) }
+pub(crate) fn copy_region_as_kill(alloc: Global, view: &View<'_>) -> Result<Plan, Notice>
+    ensures { IsEffectAnswer result (spec.copy_region_as_kill view.now) }
 {
-    let chars = Vec::from_slice(alloc, &view.text[lo..hi])?;
+    let Some(mark) = view.mark else {
+        return Err(Notice::NoMark);
+    };
+    let region = &view.text[view.point.min(mark)..view.point.max(mark)];
+    let chars = Vec::from_slice(alloc, region)?;
     Ok(Plan {
         kill: Some(chars),
         ..move_to(alloc, view, view.point)
     })
-}
-
-pub(crate) fn copy_region_as_kill(alloc: Global, view: &View<'_>) -> Result<Plan, Notice>
-    ensures { IsEffectAnswer result (spec.copy_region_as_kill view.now) }
-{
-    match view.mark {
-        None => Err(Notice::NoMark),
-        Some(mark) => copy_as_kill(alloc, view, view.point.min(mark), view.point.max(mark)),
-    }
 }

@@ -41,18 +41,6 @@ pub(crate) fn backward_char(alloc: Global, view: &View<'_>, n: u16) -> Result<Pl
     Ok(move_to(alloc, view, view.point - usize::from(n)))
 }
 
-pub(crate) fn beginning_of_line(alloc: Global, view: &View<'_>) -> Plan
-    ensures { result ≡ spec.beginning_of_line view.now }
-{
-    move_to(alloc, view, line_begin(view.text, view.point))
-}
-
-pub(crate) fn end_of_line(alloc: Global, view: &View<'_>) -> Plan
-    ensures { result ≡ spec.end_of_line view.now }
-{
-    move_to(alloc, view, line_end(view.text, view.point))
-}
-
 /// What is answered where the text ends too soon.
 fn end_notice(direction: Direction) -> Notice
     ensures { result ≡ spec.end_notice direction }

@@ -7,20 +7,16 @@ ghost use Rattle.mg_plain.specs.declared.outcome.Notice.TheVariants.{Memory};
 use crate::cases::{Casing, recase_word, transpose_chars};
 use crate::command::Command;
 use crate::filling::fill_paragraph;
-use crate::insertions::{insert, insert_text, newline_and_indent, open_line, yank};
+use crate::insertions::{insert, newline_and_indent, open_line, type_in, yank};
 use crate::kills::{delete_backward_char, delete_char, kill_line, kill_region, kill_word};
-use crate::mark::{
-    copy_region_as_kill, exchange_point_and_mark, mark_whole_buffer, set_mark_command,
-};
-use crate::motions::{
-    backward_char, beginning_of_line, by_lines, by_words, end_of_line, forward_char, move_to,
-    scroll,
-};
+use crate::mark::{copy_region_as_kill, exchange_point_and_mark, mark_at};
+use crate::motions::{backward_char, by_lines, by_words, forward_char, move_to, scroll};
 use crate::outcome::{Notice, Plan};
 use crate::replacement::{replace_all, replace_one, replace_range};
 use crate::search::{search_backward, search_forward};
 use crate::steps::Direction;
 use crate::view::View;
+use crate::{line_begin, line_end};
 use std::alloc::Global;
 
 /// What a command does to a text with the argument and the fill column, or the notice why it is not
@@ -48,8 +44,8 @@ pub fn plan(
         Command::NewlineAndIndent => newline_and_indent(alloc, view),
         Command::ForwardChar => forward_char(alloc, view, arg),
         Command::BackwardChar => backward_char(alloc, view, arg),
-        Command::BeginningOfLine => Ok(beginning_of_line(alloc, view)),
-        Command::EndOfLine => Ok(end_of_line(alloc, view)),
+        Command::BeginningOfLine => Ok(move_to(alloc, view, line_begin(view.text, view.point))),
+        Command::EndOfLine => Ok(move_to(alloc, view, line_end(view.text, view.point))),
         Command::BeginningOfBuffer => Ok(move_to(alloc, view, 0)),
         Command::EndOfBuffer => Ok(move_to(alloc, view, view.text.len())),
         Command::NextLine => by_lines(alloc, view, arg, Direction::Forward),
@@ -65,9 +61,9 @@ pub fn plan(
         Command::KillRegion => kill_region(alloc, view),
         Command::CopyRegionAsKill => copy_region_as_kill(alloc, view),
         Command::Yank => yank(alloc, view),
-        Command::SetMarkCommand => Ok(set_mark_command(alloc, view)),
+        Command::SetMarkCommand => Ok(mark_at(alloc, view, view.point, view.point)),
         Command::ExchangePointAndMark => exchange_point_and_mark(alloc, view),
-        Command::MarkWholeBuffer => Ok(mark_whole_buffer(alloc, view)),
+        Command::MarkWholeBuffer => Ok(mark_at(alloc, view, 0, view.text.len())),
         Command::TransposeChars => transpose_chars(alloc, view),
         Command::UpcaseWord => recase_word(alloc, view, Casing::Upper),
         Command::DowncaseWord => recase_word(alloc, view, Casing::Lower),
@@ -90,7 +86,9 @@ pub fn plan(
             put.as_slice(),
             view,
         ),
-        Command::InsertText(put) => insert_text(alloc, view, put.as_slice()),
+        Command::InsertText(put) => {
+            type_in(alloc, view, Vec::from_slice(alloc, put.as_slice())?)
+        }
         Command::ReplaceRange { lo, hi, put } => {
             replace_range(alloc, view, *lo, *hi, put.as_slice())
         }

@@ -49,26 +49,6 @@ fn replacements(
     Ok((splices, end))
 }
 
-fn replace_each(
-    alloc: Global,
-    pattern: &[char],
-    put: &[char],
-    view: &View<'_>,
-) -> Result<Plan, Notice>
-    requires some { 0 < length pattern.now }
-    ensures { IsEffectAnswer result (Ok (spec.replacement_effect put.now
-        (spec.all_matches pattern.now view.now.text view.now.point) view.now)) }
-{
-    let (splices, end) = replacements(alloc, pattern, put, view.text, view.point)?;
-    match carry_over(splices.as_slice(), end) {
-        None => Err(Notice::Memory),
-        Some(point) => {
-            let plan = edit(view, splices)?;
-            Ok(Plan { point, ..plan })
-        }
-    }
-}
-
 pub(crate) fn replace_all(
     alloc: Global,
     pattern: &[char],
@@ -80,7 +60,12 @@ pub(crate) fn replace_all(
     if !stands_before_point(pattern, view) {
         return Err(Notice::SearchFailed);
     }
-    replace_each(alloc, pattern, put, view)
+    let (splices, end) = replacements(alloc, pattern, put, view.text, view.point)?;
+    let Some(point) = carry_over(splices.as_slice(), end) else {
+        return Err(Notice::Memory);
+    };
+    let plan = edit(view, splices)?;
+    Ok(Plan { point, ..plan })
 }
 
 pub(crate) fn replace_one(

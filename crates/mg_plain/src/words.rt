@@ -33,17 +33,6 @@ pub(crate) fn word_end(text: &[char], q: usize) -> usize
     e
 }
 
-fn word_forward(text: &[char], q: usize) -> Option<usize>
-    requires { q ≤ length text.now }
-    ensures next { result ≡ spec.word_forward text.now q }
-    ensures within { IfSome result (λ b. b ≤ length text.now) }
-{
-    if q == text.len() {
-        return None;
-    }
-    Some(word_end(text, q))
-}
-
 fn begins_word(text: &[char], q: usize) -> bool
     ensures { result ≡ spec.begins_word text.now q }
 {
@@ -66,17 +55,6 @@ fn word_begin(text: &[char], q: usize) -> usize
     b
 }
 
-fn word_backward(text: &[char], q: usize) -> Option<usize>
-    requires { q ≤ length text.now }
-    ensures previous { result ≡ spec.word_backward text.now q }
-    ensures within { IfSome result (λ b. b ≤ length text.now) }
-{
-    if q == 0 {
-        return None;
-    }
-    Some(word_begin(text, q))
-}
-
 /// One word on or back.
 pub(crate) fn word_step(text: &[char], q: usize, direction: Direction) -> Option<usize>
     requires { q ≤ length text.now }
@@ -84,7 +62,9 @@ pub(crate) fn word_step(text: &[char], q: usize, direction: Direction) -> Option
     ensures within { IfSome result (λ b. b ≤ length text.now) }
 {
     match direction {
-        Direction::Forward => word_forward(text, q),
-        Direction::Backward => word_backward(text, q),
+        Direction::Forward if q == text.len() => None,
+        Direction::Forward => Some(word_end(text, q)),
+        Direction::Backward if q == 0 => None,
+        Direction::Backward => Some(word_begin(text, q)),
     }
 }

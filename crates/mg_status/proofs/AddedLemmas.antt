@@ -1,5 +1,6 @@
 -- What is added in turn.
-use Rattle.std.proofs.Common.{◌≡◌, ℕ, List, [], ◌∷◌, ◌++◌, Ok, refl, sym, ap, subst, ◌∙◌, append_assoc, append-nil}
+use Rattle.std.proofs.Common.{◌≡◌, ◌≤◌, ℕ, List, [], ◌∷◌, ◌++◌, length, map, drop, Ok, refl, sym, ap, subst, ◌∙◌, append_assoc, append-nil}
+use Rattle.std.proofs.lemmas.List.{drop_all}
 use Rattle.std.specs.List.{flat_map}
 use Rattle.std.proofs.lemmas.Grind.{flat_map-append}
 use Rattle.json.specs.Json.{Json}
@@ -49,14 +50,7 @@ pub record Left (old new : Written) (all rest : List Json) : Type 0 where
   pub before : new.before ≡ old.before
   pub tokens : new.tokens ++ flat_map json_tokens rest ≡ old.tokens ++ flat_map json_tokens all
 
-pub left_first : {a : Written} {all : List Json} → Left a a all all
-left_first = record { before = refl; tokens = refl }
-
-pub left_next : {a b c : Written} {all rest : List Json} {j : Json} → Left a b all (j ∷ rest) → AddsValue b c j → Left a c all rest
-left_next {a} {b} {c} {all} {rest} {j} l h = record {
-  before = h.before ∙ l.before;
-  tokens = ap (λ (ts : List Token). ts ++ flat_map json_tokens rest) h.tokens ∙ append_assoc b.tokens (json_tokens j) (flat_map json_tokens rest) ∙ l.tokens;
-}
-
-pub left_none : {a b : Written} {all : List Json} → Left a b all [] → AddsValues a b all
-left_none {a} {b} {all} l = record { before = l.before; tokens = sym (append-nil b.tokens) ∙ l.tokens }
+pub left_none : {A : Type 0} {a b : Written} (f : A → Json) (xs : List A) (k : ℕ) → length xs ≤ k → Left a b (map f xs) (map f (drop k xs)) → AddsValues a b (map f xs)
+left_none {A} {a} {b} f xs k ends l =
+    let none : Left a b (map f xs) [] = subst (λ (ys : List A). Left a b (map f xs) (map f ys)) (drop_all k xs ends) l in
+    record { before = l.before; tokens = sym (append-nil b.tokens) ∙ none.tokens }

@@ -8,7 +8,6 @@ use Rattle.json.specs.Print.{print}
 use Rattle.json.specs.Tree.{json_tokens, depth, items_depth, members_depth}
 use Rattle.json.proofs.Printed.Trees.{value-json_tokens}
 use Rattle.rga_ops.specs.Splice.{Splice}
-use Rattle.mg_screen.specs.declared.screen.Position.{Position}
 use Rattle.mg_status.specs.Objects.{Member, items_of, members_of, value_or_null}
 use Rattle.mg_status.specs.StatusText.{
   buffer_parts,
@@ -24,20 +23,10 @@ use Rattle.mg_status.specs.StatusText.{
   refused_json,
   window_json,
   changes_members,
-  buffer_members,
-  live_members,
-  echo_members,
-  point_members,
-  report_members,
+  members_after_changes,
   status_members,
   status_json,
 }
-use Rattle.mg_status.specs.declared.status.BufferStatus.{BufferStatus}
-use Rattle.mg_status.specs.declared.status.PlaceStatus.{PlaceStatus}
-use Rattle.mg_status.specs.declared.status.PointStatus.{PointStatus}
-use Rattle.mg_status.specs.declared.status.PromptStatus.{PromptStatus}
-use Rattle.mg_status.specs.declared.status.RefusedReport.{RefusedReport}
-use Rattle.mg_status.specs.declared.status.WindowStatus.{WindowStatus}
 use Rattle.mg_status.specs.declared.status.Status.{Status}
 
 -- what was written of a value, and is read as the tokens that were written, is that value
@@ -60,72 +49,30 @@ appended : (ms ns : List Member) (n : ℕ) → members_depth (members_of ms) ≤
 appended [] ns n h k = k
 appended (m ∷ ms) ns n h k = omega (arith, appended ms ns n (omega arith) k)
 
--- ---- the values of members
-
-buffer_depth : (b : BufferStatus) → depth (buffer_json b) ≤ 2
-unfolding buffer_parts
-buffer_depth b = lit≤ tt
-
-splice_depth : (s : Splice) → depth (splice_json s) ≤ 1
-unfolding splice_parts
-splice_depth s = lit≤ tt
-
-prompt_depth : (p : PromptStatus) → depth (prompt_json p) ≤ 2
-unfolding prompt_parts
-prompt_depth p = lit≤ tt
-
-position_depth : (p : Position) → depth (position_json p) ≤ 2
-unfolding position_json
-position_depth p = lit≤ tt
-
-place_depth : (p : PlaceStatus) → depth (place_json p) ≤ 1
-unfolding place_json
-place_depth p = lit≤ tt
-
-point_depth : (p : PointStatus) → depth (point_json p) ≤ 2
-unfolding point_json
-point_depth p = lit≤ tt
-
-refused_depth : (r : RefusedReport) → depth (refused_json r) ≤ 1
-unfolding count_and_text
-refused_depth r = lit≤ tt
-
-window_depth : (w : WindowStatus) → depth (window_json w) ≤ 1
-unfolding count_and_text
-window_depth w = lit≤ tt
-
 -- ---- the members
 
 changes_depth : (o : Option (Bor (List Splice))) → members_depth (members_of (changes_members o)) ≤ 2
+unfolding splice_parts
 changes_depth None = omega arith
-changes_depth (Some splices) = omega (arith, items_shallow splice_json 1 splice_depth splices.now)
+changes_depth (Some splices) = omega (arith, items_shallow splice_json 1 (λ s. lit≤ tt) splices.now)
 
-buffer_members_depth : (s : Status) → members_depth (members_of (buffer_members s)) ≤ 2
-unfolding buffer_members
-buffer_members_depth s = omega (arith, buffer_depth s.buffer, changes_depth s.changes)
-
-live_members_depth : (s : Status) → members_depth (members_of (live_members s)) ≤ 2
-unfolding live_members
-live_members_depth s = omega (arith, or_null_shallow position_json 2 position_depth s.cursor, or_null_shallow buffer_json 2 buffer_depth s.live)
-
-echo_members_depth : (s : Status) → members_depth (members_of (echo_members s)) ≤ 2
-unfolding echo_members
-echo_members_depth s = omega arith
-
-point_members_depth : (s : Status) → members_depth (members_of (point_members s)) ≤ 2
-unfolding point_members
-point_members_depth s = omega (arith, items_shallow place_json 1 place_depth s.places.now, point_depth s.point, or_null_shallow prompt_json 2 prompt_depth s.prompt)
-
-report_members_depth : (s : Status) → members_depth (members_of (report_members s)) ≤ 2
-unfolding report_members
-report_members_depth s = omega (arith, items_shallow refused_json 1 refused_depth s.refused.now, items_shallow window_json 1 window_depth s.windows.now)
-
-members_depth_of : (s : Status) → members_depth (members_of (status_members s)) ≤ 2
-unfolding status_members
-members_depth_of s =
-    appended (buffer_members s) _ 2 (buffer_members_depth s)
-    (appended (live_members s) _ 2 (live_members_depth s)
-    (appended (echo_members s) _ 2 (echo_members_depth s) (appended (point_members s) _ 2 (point_members_depth s) (report_members_depth s))))
+after_changes_depth : (s : Status) → members_depth (members_of (members_after_changes s)) ≤ 2
+unfolding members_after_changes buffer_parts prompt_parts position_json place_json point_json count_and_text
+after_changes_depth s =
+    let point : depth (point_json s.point) ≤ 2 = lit≤ tt in
+    omega (
+      arith,
+      point,
+      or_null_shallow position_json 2 (λ p. lit≤ tt) s.cursor,
+      or_null_shallow buffer_json 2 (λ b. lit≤ tt) s.live,
+      or_null_shallow prompt_json 2 (λ p. lit≤ tt) s.prompt,
+      items_shallow place_json 1 (λ p. lit≤ tt) s.places.now,
+      items_shallow refused_json 1 (λ r. lit≤ tt) s.refused.now,
+      items_shallow window_json 1 (λ w. lit≤ tt) s.windows.now,
+    )
 
 pub status_depth : (s : Status) → depth (status_json s) ≤ max_depth
-status_depth s = omega (arith, members_depth_of s)
+unfolding status_members buffer_parts
+status_depth s =
+    let buffer : depth (buffer_json s.buffer) ≤ 2 = lit≤ tt in
+    omega (arith, buffer, appended (changes_members s.changes) _ 2 (changes_depth s.changes) (after_changes_depth s))

@@ -78,32 +78,21 @@ abbrev pub changes_members : Option (Bor (List Splice)) → List Member
 changes_members None = []
 changes_members (Some splices) = (codes "changes", array_of (map splice_json splices.now)) ∷ []
 
-unfoldable pub buffer_members : Status → List Member
-buffer_members s = (codes "begun", boolean s.begun) ∷ (codes "buffer", buffer_json s.buffer) ∷ changes_members s.changes
-
-unfoldable pub live_members : Status → List Member
-live_members s =
+unfoldable pub members_after_changes : Status → List Member
+members_after_changes s =
     (codes "cursor", value_or_null position_json s.cursor) ∷ (codes "keys", count s.keys)
-    ∷ (codes "live", value_or_null buffer_json s.live) ∷ (codes "loaded", boolean s.loaded) ∷ []
-
-unfoldable pub echo_members : Status → List Member
-echo_members s =
-    (codes "message", string s.message.now) ∷ (codes "mode", string (asking_name s.mode))
-    ∷ (codes "more", boolean s.more) ∷ (codes "operations", count s.operations) ∷ []
-
-unfoldable pub point_members : Status → List Member
-point_members s =
-    (codes "places", array_of (map place_json s.places.now)) ∷ (codes "point", point_json s.point)
-    ∷ (codes "prompt", value_or_null prompt_json s.prompt) ∷ []
-
-unfoldable pub report_members : Status → List Member
-report_members s =
-    (codes "refused", array_of (map refused_json s.refused.now)) ∷ (codes "reports", count s.reports)
+    ∷ (codes "live", value_or_null buffer_json s.live) ∷ (codes "loaded", boolean s.loaded)
+    ∷ (codes "message", string s.message.now) ∷ (codes "mode", string (asking_name s.mode))
+    ∷ (codes "more", boolean s.more) ∷ (codes "operations", count s.operations)
+    ∷ (codes "places", array_of (map place_json s.places.now)) ∷ (codes "point", point_json s.point)
+    ∷ (codes "prompt", value_or_null prompt_json s.prompt)
+    ∷ (codes "refused", array_of (map refused_json s.refused.now)) ∷ (codes "reports", count s.reports)
     ∷ (codes "rows", count s.rows) ∷ (codes "saved", string (saved_name s.saved))
     ∷ (codes "windows", array_of (map window_json s.windows.now)) ∷ []
 
 unfoldable pub status_members : Status → List Member
-status_members s = buffer_members s ++ (live_members s ++ (echo_members s ++ (point_members s ++ report_members s)))
+status_members s =
+    (codes "begun", boolean s.begun) ∷ (codes "buffer", buffer_json s.buffer) ∷ (changes_members s.changes ++ members_after_changes s)
 
 -- ---- the whole
 

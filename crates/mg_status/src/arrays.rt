@@ -1,37 +1,32 @@
 //! Members that are lists.
 ghost use Rattle.std.specs.Prelude.{OnOk, codes, map};
 ghost use Rattle.mg_status.specs.Objects.{array_of};
-ghost use Rattle.mg_status.specs.Added.{AddsMember, AddsValues};
-ghost use Rattle.mg_status.specs.StatusText.{place_json, refused_json, splice_json, window_json};
+ghost use Rattle.mg_status.specs.Added.{AddsMember, AddsMembers};
+ghost use Rattle.mg_status.specs.StatusText.{changes_members, place_json, refused_json, window_json};
 
 use crate::status::{PlaceStatus, RefusedReport, WindowStatus};
-use crate::values::{add_place, add_refusal, add_splice, add_window};
+use crate::values::{add_count_and_text, add_place, add_splice};
 use json::Writer;
 use rga_ops::Splice;
 use std::alloc::{AllocError, Global};
 
-/// Adds what changed in the text of the live buffer.
-pub(crate) fn add_splices(
+/// Adds what changed in the text of the live buffer, if it is told.
+pub(crate) fn add_changes(
     alloc: Global,
     writer: &mut Writer,
-    splices: &[Splice],
+    changes: Option<&[Splice]>,
 ) -> Result<(), AllocError>
-    ensures { OnOk result (AddsMember writer.old writer.new
-        (codes "changes") (array_of (map splice_json splices.now))) }
+    ensures { OnOk result (AddsMembers writer.old writer.new (changes_members changes.entry)) }
 {
+    let Some(splices) = changes else {
+        return Ok(());
+    };
     writer.key("changes")?;
     writer.begin_array()?;
-    each_splice(alloc, writer, splices)?;
-    writer.end_array()?;
-    Ok(())
-}
-
-fn each_splice(alloc: Global, writer: &mut Writer, splices: &[Splice]) -> Result<(), AllocError>
-    ensures { OnOk result (AddsValues writer.old writer.new (map splice_json splices.now)) }
-{
     for splice in splices {
         add_splice(alloc, writer, splice)?;
     }
+    writer.end_array()?;
     Ok(())
 }
 
@@ -42,17 +37,10 @@ pub(crate) fn add_places(writer: &mut Writer, places: &[PlaceStatus]) -> Result<
 {
     writer.key("places")?;
     writer.begin_array()?;
-    each_place(writer, places)?;
-    writer.end_array()?;
-    Ok(())
-}
-
-fn each_place(writer: &mut Writer, places: &[PlaceStatus]) -> Result<(), AllocError>
-    ensures { OnOk result (AddsValues writer.old writer.new (map place_json places.now)) }
-{
     for place in places {
         add_place(writer, place)?;
     }
+    writer.end_array()?;
     Ok(())
 }
 
@@ -63,17 +51,10 @@ pub(crate) fn add_refusals(writer: &mut Writer, reports: &[RefusedReport]) -> Re
 {
     writer.key("refused")?;
     writer.begin_array()?;
-    each_refusal(writer, reports)?;
-    writer.end_array()?;
-    Ok(())
-}
-
-fn each_refusal(writer: &mut Writer, reports: &[RefusedReport]) -> Result<(), AllocError>
-    ensures { OnOk result (AddsValues writer.old writer.new (map refused_json reports.now)) }
-{
     for report in reports {
-        add_refusal(writer, report)?;
+        add_count_and_text(writer, report.number, report.fault)?;
     }
+    writer.end_array()?;
     Ok(())
 }
 
@@ -87,16 +68,9 @@ pub(crate) fn add_windows(
 {
     writer.key("windows")?;
     writer.begin_array()?;
-    each_window(writer, windows)?;
-    writer.end_array()?;
-    Ok(())
-}
-
-fn each_window(writer: &mut Writer, windows: &[WindowStatus<'_>]) -> Result<(), AllocError>
-    ensures { OnOk result (AddsValues writer.old writer.new (map window_json windows.now)) }
-{
     for window in windows {
-        add_window(writer, window)?;
+        add_count_and_text(writer, window.rows as u64, window.name)?;
     }
+    writer.end_array()?;
     Ok(())
 }

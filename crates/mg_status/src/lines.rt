@@ -1,20 +1,15 @@
 //! The line of a status.
-ghost use Rattle.std.specs.Prelude.{◌≡◌, [], Some, IfOk, OnOk, string_bytes};
+ghost use Rattle.std.specs.Prelude.{◌≡◌, Some, IfOk, OnOk, string_bytes};
 ghost use Rattle.json.specs.Json.{document};
-ghost use Rattle.json.specs.Lex.{tokens};
-ghost use Rattle.json.specs.Print.{print};
-ghost use Rattle.mg_status.specs.Added.{AddsMembers, AddsValue};
-ghost use Rattle.mg_status.specs.StatusText.{asking_name, saved_name, changes_members};
-ghost use Rattle.mg_status.specs.StatusText.{buffer_members, live_members, echo_members};
-ghost use Rattle.mg_status.specs.StatusText.{point_members, report_members, status_members};
+ghost use Rattle.mg_status.specs.Added.{AddsValue};
+ghost use Rattle.mg_status.specs.StatusText.{asking_name, saved_name};
 ghost use Rattle.mg_status.specs.StatusText.{status_json, status_object, status_text};
 
-use crate::arrays::{add_places, add_refusals, add_splices, add_windows};
+use crate::arrays::{add_changes, add_places, add_refusals, add_windows};
 use crate::members::{add_count, add_flag, add_text};
 use crate::status::{Asking, Saved, Status};
 use crate::values::{add_buffer, add_cursor, add_live, add_point, add_prompt};
 use json::Writer;
-use rga_ops::Splice;
 use std::alloc::{AllocError, Global};
 
 /// Room for most statuses.
@@ -30,111 +25,37 @@ pub fn status_line(alloc: Global, status: &Status<'_>) -> Result<String, AllocEr
 {
     let mut writer = Writer::new(Vec::with_capacity(alloc, ROOM)?);
     add_status(alloc, &mut writer, status)?;
-    let mut line = written_text(writer);
+    let Ok(mut line) = String::from_utf8(writer.into_inner()) else {
+        unreachable!()
+    };
     line.push_str("\n")?;
     Ok(line)
-}
-
-/// What was written.
-fn written_text(writer: Writer) -> String
-    requires { writer.before ≡ [] }
-    ensures text { string_bytes result ≡ print writer.tokens }
-    ensures reads_back { tokens (print writer.tokens) ≡ writer.tokens }
-{
-    match String::from_utf8(writer.into_inner()) {
-        Ok(text) => text,
-        Err(_) => unreachable!(),
-    }
 }
 
 fn add_status(alloc: Global, writer: &mut Writer, status: &Status<'_>) -> Result<(), AllocError>
     ensures { OnOk result (AddsValue writer.old writer.new (status_json status.now)) }
 {
     writer.begin_object()?;
-    add_members(alloc, writer, status)?;
-    writer.end_object()?;
-    Ok(())
-}
-
-fn add_members(alloc: Global, writer: &mut Writer, status: &Status<'_>) -> Result<(), AllocError>
-    ensures { OnOk result (AddsMembers writer.old writer.new (status_members status.now)) }
-{
-    add_buffer_members(alloc, writer, status)?;
-    add_live_members(writer, status)?;
-    add_echo_members(writer, status)?;
-    add_point_members(alloc, writer, status)?;
-    add_report_members(writer, status)?;
-    Ok(())
-}
-
-fn add_buffer_members(
-    alloc: Global,
-    writer: &mut Writer,
-    status: &Status<'_>,
-) -> Result<(), AllocError>
-    ensures { OnOk result (AddsMembers writer.old writer.new (buffer_members status.now)) }
-{
     add_flag(writer, "begun", status.begun)?;
     add_buffer(writer, "buffer", &status.buffer)?;
     add_changes(alloc, writer, status.changes)?;
-    Ok(())
-}
-
-/// Adds the changes, if they are told.
-fn add_changes(
-    alloc: Global,
-    writer: &mut Writer,
-    changes: Option<&[Splice]>,
-) -> Result<(), AllocError>
-    ensures { OnOk result (AddsMembers writer.old writer.new (changes_members changes.entry)) }
-{
-    if let Some(splices) = changes {
-        add_splices(alloc, writer, splices)?;
-    }
-    Ok(())
-}
-
-fn add_live_members(writer: &mut Writer, status: &Status<'_>) -> Result<(), AllocError>
-    ensures { OnOk result (AddsMembers writer.old writer.new (live_members status.now)) }
-{
     add_cursor(writer, &status.cursor)?;
     add_count(writer, "keys", status.keys)?;
     add_live(writer, &status.live)?;
     add_flag(writer, "loaded", status.loaded)?;
-    Ok(())
-}
-
-fn add_echo_members(writer: &mut Writer, status: &Status<'_>) -> Result<(), AllocError>
-    ensures { OnOk result (AddsMembers writer.old writer.new (echo_members status.now)) }
-{
     add_text(writer, "message", status.message)?;
     add_text(writer, "mode", name_of_asking(status.mode))?;
     add_flag(writer, "more", status.more)?;
     add_count(writer, "operations", status.operations as u64)?;
-    Ok(())
-}
-
-fn add_point_members(
-    alloc: Global,
-    writer: &mut Writer,
-    status: &Status<'_>,
-) -> Result<(), AllocError>
-    ensures { OnOk result (AddsMembers writer.old writer.new (point_members status.now)) }
-{
     add_places(writer, status.places)?;
     add_point(writer, &status.point)?;
     add_prompt(alloc, writer, &status.prompt)?;
-    Ok(())
-}
-
-fn add_report_members(writer: &mut Writer, status: &Status<'_>) -> Result<(), AllocError>
-    ensures { OnOk result (AddsMembers writer.old writer.new (report_members status.now)) }
-{
     add_refusals(writer, status.refused)?;
     add_count(writer, "reports", status.reports)?;
     add_count(writer, "rows", status.rows as u64)?;
     add_text(writer, "saved", name_of_saved(status.saved))?;
     add_windows(writer, status.windows)?;
+    writer.end_object()?;
     Ok(())
 }
 

@@ -1,8 +1,8 @@
 //! Members of an object, each with its name.
-ghost use Rattle.std.specs.Prelude.{◌≡◌, OnOk, IfOk, encode_utf8_all, map, string_bytes};
+ghost use Rattle.std.specs.Prelude.{OnOk, encode_utf8_all};
 ghost use Rattle.json.specs.Json.{boolean, null, string};
 ghost use Rattle.mg_status.specs.Objects.{count, counts};
-ghost use Rattle.mg_status.specs.Added.{AddsMember, AddsValue, AddsValues};
+ghost use Rattle.mg_status.specs.Added.{AddsMember, AddsValue};
 
 use json::Writer;
 use std::alloc::{AllocError, Global};
@@ -53,21 +53,10 @@ pub(crate) fn add_characters(
     ensures { OnOk result
         (AddsMember writer.old writer.new name.now (string (encode_utf8_all value.now))) }
 {
-    let text = string_of(alloc, value)?;
+    let text: String = value.iter().copied().collect(alloc)?;
     writer.key(name)?;
     writer.string(&text)?;
     Ok(())
-}
-
-/// Characters in UTF-8.
-fn string_of(alloc: Global, characters: &[char]) -> Result<String, AllocError>
-    ensures { IfOk result (λ text. string_bytes text ≡ encode_utf8_all characters.now) }
-{
-    let mut text = String::with_capacity(alloc, characters.len())?;
-    for c in characters {
-        text.push(*c)?;
-    }
-    Ok(text)
 }
 
 /// Adds a member that is numbers between brackets.
@@ -88,16 +77,9 @@ pub(crate) fn add_counts(writer: &mut Writer, values: &[u64]) -> Result<(), Allo
     ensures { OnOk result (AddsValue writer.old writer.new (counts values.now)) }
 {
     writer.begin_array()?;
-    each_count(writer, values)?;
-    writer.end_array()?;
-    Ok(())
-}
-
-fn each_count(writer: &mut Writer, values: &[u64]) -> Result<(), AllocError>
-    ensures { OnOk result (AddsValues writer.old writer.new (map count values.now)) }
-{
     for value in values {
         writer.u64(*value)?;
     }
+    writer.end_array()?;
     Ok(())
 }

@@ -1,6 +1,8 @@
-use Rattle.mg_status.proofs.AddedLemmas.{next, token, array_added}
+use Rattle.mg_status.specs.StatusText.{place_json}
+use Rattle.mg_status.proofs.AddedLemmas.{next, token, array_added, left_none}
 use Rattle.mg_status.proofs.arrays.add_places.Goals as goal
 
 pub returns : goal.returns
 returns c =
-    next (token c.in_ok-key.ensures) (array_added _ (token c.in_ok-begin_array.ensures) c.in_ok-each_place.ensures (token c.in_ok-end_array.ensures))
+    let all = left_none place_json c.args.places.now c.loop-place.place-index c.loop-place-test.false c.loop-place.invariant in
+    next (token c.in_ok-key.ensures) (array_added _ (token c.in_ok-begin_array.ensures) all (token c.in_ok-end_array.ensures))

@@ -8,5 +8,5 @@ pub returns-clause-reads_back : goal.returns-clause-reads_back
 returns-clause-reads_back c =
     read_back (status_json c.args.status.now) c.add_status.new.writer.tokens
     (c.in_ok-add_status.ensures.tokens ∙ ap (λ ts. ts ++ json_tokens (status_json c.args.status.now)) c.new-writer.ensures.tokens)
-    c.written_text-line.ensures.reads_back
+    c.into_inner.ensures.reads_back
     (status_depth c.args.status.now)

@@ -1,6 +1,10 @@
-use Rattle.mg_status.proofs.AddedLemmas.{next, token, object_added}
+use Rattle.mg_status.specs.StatusText.{buffer_parts}
+use Rattle.mg_status.proofs.AddedLemmas.{nothing, next, token, object_added}
 use Rattle.mg_status.proofs.values.add_buffer.Goals as goal
 
 pub returns : goal.returns
+unfolding buffer_parts
 returns c =
-    next (token c.in_ok-key.ensures) (object_added _ (token c.in_ok-begin_object.ensures) c.in_ok-add_buffer_parts.ensures (token c.in_ok-end_object.ensures))
+    next (token c.in_ok-key.ensures) (object_added (buffer_parts c.args.buffer.now) (token c.in_ok-begin_object.ensures)
+    (next c.in_ok-add_flag.ensures (next c.in_ok-add_text.ensures (next c.in_ok-add_count.ensures (next c.in_ok-add_count-2.ensures nothing))))
+    (token c.in_ok-end_object.ensures))
