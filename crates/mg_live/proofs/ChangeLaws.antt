@@ -24,9 +24,6 @@ none_with_nothing [] = refl
 none_with_nothing (x ∷ xs) = refl
 
 -- one of them ended
-pub old_ended : (old new : List ℕ) (i : ℕ) → length old ≤ i → common_front (drop i old) (drop i new) ≡ 0
-old_ended old new i over = ap (λ xs. common_front xs (drop i new)) (drop_all i old over)
-
 pub new_ended : (old new : List ℕ) (i : ℕ) → length new ≤ i → common_front (drop i old) (drop i new) ≡ 0
 new_ended old new i over = ap (λ xs. common_front (drop i old) xs) (drop_all i new over) ∙ none_with_nothing (drop i old)
 
