@@ -149,12 +149,8 @@ module _ (byte : ℕ) (before taken : Moment) (k : TakesKey byte before taken) (
 -- ---- any event
 
 -- nothing was asked of the port
-same_held : (told made : List Call) (s t : Held) (a b : Moment) → b.calls ≡ a.calls → a.calls ≡ Some told → b.calls ≡ Some (told ++ made) → MayLead made s t
-    → (name : List ℕ) → t name ≡ s name
-same_held told made s t a b same calls adds leads = nothing_made told made s t (sym adds ∙ same ∙ calls) leads
-
-so_held : (s t : Held) → ((name : List ℕ) → t name ≡ s name) → t ≡ s
-so_held s t same = λ k. λ name. same name k
+same_held : (told made : List Call) (s t : Held) (a b : Moment) → b.calls ≡ a.calls → a.calls ≡ Some told → b.calls ≡ Some (told ++ made) → MayLead made s t → t ≡ s
+same_held told made s t a b same calls adds leads = λ k. λ name. nothing_made told made s t (sym adds ∙ same ∙ calls) leads name k
 
 -- a report that could not be read
 line_refused : (fault : LineFault) (before after : Moment) → RefusesLine fault before.live after.live after.course
@@ -193,7 +189,7 @@ module _ (s t : Held) (told made : List Call) (leads : MayLead made s t) where
         spares = λ none. refl;
       } in
       subst (λ (u : Held). Goes before after s u (λ d. GoesOn (operations_at line) before.editor.work.buffers s d u))
-      (sym (so_held s t (same_held told made s t before after still calls adds leads))) here
+      (sym (same_held told made s t before after still calls adds leads)) here
   event_goes (refused fault) before after (taken, same) stands within later calls adds =
       let is = line_refused fault before after taken same in
       let so = as_before s before after is (stands_so s before stands) in
@@ -205,4 +201,4 @@ module _ (s t : Held) (told made : List Call) (leads : MayLead made s t) where
         spares = λ none. refl;
       } in
       subst (λ (u : Held). Goes before after s u (λ d. GoesOn [] before.editor.work.buffers s d u))
-      (sym (so_held s t (same_held told made s t before after is.calls calls adds leads))) here
+      (sym (same_held told made s t before after is.calls calls adds leads)) here

@@ -111,17 +111,13 @@ module _ (byte : ℕ) (before taken : Moment) (k : TakesKey byte before taken) (
 
     module _ (t : Held) (told more : List Call) (calls : before.calls ≡ Some told) (adds : taken.calls ≡ Some (told ++ more)) (leads : MayLead more s t) (later : AreKept taken.editor.work.buffers) (spelled : (n : List ℕ) → request_of k.answer ≡ Find n → all_scalars n ≡ true) where
       pub carried : Carried (request_of k.answer) (Some told) (Some (told ++ more)) asking taken.editor k.carry_answer
-      carried =
-          subst (λ c. Carried (request_of k.answer) (Some told) c asking taken.editor k.carry_answer) adds
-          (subst (λ c. Carried (request_of k.answer) c taken.calls asking taken.editor k.carry_answer) calls k.carried)
+      carried = rw (calls, adds) at k.carried
 
       abbrev MetSo : Type 0
       MetSo = Meets (Some told) (Some (told ++ more)) asking.work.buffers taken.editor.work.buffers
 
       met : IfSome (role_of (request_of k.answer)) (λ _. MetSo)
-      met =
-          subst (λ c. IfSome (role_of (request_of k.answer)) (λ _. Meets (Some told) c asking.work.buffers taken.editor.work.buffers)) adds
-          (subst (λ c. IfSome (role_of (request_of k.answer)) (λ _. Meets c taken.calls asking.work.buffers taken.editor.work.buffers)) calls k.met)
+      met = rw (calls, adds) at k.met
 
       pub meets : (role : Role) → role_of (request_of k.answer) ≡ Some role → Meets (Some told) (Some (told ++ more)) asking.work.buffers taken.editor.work.buffers
       meets role is = subst (λ (o : Option Role). IfSome o (λ _. MetSo)) is met

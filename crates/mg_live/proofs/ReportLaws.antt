@@ -65,12 +65,6 @@ PastedSo e live f next verdict a = MatchResult a
     (λ _. (noted : Bool) × (verdict ≡ Ok noted) × (next ≡ with_made (is_live live.name e.work.buffers.current e) noted (made_at e.work.buffers.current e f) live))
     (λ fault. (verdict ≡ Err (of_paste fault)) × (next ≡ live))
 
-abbrev read_well : Report → Result Report LineFault
-read_well told = Ok told
-
-abbrev read_badly : Result Report LineFault
-read_badly = Err line.Memory
-
 -- ---- what stands of a session then, and how each open buffer came to be
 
 module _ (name : List ℕ) (right : all_scalars name ≡ true) (s : Held) (e : Editor) where
@@ -251,11 +245,8 @@ module _ (name : List ℕ) (right : all_scalars name ≡ true) (s : Held) (e : E
             → MatchResult read (λ told. TakesReport told e (counted live) f next after) (λ fault. (f ≡ e) × RefusesReport (Line fault) On (counted live) next after)
             → Came (operations_at bytes) f next
         by (Ok told) at it =
-            let is : report_at bytes ≡ Ok told = sym (exact (λ bad. clash told at bad)) ∙ at in
+            let is : report_at bytes ≡ Ok told = sym (exact (λ bad. absurd cc)) ∙ at in
             subst (λ (x : Result Report LineFault). Came (operations_read x) f next) (sym is) (reported told it)
-          where
-            clash : (told : Report) → r ≡ Ok told → r ≡ Err line.Memory → ⊥
-            clash told at bad = let both : read_well told ≡ read_badly = sym at ∙ bad in absurd cc
         by (Err fault) at (same, so) =
             let keeps = refused_keeps (Line fault) On (counted live) next after so in
             stays_with live stands named (operations_at bytes) f next same (record { untold = keeps.untold; name = keeps.name })
