@@ -1,5 +1,5 @@
 -- A session stands after a key.
-use Rattle.std.proofs.Common.{◌≡◌, inl, inr, ◌∙◌, ◌++◌, ℕ, Bool, true, false, List, [], ◌∷◌, Option, Some, refl, sym, ap, subst, true≢false}
+use Rattle.std.proofs.Common.{arith, ◌≡◌, inl, inr, ◌∙◌, ◌++◌, ℕ, true, false, List, [], Option, Some, refl, sym, ap, subst}
 use Rattle.std.specs.Prelude.{encode_utf8_all, IfSome}
 use Rattle.std.specs.Str.{all_scalars}
 use Rattle.rga_ops.specs.declared.op.Op.{Op}
@@ -56,15 +56,8 @@ goes_on name ops old new s t right stands kept own go = record {
   safe = still_safe (encode_utf8_all name) old.work new.work s t kept go ops stands.logged stands.safe (open_or_not name old.work.buffers right stands.kept.named);
 }
 
-abbrev changed_with : OpenState → List Op → Bool
-changed_with b ops = is_changed (record b { buffer = record b.buffer { unsaved = ops } })
-
 no_unsaved : (b : OpenState) → is_changed b ≡ false → b.buffer.unsaved ≡ []
-no_unsaved b unchanged = by b.buffer.unsaved refl
-  where
-    by : (ops : List Op) → b.buffer.unsaved ≡ ops → b.buffer.unsaved ≡ []
-    by [] is = is
-    by (op ∷ ops) is = absurd (true≢false (sym (ap (changed_with b) is) ∙ unchanged))
+no_unsaved b unchanged = grind arith
 
 module _ (byte : ℕ) (before taken : Moment) (k : TakesKey byte before taken) (s : Held) where
   -- the editor that the request was carried from

@@ -1,8 +1,7 @@
 -- What is made and not told stays safe.
-use Rattle.std.proofs.Common.{◌≡◌, ◌∙◌, ◌<◌, ◌++◌, ℕ, Bool, true, false, List, [], length, take, drop, Option, Some, None, refl, sym, ap, subst, append-nil, true≢false}
-use Rattle.std.specs.Prelude.{if◌then◌else◌, encode_utf8_all, nat_eq}
+use Rattle.std.proofs.Common.{arith, ◌≡◌, ◌∙◌, ◌<◌, ◌++◌, ℕ, Bool, true, false, List, [], length, take, drop, Option, Some, None, refl, sym, ap, subst, append-nil}
+use Rattle.std.specs.Prelude.{encode_utf8_all, nat_eq}
 use Rattle.std.specs.List.{Contains}
-use Rattle.std.specs.Option.{is_some}
 use Rattle.std.proofs.lemmas.Bool.{eqb-true}
 use Rattle.std.proofs.lemmas.List.{take-append-drop}
 use Rattle.std.proofs.lemmas.List.Elements.{Contains-append_right, Contains-get_or}
@@ -89,21 +88,7 @@ module _ (name : List ℕ) (s : Held) (e : Editor) (own : HaveOwnNames e.work.bu
 
 -- the live buffer is at that index
 pub live_there : (name : List ℕ) (i : ℕ) (e : Editor) → is_live name i e ≡ true → live_index name e ≡ Some i
-live_there name i e is = by (live_index name e) refl is
-  where
-    by : (o : Option ℕ) → live_index name e ≡ o → elim o [ Some k ↦ nat_eq k i | None ↦ false ] ≡ true → live_index name e ≡ Some i
-    by (Some k) at same = at ∙ ap Some (eqb-true k i same)
-    by None at same = absurd (true≢false (sym same))
+live_there name i e is = grind (arith, eqb-true)
 
 pub opened_keeps_name : (noted : Bool) (old e : Editor) (live : Live) → (with_opened noted old e live).name ≡ live.name
-opened_keeps_name noted old e live = by (is_some (live_index live.name old)) (is_some (live_index live.name e))
-  where
-    by : (was now : Bool) → (if was then live else (if now then record live {
-      telling = record live.telling {
-        untold = if noted then live.telling.untold ++ opened_operations live.name old e else live.telling.untold;
-        took = false;
-      };
-    } else live)).name ≡ live.name
-    by true now = refl
-    by false true = refl
-    by false false = refl
+opened_keeps_name noted old e live = grind arith

@@ -1,5 +1,5 @@
 -- What a live session is answered by tells of its devices.
-use Rattle.std.proofs.Common.{◌≡◌, ℕ, ◌&&◌, not, Bool, true, false, List, [], ◌∷◌, Option, Some, None, Result, Ok, Err, rules, refl, sym, ap, subst, ◌∙◌, true≢false, inl, inr, ◌⊎◌}
+use Rattle.std.proofs.Common.{arith, ◌≡◌, ℕ, ◌&&◌, not, Bool, true, false, List, [], ◌∷◌, Option, Some, None, Result, Ok, Err, rules, refl, sym, ap, subst, ◌∙◌, ◌⊎◌}
 use Rattle.std.proofs.lemmas.Bool.{and_parts}
 use Rattle.std.specs.Bool.{MatchBool}
 use Rattle.std.specs.Result.{MatchResult}
@@ -13,7 +13,7 @@ use Rattle.mg_session.specs.Courses.{is_on}
 use Rattle.mg_session.specs.Keys.{course_behind, request_of}
 use Rattle.mg_session.specs.Moments.{Known, seen}
 use Rattle.mg_session.specs.declared.course.Course.{Course}
-use Rattle.mg_session.specs.declared.course.Course.TheVariants.{On, NoKeys, NoScreen, NoMemory}
+use Rattle.mg_session.specs.declared.course.Course.TheVariants.{On, NoKeys, NoMemory}
 use Rattle.mg_session.proofs.StandingLaws.{TellsOf, IsFine, is_calm, on_calm, request_calm, calm_fine, calm_tells, whole_tells, begun_tells}
 use Rattle.mg_session.proofs.TakenLaws.{after_step}
 use Rattle.mg_live.specs.Blocks.{EndsBlock, Writes, Tells, has_more, saves_due, writing_due}
@@ -32,17 +32,13 @@ either true f g m = f m
 either false f g m = g m
 
 can_calm : (course : Course) → can_show course ≡ true → is_calm course ≡ true
-can_calm NoKeys is = absurd (true≢false (sym is))
-can_calm NoScreen is = absurd (true≢false (sym is))
-can_calm course is = refl
+can_calm course is = grind arith
 
 pub memory_calm : (has_memory : Bool) (course : Course) → is_calm course ≡ true → is_calm (if_memory has_memory course) ≡ true
-memory_calm true course calm = calm
-memory_calm false course calm = refl
+memory_calm has_memory course calm = grind arith
 
 either_calm : {A B : Type 0} (before after : Course) → is_calm before ≡ true → (A × (after ≡ before)) ⊎ (B × (after ≡ NoMemory)) → is_calm after ≡ true
-either_calm before after calm (inl (left, same)) = ap is_calm same ∙ calm
-either_calm before after calm (inr (left, same)) = ap is_calm same
+either_calm before after calm so = grind arith
 
 follows_calm : (verdict : Verdict) (live next : Live) (after : Course) → Follows verdict live next after → is_calm after ≡ true
 follows_calm (Ok noted) live next after (left, same) = ap is_calm same ∙ memory_calm noted On refl

@@ -63,8 +63,7 @@ reads_more bytes {reading} {next} {left} {a} {b} {c} {from} {mid} {rest} on read
 -- ---- a session
 
 pub quits_not : (course : Course) → course ≢ Quit → quits course ≡ false
-quits_not Quit other = absurd (other refl)
-quits_not course other = refl
+quits_not course other = grind arith
 
 module _ {R : Type 0} (remaining : R → Known) {keys rest : Calls R} {a n b r : Moment} {start left : Reading} where
   pub runs_quit : Noted a n → EndsBlock n b → start ≡ fresh → ReadsKeys start b left r (seen remaining keys) (seen remaining rest) → r.course ≡ Quit
