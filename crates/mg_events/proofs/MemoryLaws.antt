@@ -2,7 +2,6 @@
 use Rattle.std.proofs.Common.{◌≡◌, ◌≢◌, ℕ, Bool, true, false, List, [], ◌∷◌, ◌++◌, refl, ap, ◌∙◌, subst, inl, inr}
 use Rattle.std.specs.Prelude.{◌==◌, if◌then◌else◌}
 use Rattle.rga_lines.specs.declared.fault.LineFault.TheVariants as fault
-use Rattle.mg_events.specs.declared.reader.Phase.{Phase}
 use Rattle.mg_events.specs.declared.reader.Phase.TheVariants.{Keys, Report, Dropping}
 use Rattle.mg_events.specs.declared.reader.Event.{Event}
 use Rattle.mg_events.specs.declared.reader.Event.TheVariants.{Key, Line, Refused, Nothing}
@@ -14,10 +13,6 @@ none_behind (Key b) next more h = h.1
 none_behind Line next more h = h.1
 none_behind (Refused f) next more h = h.1
 none_behind Nothing next more h = h
-
-is_report : Phase → Bool
-is_report Report = true
-is_report _ = false
 
 abbrev short_of_memory : Reading
 short_of_memory = dropping fault.Memory

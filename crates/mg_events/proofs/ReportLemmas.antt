@@ -14,35 +14,56 @@ use Rattle.rga_lines.specs.declared.fault.LineFault.{LineFault}
 use Rattle.rga_lines.specs.declared.fault.LineFault.TheVariants as fault
 use Rattle.rga_lines.specs.Table as table
 use Rattle.rga_lines.specs.Table.{AnyReading, value_line, text_line, any_line_at}
+use Rattle.mg_events.specs.Faults.{ReportKind, paste_report, splice_report, size_report, places_report, rest_report, kinds, kind_among}
 use Rattle.mg_events.specs.Reports.{ReportReading, member_count, paste, splice, size, places, rest, operations_report, of_kind, with_name, value_report, text_report, report_at}
 
 abbrev of_other_kind : AnyReading
 of_other_kind = Err fault.Kind
 
--- ---- by value
+-- ---- by name
 
-unless_named : (name word : List ℕ) (said : AnyReading) (first others : ReportReading) → (name ≡ word → said ≡ of_other_kind) → said ≢ of_other_kind
-    → others ≡ operations_report said → (if bytes_eq name word then first else others) ≡ operations_report said
-unless_named name word said first others unknown other same = by (bytes_eq name word) refl
-  where
-    by : (b : Bool) → bytes_eq name word ≡ b → (if b then first else others) ≡ operations_report said
-    by true e = absurd (other (unknown ((bytes_eq-Decides name word).0 e)))
-    by false e = same
+-- What a report says, and of which kind it is, by its name: it is one of these, or none.
+module _ (P : ReportReading → Option ReportKind → Type 0) (name : List ℕ) where
+  chosen : (word : List ℕ) (first others : ReportReading) (kind : ReportKind) (more : Option ReportKind) → (name ≡ word → P first (Some kind)) → P others more
+      → P (if bytes_eq name word then first else others) (if bytes_eq name word then Some kind else more)
+  chosen word first others kind more here later = by (bytes_eq name word) refl
+    where
+      by : (b : Bool) → bytes_eq name word ≡ b → P (if b then first else others) (if b then Some kind else more)
+      by true e = here ((bytes_eq-Decides name word).0 e)
+      by false e = later
+
+  pub by_kind : (said : AnyReading) (d : Data)
+      → (name ≡ codes "paste" → P (paste (member_count d) d) (Some paste_report))
+      → (name ≡ codes "splice" → P (splice (member_count d) d) (Some splice_report))
+      → (name ≡ codes "size" → P (size (member_count d) d) (Some size_report))
+      → (name ≡ codes "places" → P (places (member_count d) d) (Some places_report))
+      → (name ≡ codes "rest" → P (rest (member_count d)) (Some rest_report))
+      → P (operations_report said) None → P (of_kind said d name) (kind_among kinds name)
+  by_kind said d pasted spliced sized placed rested other =
+      let m : ℕ = member_count d in
+      let r4 : ReportReading = (if bytes_eq name (codes "rest") then rest m else operations_report said) in
+      let r3 : ReportReading = (if bytes_eq name (codes "places") then places m d else r4) in
+      let r2 : ReportReading = (if bytes_eq name (codes "size") then size m d else r3) in
+      let r1 : ReportReading = (if bytes_eq name (codes "splice") then splice m d else r2) in
+      let k4 : Option ReportKind = (if bytes_eq name (codes "rest") then Some rest_report else None) in
+      let k3 : Option ReportKind = (if bytes_eq name (codes "places") then Some places_report else k4) in
+      let k2 : Option ReportKind = (if bytes_eq name (codes "size") then Some size_report else k3) in
+      let k1 : Option ReportKind = (if bytes_eq name (codes "splice") then Some splice_report else k2) in
+      chosen (codes "paste") (paste m d) r1 paste_report k1 pasted
+      (chosen (codes "splice") (splice m d) r2 splice_report k2 spliced
+      (chosen (codes "size") (size m d) r3 size_report k3 sized
+      (chosen (codes "places") (places m d) r4 places_report k4 placed
+      (chosen (codes "rest") (rest m) (operations_report said) rest_report None rested other))))
+
+-- ---- by value
 
 named_other : (said : AnyReading) (n : ℕ) (d : Data) (name : List ℕ) → said ≡ table.of_kind n d name → said ≢ of_other_kind
     → of_kind said d name ≡ operations_report said
 named_other said n d name is other =
-    let m : ℕ = member_count d in
-    let last : ReportReading = operations_report said in
-    let rests : ReportReading = (if bytes_eq name (codes "rest") then rest m else last) in
-    let placed : ReportReading = (if bytes_eq name (codes "places") then places m d else rests) in
-    let sized : ReportReading = (if bytes_eq name (codes "size") then size m d else placed) in
-    let spliced : ReportReading = (if bytes_eq name (codes "splice") then splice m d else sized) in
-    unless_named name (codes "paste") said (paste m d) spliced (λ e. is ∙ ap (table.of_kind n d) e) other
-    (unless_named name (codes "splice") said (splice m d) sized (λ e. is ∙ ap (table.of_kind n d) e) other
-    (unless_named name (codes "size") said (size m d) placed (λ e. is ∙ ap (table.of_kind n d) e) other
-    (unless_named name (codes "places") said (places m d) rests (λ e. is ∙ ap (table.of_kind n d) e) other
-    (unless_named name (codes "rest") said (rest m) last (λ e. is ∙ ap (table.of_kind n d) e) other refl))))
+    by_kind (λ r kind. r ≡ operations_report said) name said d
+    (λ e. absurd (other (is ∙ ap (table.of_kind n d) e))) (λ e. absurd (other (is ∙ ap (table.of_kind n d) e)))
+    (λ e. absurd (other (is ∙ ap (table.of_kind n d) e))) (λ e. absurd (other (is ∙ ap (table.of_kind n d) e)))
+    (λ e. absurd (other (is ∙ ap (table.of_kind n d) e))) refl
 
 op_other : (said : AnyReading) (n : ℕ) (d : Data) (op : Option Data) → said ≡ table.with_op n d op → said ≢ of_other_kind
     → with_name said d (option_and_then as_str op) ≡ operations_report said
@@ -65,10 +86,10 @@ value_other (object ms) other =
 
 -- ---- by bytes
 
-abbrev line_by : Bool → Bool → Option Data → AnyReading
+abbrev pub line_by : Bool → Bool → Option Data → AnyReading
 line_by long utf8 d = if long then Err fault.Long else text_line utf8 d
 
-abbrev report_by : Bool → Bool → Option Data → ReportReading
+abbrev pub report_by : Bool → Bool → Option Data → ReportReading
 report_by long utf8 d = if long then Err fault.Long else text_report utf8 d
 
 parts_other : (long utf8 : Bool) (d : Option Data) → line_by long utf8 d ≢ of_other_kind → report_by long utf8 d ≡ operations_report (line_by long utf8 d)

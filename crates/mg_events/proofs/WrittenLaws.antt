@@ -68,19 +68,13 @@ has_room : (n k m : ℕ) → n + suc k ≤ m → n < m
 has_room n k m h = omega (arith, h)
 
 one_longer : (done : List ℕ) (b k m : ℕ) → length done + suc k ≤ m → length (done ++ b ∷ []) + k ≤ m
-one_longer done b k m h =
-    let e : length (done ++ b ∷ []) ≡ length done + 1 = length-append done (b ∷ []) in
-    rw e (omega (arith, h))
+one_longer done b k m h = omega (arith, h, length-append done (b ∷ []))
 
 still_long : (done : List ℕ) (b k m : ℕ) → m < length done + suc k → m < length (done ++ b ∷ []) + k
-still_long done b k m h =
-    let e : length (done ++ b ∷ []) ≡ length done + 1 = length-append done (b ∷ []) in
-    rw e (omega (arith, h))
+still_long done b k m h = omega (arith, h, length-append done (b ∷ []))
 
 still_fits : (done : List ℕ) (b m : ℕ) → length done < m → length (done ++ b ∷ []) ≤ m
-still_fits done b m h =
-    let e : length (done ++ b ∷ []) ≡ length done + 1 = length-append done (b ∷ []) in
-    rw e (omega (arith, h))
+still_fits done b m h = omega (arith, h, length-append done (b ∷ []))
 
 is_too_much : (n m : ℕ) → n ≤ m → m < n + 0 → ⊥
 is_too_much n m h g = omega (arith, h, g)

@@ -2,7 +2,7 @@
 use Rattle.std.proofs.Common.{◌≡◌, ◌≤◌, ◌+◌, ◌-◌, ℕ, zero, suc, List, [], ◌∷◌, ◌++◌, length, take, drop, reverse, if◌then◌else◌, arith, ap, sym, ◌∙◌}
 use Rattle.std.proofs.Math.Seq.{drop-append_seam}
 use Rattle.std.proofs.lemmas.Bool.{eq-eqb}
-use Rattle.std.proofs.lemmas.List.{reverse-reverse, reverse-append, length-reverse, length-drop, take_all, take-append-drop, drop-drop, drop_all}
+use Rattle.std.proofs.lemmas.List.{reverse-reverse, reverse-append, length-reverse, length-drop, take_all, take-append-drop, drop-drop}
 use Rattle.mg_live.specs.Changes.{common_front, common_end}
 use Rattle.mg_live.proofs.ChangeTextLaws.{tail_reversed}
 
@@ -61,12 +61,11 @@ pub front_known : (n : ℕ) (old new : List ℕ) → n ≤ length old → n ≤ 
 front_known n old new in_old in_new alike = sym (goes_on n old new in_old in_new alike)
 
 pub end_known : (n : ℕ) (old new : List ℕ) → n ≤ length old → n ≤ length new → drop (length old - n) old ≡ drop (length new - n) new
-    → n + common_end (take (length old - n) old) (take (length new - n) new) ≡ common_end old new
+    → n + common_front (drop n (reverse old)) (drop n (reverse new)) ≡ common_end old new
 end_known n old new in_old in_new alike =
     let reversed : take n (reverse old) ≡ take n (reverse new) =
     sym (reverse-reverse (take n (reverse old))) ∙ ap reverse (sym (tail_reversed old n) ∙ alike ∙ tail_reversed new n) ∙ reverse-reverse (take n (reverse new)) in
-    sym (λ k. n + common_front (front_reversed old n in_old k) (front_reversed new n in_new k))
-    ∙ front_known n (reverse old) (reverse new) (omega (arith, in_old, length-reverse old)) (omega (arith, in_new, length-reverse new)) reversed
+    front_known n (reverse old) (reverse new) (omega (arith, in_old, length-reverse old)) (omega (arith, in_new, length-reverse new)) reversed
 
 pub whole_rest : (n : ℕ) (xs : List ℕ) → take (length xs - n) (drop n xs) ≡ drop n xs
 whole_rest n xs = take_all (length xs - n) (drop n xs) (omega (arith, length-drop n xs))
@@ -81,6 +80,3 @@ less_alike lo less more old new le in_old in_new all_old all_new alike = from ol
     from xs within all =
         let place : lo + (length (drop lo xs) - less) ≡ length xs - more + (more - less) = omega (arith, le, within, all, length-drop lo xs) in
         drop-drop (length (drop lo xs) - less) lo xs ∙ ap (λ n. drop n xs) place ∙ sym (drop-drop (more - less) (length xs - more) xs)
-
-pub nothing_alike : (old new : List ℕ) → drop (length old - 0) old ≡ drop (length new - 0) new
-nothing_alike old new = drop_all (length old - 0) old (omega arith) ∙ sym (drop_all (length new - 0) new (omega arith))

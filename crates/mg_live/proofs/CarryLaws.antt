@@ -17,10 +17,10 @@ use Rattle.mg_workspace.specs.Names.{buffer_named}
 use Rattle.mg_workspace.specs.Workspaces.{Workspace, workspace_buffer}
 use Rattle.mg_editor.specs.Carrying.{Carried}
 use Rattle.mg_editor.specs.Editors.{Editor}
-use Rattle.mg_editor.specs.Finding.{Loads, Opening, opening_outcome, unopened}
+use Rattle.mg_editor.specs.Finding.{Loads, Opening, unopened}
 use Rattle.mg_editor.specs.Holding.{AreOpen, HaveOwnNames, IsOpen}
 use Rattle.mg_editor.specs.Meeting.{role_of}
-use Rattle.mg_editor.specs.Telling.{CarryAnswer, TellsOutcome}
+use Rattle.mg_editor.specs.Telling.{CarryAnswer}
 use Rattle.mg_editor.proofs.CallLaws.{AllSpare, all_spared}
 use Rattle.mg_editor.proofs.CourseLaws.{save_goes}
 use Rattle.mg_editor.proofs.EachLaws.{stay_here, nothing_made}
@@ -29,11 +29,8 @@ use Rattle.mg_editor.proofs.RequestLaws.{request_goes}
 use Rattle.mg_live.specs.Keys.{Meets}
 use Rattle.mg_live.proofs.MeetingLaws.{course_spares}
 use Rattle.mg_live.proofs.NameLaws.{none_so}
+use Rattle.mg_live.proofs.NumberLaws.{AskedFor}
 use Rattle.mg_live.proofs.StageLaws.{Comes, GoOn}
-
-abbrev ToldFind : List ℕ → Option (List Call) → Option (List Call) → Editor → Editor → CarryAnswer → Option Editor → Type 0
-ToldFind name calls more old new r None = TellsOutcome (Loads (encode_utf8_all name) calls more) opening_outcome old new r
-ToldFind name calls more old new r (Some now) = (more ≡ calls) × (new ≡ now) × (r ≡ Ok tt)
 
 loads_spare : (name other : List ℕ) (given : Result Files PortFault) → AllSpare other (load_told given name)
 loads_spare name other (Ok found) = (inr (λ f g e. e), tt)
@@ -54,7 +51,7 @@ module _ (before made : List Call) (s t : Held) (leads : MayLead made s t) where
   find_leaves : (name other : List ℕ) (old new : Editor) (r : CarryAnswer) → Carried (request.Find name) (Some before) (Some (before ++ made)) old new r → t other ≡ s other
   find_leaves name other old new r h = by (unopened (buffer_named name old.work.buffers.all) old) h
     where
-      by : (o : Option Editor) → ToldFind name (Some before) (Some (before ++ made)) old new r o → t other ≡ s other
+      by : (o : Option Editor) → AskedFor name (Some before) (Some (before ++ made)) old new r o → t other ≡ s other
       by None told = loads_leave (encode_utf8_all name) other told.came old.work new.work told.became
       by (Some now) (more, is, answer) = nothing_made before made s t more leads other
 
@@ -77,7 +74,7 @@ module _ (before made : List Call) (s t : Held) (leads : MayLead made s t) where
     asked_one : (n : List ℕ) (r : CarryAnswer) → all_scalars n ≡ true → Carried (request.Find n) (Some before) (Some (before ++ made)) old new r → Each
     asked_one n r spelled h d c = by (buffer_named n old.work.buffers.all) refl h
       where
-        by : (at : Option ℕ) → buffer_named n old.work.buffers.all ≡ at → ToldFind n (Some before) (Some (before ++ made)) old new r (unopened at old) → Comes Live old.work s d t
+        by : (at : Option ℕ) → buffer_named n old.work.buffers.all ≡ at → AskedFor n (Some before) (Some (before ++ made)) old new r (unopened at old) → Comes Live old.work s d t
         by (Some i) at (more, is, answer) =
             inl ([], stay_here old.work.buffers new.work.buffers.all s t (ap (λ (e : Editor). e.work.buffers.all) is) (nothing_made before made s t more leads) d c)
         by None at told = elim (request_goes (request.Find n) before made old new r s t refl are own h leads d c) [

@@ -1,7 +1,6 @@
 -- What two texts have in common at their begins.
-use Rattle.std.proofs.Common.{◌≡◌, ◌≢◌, inl, inr, ◌<◌, ◌≤◌, ◌+◌, ℕ, suc, List, [], ◌∷◌, length, drop, get_or, nat_eq, reverse, ◌-◌, true, false, if◌then◌else◌, refl, ap, ◌∙◌, sym, subst}
+use Rattle.std.proofs.Common.{ne_eqb, ◌≡◌, ◌≢◌, ◌<◌, ◌≤◌, ◌+◌, ℕ, suc, List, [], ◌∷◌, length, drop, get_or, nat_eq, reverse, ◌-◌, true, false, if◌then◌else◌, refl, ap, ◌∙◌, sym, subst}
 use Rattle.std.proofs.lemmas.Bool.{eq-eqb}
-use Rattle.std.proofs.lemmas.Bool.Decides.{eqb_tells}
 use Rattle.std.proofs.lemmas.List.{drop_more, drop_all, get_or-reverse, length-reverse}
 use Rattle.mg_live.specs.Changes.{common_front}
 
@@ -24,19 +23,10 @@ none_with_nothing [] = refl
 none_with_nothing (x ∷ xs) = refl
 
 -- one of them ended
-pub old_ended : (old new : List ℕ) (i : ℕ) → length old ≤ i → common_front (drop i old) (drop i new) ≡ 0
-old_ended old new i over = ap (λ xs. common_front xs (drop i new)) (drop_all i old over)
-
 pub new_ended : (old new : List ℕ) (i : ℕ) → length new ≤ i → common_front (drop i old) (drop i new) ≡ 0
 new_ended old new i over = ap (λ xs. common_front (drop i old) xs) (drop_all i new over) ∙ none_with_nothing (drop i old)
 
 -- ---- at their ends
-
-is_other : (a b : ℕ) → a ≢ b → nat_eq a b ≡ false
-is_other a b other = elim (eqb_tells a b) [
-  | inl (same, is) ↦ absurd (other is)
-  | inr (unlike, is) ↦ unlike
-]
 
 module _ (old new : List ℕ) (i d : ℕ) (before : i < length old) (within : i < length new) where
   before_reversed : i < length (reverse old)
@@ -54,4 +44,4 @@ module _ (old new : List ℕ) (i d : ℕ) (before : i < length old) (within : i 
 
   pub next_other_at_end : get_or old (length old - 1 - i) d ≢ get_or new (length new - 1 - i) d
       → common_front (drop i (reverse old)) (drop i (reverse new)) ≡ 0
-  next_other_at_end unlike = next_unlike (reverse old) (reverse new) i d before_reversed within_reversed (ends ∙ is_other _ _ unlike)
+  next_other_at_end unlike = next_unlike (reverse old) (reverse new) i d before_reversed within_reversed (ends ∙ ne_eqb _ _ unlike)

@@ -1,11 +1,10 @@
 -- A change makes the text.
-use Rattle.std.proofs.Common.{◌≡◌, ◌≤◌, ◌+◌, ◌-◌, ℕ, suc, Bool, true, false, List, [], ◌∷◌, ◌++◌, length, take, drop, reverse, nat_eq, if◌then◌else◌, arith, refl, ap, sym, subst, ◌∙◌, true≢false}
+use Rattle.std.proofs.Common.{◌≡◌, ◌≤◌, ◌+◌, ◌-◌, ℕ, suc, Bool, true, false, List, [], ◌∷◌, ◌++◌, length, take, drop, reverse, nat_eq, if◌then◌else◌, arith, refl, ap, sym, subst, ◌∙◌}
 use Rattle.std.specs.Prelude.{Option, Some, None, slice_range}
 use Rattle.std.proofs.Math.Seq.{drop-append_seam}
 use Rattle.std.proofs.lemmas.Bool.{eq-eqb, eqb-true}
 use Rattle.std.proofs.lemmas.List.{append_assoc, reverse-reverse, reverse-append, length-reverse, length-drop, length-take, take-append-drop, drop-drop, nil_from_length}
 use Rattle.std.proofs.lemmas.List.Folds.{drop_split}
-use Rattle.std.proofs.lemmas.Option.{none-some, same_Some}
 use Rattle.rga_ops.specs.Splice.{Splice, spliced}
 use Rattle.rga_exchange.specs.Counting.{one_more}
 use Rattle.mg_live.specs.Changes.{Changes, common_front, common_end, splice_between, change_between, noted}
@@ -24,8 +23,7 @@ front_is_same (x ∷ xs) [] = refl
 front_is_same (x ∷ xs) (y ∷ ys) = take_step (nat_eq x y) (common_front xs ys) x y xs ys (eqb-true x y) (front_is_same xs ys)
 
 bound_step : (b : Bool) (n m : ℕ) → n ≤ m → (if b then suc n else 0) ≤ m + 1
-bound_step true n m within = omega (arith, within)
-bound_step false n m within = omega arith
+bound_step b n m within = grind arith
 
 length_more : (x : ℕ) (xs : List ℕ) → length (x ∷ xs) ≡ length xs + 1
 length_more x xs = omega arith
@@ -98,14 +96,10 @@ module _ (old new : List ℕ) where
 -- ---- the change, if there is any
 
 picked : (a b : Bool) (s t : Splice) → (if a then (if b then None else Some s) else Some s) ≡ Some t → s ≡ t
-picked true true s t is = absurd (none-some t is)
-picked true false s t is = same_Some s t is
-picked false b s t is = same_Some s t is
+picked a b s t is = grind arith
 
 left_out : (a b : Bool) (s : Splice) → (if a then (if b then None else Some s) else Some s) ≡ None → (a ≡ true) × (b ≡ true)
-left_out true true s is = (refl, refl)
-left_out true false s is = absurd (none-some s (sym is))
-left_out false b s is = absurd (none-some s (sym is))
+left_out a b s is = grind arith
 
 is_between : (old new : List ℕ) (s : Splice) → change_between old new ≡ Some s → splice_between old new ≡ s
 is_between old new s is =
@@ -135,9 +129,7 @@ front_of_itself (x ∷ xs) =
     ap (λ b. if b then suc (common_front xs xs) else 0) (eq-eqb x x refl) ∙ ap suc (front_of_itself xs)
 
 left_out_if : (a b : Bool) (s : Splice) → a ≡ true → b ≡ true → (if a then (if b then None else Some s) else Some s) ≡ None
-left_out_if true true s at empty = refl
-left_out_if true false s at empty = absurd (true≢false (sym empty))
-left_out_if false b s at empty = absurd (true≢false (sym at))
+left_out_if a b s at empty = grind arith
 
 pub no_change_of_itself : (text : List ℕ) → change_between text text ≡ None
 no_change_of_itself text =

@@ -4,7 +4,6 @@ use Rattle.std.specs.Prelude.{encode_utf8_all}
 use Rattle.std.specs.List.{Contains}
 use Rattle.std.specs.Str.{all_scalars}
 use Rattle.rga_ops.specs.declared.op.Op.{Op}
-use Rattle.rga_ops.proofs.OperationLaws.{Contains-nil}
 use Rattle.mg_buffer.specs.OpenState.{OpenState}
 use Rattle.mg_files.specs.Calls.{Call}
 use Rattle.mg_held.specs.Held.{Held, MayLead}
@@ -28,25 +27,17 @@ use Rattle.rga_lines.specs.declared.fault.LineFault.{LineFault}
 use Rattle.mg_live.specs.Reports.{TakesLine, RefusesLine, counted}
 use Rattle.mg_live.specs.Running.{Noted, TakesEvent}
 use Rattle.mg_live.specs.Standing.{AreKept, AreKeptWithin, ComesBy, Stands, live_name, operations_at}
-use Rattle.mg_live.specs.States.{Moment}
+use Rattle.mg_live.specs.States.{Live, Moment}
 use Rattle.mg_live.specs.declared.fault.ReportFault.TheVariants.{Line}
-use Rattle.mg_live.proofs.BlockLaws.{Same, as_before}
-use Rattle.mg_live.proofs.KeyLaws.{StandsSo, asking_stands, carried, meets, key_stands, key_name, noted_stands, request_goes_on}
-use Rattle.mg_live.proofs.MadeLaws.{notes_keep}
+use Rattle.mg_live.proofs.BlockLaws.{Goes, Same, as_before}
+use Rattle.mg_live.proofs.KeyLaws.{asking_stands, carried, meets, key_stands, key_name, noted_stands, request_goes_on, stands_at, stands_so}
 use Rattle.mg_live.proofs.NameLaws.{open_or_not}
 use Rattle.mg_live.proofs.NumberLaws.{KeepsNumbers, carry_numbers, numbers_as, numbers_on, press_numbers, same_numbers}
 use Rattle.mg_live.proofs.TakenKeyLaws.{said_work}
 use Rattle.mg_live.proofs.ReportLaws.{Came, line_came, refused_keeps}
+use Rattle.mg_live.proofs.ToldLaws.{notes_so}
 
 -- ---- steps after steps
-
-takes_none : (ops : List Op) (steps : List BufferStep) → TakesOnly [] steps → TakesOnly ops steps
-takes_none ops [] only = tt
-takes_none ops (Saves answer ∷ steps) only = takes_none ops steps only
-takes_none ops (Runs call old new ∷ steps) only = takes_none ops steps only
-takes_none ops (Undoes old new ∷ steps) only = takes_none ops steps only
-takes_none ops (Takes xs ∷ steps) only = ((λ op has. absurd (Contains-nil op (only.0 op has))), takes_none ops steps only.1)
-takes_none ops (Rests ∷ steps) only = takes_none ops steps only
 
 takes_both : (ops : List Op) (xs ys : List BufferStep) → TakesOnly ops xs → TakesOnly ops ys → TakesOnly ops (xs ++ ys)
 takes_both ops [] ys one two = two
@@ -66,16 +57,27 @@ goes_both [] ys b c d r s t writable (is, here) later =
 goes_both (step ∷ xs) ys b c d r s t writable (o, v, first, more) later = (o, v, first, goes_both xs ys o c d v s t writable more later)
 
 on_from : (ops : List Op) (bs mid : Buffers) (s t : Held) (d : OpenState) → ((c : OpenState) → Contains mid.all c → IsWritableWhole c.buffer.content)
-    → ((c : OpenState) → Contains mid.all c → GoesOn [] bs s c s) → GoesOn ops mid s d t → GoesOn ops bs s d t
+    → ((c : OpenState) → Contains mid.all c → GoesOn ops bs s c s) → GoesOn ops mid s d t → GoesOn ops bs s d t
 on_from ops bs mid s t d writable press go =
     let one = press go.b go.was in
     record {
       b = one.b;
       was = one.was;
       steps = one.steps ++ Rests ∷ go.steps;
-      takes = takes_both ops one.steps (Rests ∷ go.steps) (takes_none ops one.steps one.takes) go.takes;
+      takes = takes_both ops one.steps (Rests ∷ go.steps) one.takes go.takes;
       goes = goes_both one.steps go.steps one.b go.b d s s t (writable go.b go.was) one.goes go.goes;
     }
+
+-- ---- how the text changed is noted beside
+
+noted_editor : (taken after : Moment) → Noted taken after → after.editor ≡ taken.editor
+noted_editor taken after (notes, same) = ap (λ (m : Moment). m.editor) same
+
+noted_calls : (taken after : Moment) → Noted taken after → after.calls ≡ taken.calls
+noted_calls taken after (notes, same) = ap (λ (m : Moment). m.calls) same
+
+noted_name : (taken after : Moment) → Noted taken after → after.live.name ≡ taken.live.name
+noted_name taken after (notes, same) = ap (λ (l : Live). l.name) (notes_so taken.editor taken.course taken.live after.live after.course notes).1
 
 -- ---- a key
 
@@ -92,29 +94,20 @@ module _ (byte : ℕ) (before taken : Moment) (k : TakesKey byte before taken) (
   from_own : HaveOwnNames from.work.buffers
   from_own = (asking_stands byte before taken k s stands now).own
 
-  press : (c : OpenState) → Contains from.work.buffers.all c → GoesOn [] before.editor.work.buffers s c s
-  press c there =
-      pressed_on [] s byte before.editor k.pressed k.answer stands.kept.are now.are k.presses c (subst (λ (w : Workspace). Contains w.buffers.all c) from_work there)
+  press : (ops : List Op) (c : OpenState) → Contains from.work.buffers.all c → GoesOn ops before.editor.work.buffers s c s
+  press ops c there =
+      pressed_on ops s byte before.editor k.pressed k.answer stands.kept.are now.are k.presses c (subst (λ (w : Workspace). Contains w.buffers.all c) from_work there)
 
   further : (ops : List Op) (d : OpenState) → GoesOn ops from.work.buffers s d t → GoesOn ops before.editor.work.buffers s d t
-  further ops d go = on_from ops before.editor.work.buffers from.work.buffers s t d from_kept.are.writable press go
+  further ops d go = on_from ops before.editor.work.buffers from.work.buffers s t d from_kept.are.writable (press ops) go
 
-  pub key_numbers : KeepsNumbers before.editor.work taken.editor.work
+  key_numbers : KeepsNumbers before.editor.work taken.editor.work
   key_numbers =
       numbers_on before.editor.work k.pressed.work taken.editor.work (press_numbers byte before.editor k.pressed k.answer k.presses)
       (numbers_on k.pressed.work from.work taken.editor.work (same_numbers k.pressed.work from.work from_work)
       (carry_numbers (request_of k.answer) before.calls taken.calls from taken.editor k.carry_answer k.carried))
 
-  -- what is held stays, if no buffer of that name is open afterwards
-  pub key_spares : (IsOpen (live_name before) taken.editor.work.buffers → ⊥) → t (live_name before) ≡ s (live_name before)
-  key_spares none =
-      let go = request_goes_on byte before taken k s stands now t told made calls adds leads later spelled in
-      elim (open_or_not before.live.name from.work.buffers stands.spelled from_kept.named) [
-        | inl (b, c, is) ↦ (go.removed b c is none).1
-        | inr closed ↦ go.spared closed
-      ]
-
-  pub key_each : (d : OpenState) → Contains taken.editor.work.buffers.all d
+  key_each : (d : OpenState) → Contains taken.editor.work.buffers.all d
       → ((ops : List Op) × (role_of (request_of k.answer) ≡ None → ops ≡ []) × GoesOn ops before.editor.work.buffers s d t)
       ⊎ ((name : List ℕ) × IsOpenedBy name k.pressed.work s d t)
   key_each d c = by (role_of (request_of k.answer)) refl
@@ -135,27 +128,29 @@ module _ (byte : ℕ) (before taken : Moment) (k : TakesKey byte before taken) (
           clash : (role : Role) → Some role ≡ None → ⊥
           clash role same = absurd cc
 
+  pub key_goes : (after : Moment) (noted : Noted taken after) → Goes before after s t (λ d. ComesBy (key byte) before after (taken, k, noted) s d t)
+  key_goes after noted =
+      let editor = noted_editor taken after noted in
+      let named = key_name byte before taken k s stands now t told made calls adds leads later spelled in
+      let go = request_goes_on byte before taken k s stands now t told made calls adds leads later spelled in
+      let gone = λ (none : IsOpen (live_name before) after.editor.work.buffers → ⊥) (found : IsOpen (live_name before) taken.editor.work.buffers).
+      none (subst (λ (e : Editor). IsOpen (live_name before) e.work.buffers) (sym editor) found) in
+      record {
+        stands = noted_stands taken after t before.live.name stands.spelled named (key_stands byte before taken k s stands now t told made calls adds leads later spelled) noted;
+        name = noted_name taken after noted ∙ named;
+        numbers = numbers_on before.editor.work taken.editor.work after.editor.work key_numbers (same_numbers taken.editor.work after.editor.work (ap (λ (e : Editor). e.work) editor));
+        each = λ d c. key_each d (subst (λ (e : Editor). Contains e.work.buffers.all d) editor c);
+        spares = λ none. elim (open_or_not before.live.name from.work.buffers stands.spelled from_kept.named) [
+          | inl (b, c, is) ↦ (go.removed b c is (gone none)).1
+          | inr closed ↦ go.spared closed
+        ];
+      }
+
 -- ---- any event
 
-noted_editor : (taken after : Moment) → Noted taken after → after.editor ≡ taken.editor
-noted_editor taken after (notes, same) = ap (λ (m : Moment). m.editor) same
-
-noted_calls : (taken after : Moment) → Noted taken after → after.calls ≡ taken.calls
-noted_calls taken after (notes, same) = ap (λ (m : Moment). m.calls) same
-
-noted_name : (taken after : Moment) → Noted taken after → after.live.name ≡ taken.live.name
-noted_name taken after (notes, same) = (notes_keep taken.editor taken.course after.course taken.live after.live notes).name
-
 -- nothing was asked of the port
-same_held : (told made : List Call) (s t : Held) (a b : Moment) → b.calls ≡ a.calls → a.calls ≡ Some told → b.calls ≡ Some (told ++ made) → MayLead made s t
-    → (name : List ℕ) → t name ≡ s name
-same_held told made s t a b same calls adds leads = nothing_made told made s t (sym adds ∙ same ∙ calls) leads
-
-so_held : (s t : Held) → ((name : List ℕ) → t name ≡ s name) → t ≡ s
-so_held s t same = λ k. λ name. same name k
-
-at_first : (s : Held) (m : Moment) → Stands s m → StandsSo m.live.name m.live.telling.untold m.editor s
-at_first s m stands = record { kept = stands.kept; own = stands.own; logged = stands.logged; safe = stands.untold }
+same_held : (told made : List Call) (s t : Held) (a b : Moment) → b.calls ≡ a.calls → a.calls ≡ Some told → b.calls ≡ Some (told ++ made) → MayLead made s t → t ≡ s
+same_held told made s t a b same calls adds leads = λ k. λ name. nothing_made told made s t (sym adds ∙ same ∙ calls) leads name k
 
 -- a report that could not be read
 line_refused : (fault : LineFault) (before after : Moment) → RefusesLine fault before.live after.live after.course
@@ -174,88 +169,36 @@ module _ (s t : Held) (told made : List Call) (leads : MayLead made s t) where
   report_came : (line : List ℕ) (before after mid : Moment) (stands : Stands s before) → TakesLine line before.editor before.live mid.editor mid.live mid.course
       → AreKept mid.editor.work.buffers → Came before.live.name stands.spelled s before.editor (operations_at line) mid.editor mid.live
   report_came line before after mid stands taken later =
-      line_came before.live.name stands.spelled s before.editor before.live (at_first s before stands) refl mid.editor mid.live mid.course later line taken
+      line_came before.live.name stands.spelled s before.editor before.live (stands_so s before stands) refl mid.editor mid.live mid.course later line taken
 
-  pub event_stands : (event : Told) (before after : Moment) (taken : TakesEvent event before after) → Stands s before → AreKeptWithin event before after taken
-      → AreKept after.editor.work.buffers → before.calls ≡ Some told → after.calls ≡ Some (told ++ made) → Stands t after
-  event_stands (key byte) before after (mid, k, noted) stands (now, spelled) later calls adds =
-      let later = subst (λ (e : Editor). AreKept e.work.buffers) (noted_editor mid after noted) later in
-      let adds = sym (noted_calls mid after noted) ∙ adds in
-      noted_stands mid after t before.live.name stands.spelled (key_name byte before mid k s stands now t told made calls adds leads later spelled)
-      (key_stands byte before mid k s stands now t told made calls adds leads later spelled) noted
-  event_stands (report line) before after (mid, taken, same, noted) stands within later calls adds =
-      let later = subst (λ (e : Editor). AreKept e.work.buffers) (noted_editor mid after noted) later in
-      let came = report_came line before after mid stands taken later in
+  pub event_goes : (event : Told) (before after : Moment) (taken : TakesEvent event before after) → Stands s before → AreKeptWithin event before after taken
+      → AreKept after.editor.work.buffers → before.calls ≡ Some told → after.calls ≡ Some (told ++ made)
+      → Goes before after s t (λ d. ComesBy event before after taken s d t)
+  event_goes (key byte) before after (mid, k, noted) stands (now, spelled) later calls adds =
+      key_goes byte before mid k s t told made stands now calls (sym (noted_calls mid after noted) ∙ adds) leads
+      (subst (λ (e : Editor). AreKept e.work.buffers) (noted_editor mid after noted) later) spelled after noted
+  event_goes (report line) before after (mid, taken, same, noted) stands within later calls adds =
+      let editor = noted_editor mid after noted in
+      let came = report_came line before after mid stands taken (subst (λ (e : Editor). AreKept e.work.buffers) editor later) in
       let still = noted_calls mid after noted ∙ ap (λ (m : Moment). m.calls) same in
-      let held = so_held s t (same_held told made s t before after still calls adds leads) in
-      subst (λ (u : Held). Stands u after) (sym held) (noted_stands mid after s before.live.name stands.spelled came.named came.stands noted)
-  event_stands (refused fault) before after (taken, same) stands within later calls adds =
-      let is = line_refused fault before after taken same in
-      let held = so_held s t (same_held told made s t before after is.calls calls adds leads) in
-      let so = as_before s before after is (at_first s before stands) in
-      let at : Stands s after = record {
-        kept = so.kept;
-        own = so.own;
-        logged = so.logged;
-        spelled = subst (λ n. all_scalars n ≡ true) (sym is.name) stands.spelled;
-        untold = so.safe;
+      let here : Goes before after s s (λ d. GoesOn (operations_at line) before.editor.work.buffers s d s) = record {
+        stands = noted_stands mid after s before.live.name stands.spelled came.named came.stands noted;
+        name = noted_name mid after noted ∙ came.named;
+        numbers = numbers_on before.editor.work mid.editor.work after.editor.work came.numbers (same_numbers mid.editor.work after.editor.work (ap (λ (e : Editor). e.work) editor));
+        each = λ d c. came.each d (subst (λ (e : Editor). Contains e.work.buffers.all d) editor c);
+        spares = λ none. refl;
       } in
-      subst (λ (u : Held). Stands u after) (sym held) at
-
-  pub event_each : (event : Told) (before after : Moment) (taken : TakesEvent event before after) → Stands s before → AreKeptWithin event before after taken
-      → AreKept after.editor.work.buffers → before.calls ≡ Some told → after.calls ≡ Some (told ++ made)
-      → (d : OpenState) → Contains after.editor.work.buffers.all d → ComesBy event before after taken s d t
-  event_each (key byte) before after (mid, k, noted) stands (now, spelled) later calls adds d c =
-      let editor = noted_editor mid after noted in
-      key_each byte before mid k s t told made stands now calls (sym (noted_calls mid after noted) ∙ adds) leads
-      (subst (λ (e : Editor). AreKept e.work.buffers) editor later) spelled d (subst (λ (e : Editor). Contains e.work.buffers.all d) editor c)
-  event_each (report line) before after (mid, taken, same, noted) stands within later calls adds d c =
-      let editor = noted_editor mid after noted in
-      let came = report_came line before after mid stands taken (subst (λ (e : Editor). AreKept e.work.buffers) editor later) in
-      let still = noted_calls mid after noted ∙ ap (λ (m : Moment). m.calls) same in
-      let held = so_held s t (same_held told made s t before after still calls adds leads) in
-      subst (λ (u : Held). GoesOn (operations_at line) before.editor.work.buffers s d u) (sym held)
-      (came.each d (subst (λ (e : Editor). Contains e.work.buffers.all d) editor c))
-  event_each (refused fault) before after (taken, same) stands within later calls adds d c =
+      subst (λ (u : Held). Goes before after s u (λ d. GoesOn (operations_at line) before.editor.work.buffers s d u))
+      (sym (same_held told made s t before after still calls adds leads)) here
+  event_goes (refused fault) before after (taken, same) stands within later calls adds =
       let is = line_refused fault before after taken same in
-      stay_here before.editor.work.buffers after.editor.work.buffers.all s t (ap (λ (bs : Buffers). bs.all) is.buffers)
-      (same_held told made s t before after is.calls calls adds leads) d c
-
-  pub event_numbers : (event : Told) (before after : Moment) (taken : TakesEvent event before after) → Stands s before → AreKeptWithin event before after taken
-      → AreKept after.editor.work.buffers → before.calls ≡ Some told → after.calls ≡ Some (told ++ made) → KeepsNumbers before.editor.work after.editor.work
-  event_numbers (key byte) before after (mid, k, noted) stands (now, spelled) later calls adds =
-      let editor = noted_editor mid after noted in
-      numbers_on before.editor.work mid.editor.work after.editor.work
-      (key_numbers byte before mid k s t told made stands now calls (sym (noted_calls mid after noted) ∙ adds) leads
-      (subst (λ (e : Editor). AreKept e.work.buffers) editor later) spelled)
-      (same_numbers mid.editor.work after.editor.work (ap (λ (e : Editor). e.work) editor))
-  event_numbers (report line) before after (mid, taken, same, noted) stands within later calls adds =
-      let editor = noted_editor mid after noted in
-      let came = report_came line before after mid stands taken (subst (λ (e : Editor). AreKept e.work.buffers) editor later) in
-      numbers_on before.editor.work mid.editor.work after.editor.work came.numbers (same_numbers mid.editor.work after.editor.work (ap (λ (e : Editor). e.work) editor))
-  event_numbers (refused fault) before after (taken, same) stands within later calls adds = (line_refused fault before after taken same).numbers
-
-  pub event_spares : (event : Told) (before after : Moment) (taken : TakesEvent event before after) → Stands s before → AreKeptWithin event before after taken
-      → AreKept after.editor.work.buffers → before.calls ≡ Some told → after.calls ≡ Some (told ++ made)
-      → (IsOpen (live_name before) after.editor.work.buffers → ⊥) → t (live_name before) ≡ s (live_name before)
-  event_spares (key byte) before after (mid, k, noted) stands (now, spelled) later calls adds none =
-      let editor = noted_editor mid after noted in
-      key_spares byte before mid k s t told made stands now calls (sym (noted_calls mid after noted) ∙ adds) leads
-      (subst (λ (e : Editor). AreKept e.work.buffers) editor later) spelled
-      (λ found. none (subst (λ (e : Editor). IsOpen (live_name before) e.work.buffers) (sym editor) found))
-  event_spares (report line) before after (mid, taken, same, noted) stands within later calls adds none =
-      let still = noted_calls mid after noted ∙ ap (λ (m : Moment). m.calls) same in
-      same_held told made s t before after still calls adds leads (live_name before)
-  event_spares (refused fault) before after (taken, same) stands within later calls adds none =
-      same_held told made s t before after (line_refused fault before after taken same).calls calls adds leads (live_name before)
-
-  pub event_name : (event : Told) (before after : Moment) (taken : TakesEvent event before after) → Stands s before → AreKeptWithin event before after taken
-      → AreKept after.editor.work.buffers → before.calls ≡ Some told → after.calls ≡ Some (told ++ made) → after.live.name ≡ before.live.name
-  event_name (key byte) before after (mid, k, noted) stands (now, spelled) later calls adds =
-      noted_name mid after noted
-      ∙ key_name byte before mid k s stands now t told made calls (sym (noted_calls mid after noted) ∙ adds) leads
-      (subst (λ (e : Editor). AreKept e.work.buffers) (noted_editor mid after noted) later) spelled
-  event_name (report line) before after (mid, taken, same, noted) stands within later calls adds =
-      noted_name mid after noted
-      ∙ (report_came line before after mid stands taken (subst (λ (e : Editor). AreKept e.work.buffers) (noted_editor mid after noted) later)).named
-  event_name (refused fault) before after (taken, same) stands within later calls adds = (line_refused fault before after taken same).name
+      let so = as_before s before after is (stands_so s before stands) in
+      let here : Goes before after s s (λ d. GoesOn [] before.editor.work.buffers s d s) = record {
+        stands = stands_at s after (subst (λ n. all_scalars n ≡ true) (sym is.name) stands.spelled) so;
+        name = is.name;
+        numbers = is.numbers;
+        each = stay_here before.editor.work.buffers after.editor.work.buffers.all s s (ap (λ (bs : Buffers). bs.all) is.buffers) (λ name. refl);
+        spares = λ none. refl;
+      } in
+      subst (λ (u : Held). Goes before after s u (λ d. GoesOn [] before.editor.work.buffers s d u))
+      (sym (same_held told made s t before after is.calls calls adds leads)) here

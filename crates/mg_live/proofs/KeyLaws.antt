@@ -1,5 +1,5 @@
 -- A session stands after a key.
-use Rattle.std.proofs.Common.{◌≡◌, inl, inr, ◌∙◌, ◌++◌, ℕ, Bool, true, false, List, [], ◌∷◌, Option, Some, refl, sym, ap, subst, true≢false}
+use Rattle.std.proofs.Common.{arith, ◌≡◌, inl, inr, ◌∙◌, ◌++◌, ℕ, true, false, List, [], Option, Some, refl, sym, ap, subst}
 use Rattle.std.specs.Prelude.{encode_utf8_all, IfSome}
 use Rattle.std.specs.Str.{all_scalars}
 use Rattle.rga_ops.specs.declared.op.Op.{Op}
@@ -9,6 +9,7 @@ use Rattle.mg_held.specs.Held.{Held, MayLead}
 use Rattle.mg_minibuffer.specs.declared.ending.Request.TheVariants.{Find}
 use Rattle.mg_session.specs.Keys.{request_of, said}
 use Rattle.mg_sync.specs.Asking.{Role}
+use Rattle.mg_workspace.specs.Buffers.{Buffers}
 use Rattle.mg_workspace.specs.Workspaces.{Workspace}
 use Rattle.mg_editor.specs.Carrying.{Carried}
 use Rattle.mg_editor.specs.Editors.{Editor}
@@ -23,25 +24,31 @@ use Rattle.mg_live.specs.Running.{Noted}
 use Rattle.mg_live.specs.Standing.{AreKept, AreSafe, Stands}
 use Rattle.mg_live.specs.States.{Live, Moment}
 use Rattle.mg_live.specs.Tallies.{with_key}
-use Rattle.mg_live.specs.Telling.{Telling}
 use Rattle.mg_live.proofs.CarryLaws.{carry_goes}
-use Rattle.mg_live.proofs.MadeLaws.{live_there, made_safe, notes_keep, opened_keeps_name, opened_safe}
+use Rattle.mg_live.proofs.MadeLaws.{live_there, made_safe, opened_keeps_name, opened_safe}
 use Rattle.mg_live.proofs.NameLaws.{open_or_not}
 use Rattle.mg_live.proofs.ShapeLaws.{press_same}
 use Rattle.mg_live.proofs.StageLaws.{GoOn, still_logged, still_safe}
 use Rattle.mg_live.proofs.TakenKeyLaws.{said_work}
+use Rattle.mg_live.proofs.ToldLaws.{notes_so}
 
 -- ---- what stands of the buffers, and of what is not told
 
-pub record StandsSo (name : List ℕ) (ops : List Op) (e : Editor) (s : Held) : Type 0 where
-  pub kept : AreKept e.work.buffers
-  pub own : HaveOwnNames e.work.buffers
-  pub logged : AreLogged e.work.buffers s
-  pub safe : AreSafe (encode_utf8_all name) ops e.work.buffers s
+pub record StandsSo (name : List ℕ) (ops : List Op) (bs : Buffers) (s : Held) : Type 0 where
+  pub kept : AreKept bs
+  pub own : HaveOwnNames bs
+  pub logged : AreLogged bs s
+  pub safe : AreSafe (encode_utf8_all name) ops bs s
+
+pub stands_so : (s : Held) (m : Moment) → Stands s m → StandsSo m.live.name m.live.telling.untold m.editor.work.buffers s
+stands_so s m stands = record { kept = stands.kept; own = stands.own; logged = stands.logged; safe = stands.untold }
+
+pub stands_at : (s : Held) (m : Moment) → all_scalars m.live.name ≡ true → StandsSo m.live.name m.live.telling.untold m.editor.work.buffers s → Stands s m
+stands_at s m spelled so = record { kept = so.kept; own = so.own; logged = so.logged; spelled = spelled; untold = so.safe }
 
 -- the buffers went on
-pub goes_on : (name : List ℕ) (ops : List Op) (old new : Editor) (s t : Held) → all_scalars name ≡ true → StandsSo name ops old s → AreKept new.work.buffers
-    → HaveOwnNames new.work.buffers → GoOn (encode_utf8_all name) old.work new.work s t → StandsSo name ops new t
+pub goes_on : (name : List ℕ) (ops : List Op) (old new : Editor) (s t : Held) → all_scalars name ≡ true → StandsSo name ops old.work.buffers s → AreKept new.work.buffers
+    → HaveOwnNames new.work.buffers → GoOn (encode_utf8_all name) old.work new.work s t → StandsSo name ops new.work.buffers t
 goes_on name ops old new s t right stands kept own go = record {
   kept = kept;
   own = own;
@@ -49,23 +56,8 @@ goes_on name ops old new s t right stands kept own go = record {
   safe = still_safe (encode_utf8_all name) old.work new.work s t kept go ops stands.logged stands.safe (open_or_not name old.work.buffers right stands.kept.named);
 }
 
-pub as_work : (name : List ℕ) (ops : List Op) (old new : Editor) (s : Held) → new.work ≡ old.work → StandsSo name ops old s → StandsSo name ops new s
-as_work name ops old new s is stands = record {
-  kept = subst (λ (w : Workspace). AreKept w.buffers) (sym is) stands.kept;
-  own = subst (λ (w : Workspace). HaveOwnNames w.buffers) (sym is) stands.own;
-  logged = subst (λ (w : Workspace). AreLogged w.buffers s) (sym is) stands.logged;
-  safe = subst (λ (w : Workspace). AreSafe (encode_utf8_all name) ops w.buffers s) (sym is) stands.safe;
-}
-
-abbrev changed_with : OpenState → List Op → Bool
-changed_with b ops = is_changed (record b { buffer = record b.buffer { unsaved = ops } })
-
 no_unsaved : (b : OpenState) → is_changed b ≡ false → b.buffer.unsaved ≡ []
-no_unsaved b unchanged = by b.buffer.unsaved refl
-  where
-    by : (ops : List Op) → b.buffer.unsaved ≡ ops → b.buffer.unsaved ≡ []
-    by [] is = is
-    by (op ∷ ops) is = absurd (true≢false (sym (ap (changed_with b) is) ∙ unchanged))
+no_unsaved b unchanged = grind arith
 
 module _ (byte : ℕ) (before taken : Moment) (k : TakesKey byte before taken) (s : Held) where
   -- the editor that the request was carried from
@@ -92,12 +84,10 @@ module _ (byte : ℕ) (before taken : Moment) (k : TakesKey byte before taken) (
   made = with_made (is_live counted.name current before.editor) k.noted (made_at current before.editor k.pressed) counted
 
   module _ (stands : Stands s before) (now : AreKept k.pressed.work.buffers) where
-    pressed_stands : StandsSo before.live.name made.telling.untold k.pressed s
+    pressed_stands : StandsSo before.live.name made.telling.untold k.pressed.work.buffers s
     pressed_stands =
-        let first : StandsSo before.live.name before.live.telling.untold before.editor s =
-        record { kept = stands.kept; own = stands.own; logged = stands.logged; safe = stands.untold } in
         let own = press_own byte before.editor k.pressed k.answer stands.own k.presses in
-        let on = goes_on before.live.name before.live.telling.untold before.editor k.pressed s s stands.spelled first now own
+        let on = goes_on before.live.name before.live.telling.untold before.editor k.pressed s s stands.spelled (stands_so s before stands) now own
         (press_goes (encode_utf8_all before.live.name) stands.kept now) in
         record {
           kept = now;
@@ -108,22 +98,19 @@ module _ (byte : ℕ) (before taken : Moment) (k : TakesKey byte before taken) (
               (press_same byte before.editor k.pressed k.answer k.presses) on.safe;
         }
 
-    pub asking_stands : StandsSo before.live.name made.telling.untold asking s
-    asking_stands = as_work before.live.name made.telling.untold k.pressed asking s (said_work k.answer k.pressed) pressed_stands
+    pub asking_stands : StandsSo before.live.name made.telling.untold asking.work.buffers s
+    asking_stands =
+        subst (λ (w : Workspace). StandsSo before.live.name made.telling.untold w.buffers s) (sym (said_work k.answer k.pressed)) pressed_stands
 
     module _ (t : Held) (told more : List Call) (calls : before.calls ≡ Some told) (adds : taken.calls ≡ Some (told ++ more)) (leads : MayLead more s t) (later : AreKept taken.editor.work.buffers) (spelled : (n : List ℕ) → request_of k.answer ≡ Find n → all_scalars n ≡ true) where
       pub carried : Carried (request_of k.answer) (Some told) (Some (told ++ more)) asking taken.editor k.carry_answer
-      carried =
-          subst (λ c. Carried (request_of k.answer) (Some told) c asking taken.editor k.carry_answer) adds
-          (subst (λ c. Carried (request_of k.answer) c taken.calls asking taken.editor k.carry_answer) calls k.carried)
+      carried = rw (calls, adds) at k.carried
 
       abbrev MetSo : Type 0
       MetSo = Meets (Some told) (Some (told ++ more)) asking.work.buffers taken.editor.work.buffers
 
       met : IfSome (role_of (request_of k.answer)) (λ _. MetSo)
-      met =
-          subst (λ c. IfSome (role_of (request_of k.answer)) (λ _. Meets (Some told) c asking.work.buffers taken.editor.work.buffers)) adds
-          (subst (λ c. IfSome (role_of (request_of k.answer)) (λ _. Meets c taken.calls asking.work.buffers taken.editor.work.buffers)) calls k.met)
+      met = rw (calls, adds) at k.met
 
       pub meets : (role : Role) → role_of (request_of k.answer) ≡ Some role → Meets (Some told) (Some (told ++ more)) asking.work.buffers taken.editor.work.buffers
       meets role is = subst (λ (o : Option Role). IfSome o (λ _. MetSo)) is met
@@ -133,7 +120,7 @@ module _ (byte : ℕ) (before taken : Moment) (k : TakesKey byte before taken) (
           carry_goes told more s t leads before.live.name stands.spelled asking taken.editor asking_stands.kept.are asking_stands.own (request_of k.answer)
           k.carry_answer later.are spelled carried meets
 
-      carried_stands : StandsSo before.live.name made.telling.untold taken.editor t
+      carried_stands : StandsSo before.live.name made.telling.untold taken.editor.work.buffers t
       carried_stands =
           goes_on before.live.name made.telling.untold asking taken.editor s t stands.spelled asking_stands later
           (carry_own (request_of k.answer) before.calls taken.calls asking taken.editor k.carry_answer spelled asking_stands.own k.carried) request_goes_on
@@ -141,7 +128,7 @@ module _ (byte : ℕ) (before taken : Moment) (k : TakesKey byte before taken) (
       abbrev asked : Live
       asked = record made { saved = saved_by (is_save (request_of k.answer)) k.carry_answer made.saved }
 
-      pub key_stands : StandsSo before.live.name taken.live.telling.untold taken.editor t
+      pub key_stands : StandsSo before.live.name taken.live.telling.untold taken.editor.work.buffers t
       key_stands =
           let c = carried_stands in
           let safe = opened_safe before.live.name t taken.editor c.own later.named c.logged k.noted_opened asking asked refl c.safe in
@@ -157,18 +144,10 @@ module _ (byte : ℕ) (before taken : Moment) (k : TakesKey byte before taken) (
 
 -- how the text changed is noted beside
 pub noted_stands : (taken after : Moment) (t : Held) (name : List ℕ) → all_scalars name ≡ true → taken.live.name ≡ name
-    → StandsSo name taken.live.telling.untold taken.editor t → Noted taken after → Stands t after
+    → StandsSo name taken.live.telling.untold taken.editor.work.buffers t → Noted taken after → Stands t after
 noted_stands taken after t name right is stands (notes, same) =
-    let keeps = notes_keep taken.editor taken.course after.course taken.live after.live notes in
-    let editor : after.editor ≡ taken.editor = ap (λ (m : Moment). m.editor) same in
-    let named : after.live.name ≡ name = keeps.name ∙ is in
-    let safe : AreSafe (encode_utf8_all after.live.name) after.live.telling.untold taken.editor.work.buffers t =
-    subst (λ n. AreSafe (encode_utf8_all n) after.live.telling.untold taken.editor.work.buffers t) (sym named)
-    (subst (λ (x : Telling). AreSafe (encode_utf8_all name) x.untold taken.editor.work.buffers t) (sym keeps.telling) stands.safe) in
-    record {
-      kept = subst (λ (e : Editor). AreKept e.work.buffers) (sym editor) stands.kept;
-      own = subst (λ (e : Editor). HaveOwnNames e.work.buffers) (sym editor) stands.own;
-      logged = subst (λ (e : Editor). AreLogged e.work.buffers t) (sym editor) stands.logged;
-      spelled = subst (λ n. all_scalars n ≡ true) (sym named) right;
-      untold = subst (λ (e : Editor). AreSafe (encode_utf8_all after.live.name) after.live.telling.untold e.work.buffers t) (sym editor) safe;
-    }
+    let so = (notes_so taken.editor taken.course taken.live after.live after.course notes).1 in
+    let named : after.live.name ≡ name = ap (λ (l : Live). l.name) so ∙ is in
+    let untold : after.live.telling.untold ≡ taken.live.telling.untold = ap (λ (l : Live). l.telling.untold) so in
+    let buffers : after.editor.work.buffers ≡ taken.editor.work.buffers = ap (λ (m : Moment). m.editor.work.buffers) same in
+    stands_at t after (subst (λ n. all_scalars n ≡ true) (sym named) right) (rw (named, untold, buffers) stands)

@@ -1,21 +1,17 @@
 -- What is made and not told stays safe.
-use Rattle.std.proofs.Common.{◌≡◌, ◌⊎◌, inl, inr, ◌∙◌, ◌<◌, ◌++◌, ℕ, Bool, true, false, List, [], length, take, drop, Option, Some, None, refl, sym, ap, subst, append-nil, true≢false}
-use Rattle.std.specs.Prelude.{if◌then◌else◌, encode_utf8_all, nat_eq}
+use Rattle.std.proofs.Common.{arith, ◌≡◌, ◌∙◌, ◌<◌, ◌++◌, ℕ, Bool, true, false, List, [], length, take, drop, Option, Some, None, refl, sym, ap, subst, append-nil}
+use Rattle.std.specs.Prelude.{encode_utf8_all, nat_eq}
 use Rattle.std.specs.List.{Contains}
-use Rattle.std.specs.Option.{is_some}
 use Rattle.std.proofs.lemmas.Bool.{eqb-true}
 use Rattle.std.proofs.lemmas.List.{take-append-drop}
 use Rattle.std.proofs.lemmas.List.Elements.{Contains-append_right, Contains-get_or}
 use Rattle.rga_ops.specs.declared.op.Op.{Op}
 use Rattle.mg_held.specs.Held.{Held}
 use Rattle.mg_workspace.specs.Buffers.{buffer_at, no_buffer}
-use Rattle.mg_session.specs.declared.course.Course.{Course}
 use Rattle.mg_editor.specs.Editors.{Editor}
 use Rattle.mg_editor.specs.Holding.{AreLogged, HaveOwnNames}
-use Rattle.mg_live.specs.Changes.{Changes}
 use Rattle.mg_live.specs.Keys.{with_opened}
 use Rattle.mg_live.specs.Made.{is_live, live_index, made_at, opened_operations, unsaved_at, with_made}
-use Rattle.mg_live.specs.Reports.{NotesChanges}
 use Rattle.mg_live.specs.Standing.{AreHeld, AreSafe}
 use Rattle.mg_live.specs.States.{Live}
 use Rattle.mg_live.proofs.GrowingLaws.{unsaved_held}
@@ -92,45 +88,7 @@ module _ (name : List ℕ) (s : Held) (e : Editor) (own : HaveOwnNames e.work.bu
 
 -- the live buffer is at that index
 pub live_there : (name : List ℕ) (i : ℕ) (e : Editor) → is_live name i e ≡ true → live_index name e ≡ Some i
-live_there name i e is = by (live_index name e) refl is
-  where
-    by : (o : Option ℕ) → live_index name e ≡ o → elim o [ Some k ↦ nat_eq k i | None ↦ false ] ≡ true → live_index name e ≡ Some i
-    by (Some k) at same = at ∙ ap Some (eqb-true k i same)
-    by None at same = absurd (true≢false (sym same))
+live_there name i e is = grind (arith, eqb-true)
 
 pub opened_keeps_name : (noted : Bool) (old e : Editor) (live : Live) → (with_opened noted old e live).name ≡ live.name
-opened_keeps_name noted old e live = by (is_some (live_index live.name old)) (is_some (live_index live.name e))
-  where
-    by : (was now : Bool) → (if was then live else (if now then record live {
-      telling = record live.telling {
-        untold = if noted then live.telling.untold ++ opened_operations live.name old e else live.telling.untold;
-        took = false;
-      };
-    } else live)).name ≡ live.name
-    by true now = refl
-    by false true = refl
-    by false false = refl
-
--- what is noted of changes is noted beside
-pub record KeepsTelling (live next : Live) : Type 0 where
-  pub telling : next.telling ≡ live.telling
-  pub name : next.name ≡ live.name
-
-telling_stays : (live next : Live) → next ≡ live → KeepsTelling live next
-telling_stays live next is = record { telling = ap (λ (l : Live). l.telling) is; name = ap (λ (l : Live). l.name) is }
-
-pub notes_keep : (e : Editor) (before after : Course) (live next : Live) → NotesChanges e before live next after → KeepsTelling live next
-notes_keep e before after live next notes = by live.changes (live_index live.name e) refl refl notes
-  where
-    by : (changes : Option Changes) (index : Option ℕ) → live.changes ≡ changes → live_index live.name e ≡ index → NotesChanges e before live next after → KeepsTelling live next
-    by None index none at notes =
-        let notes : (next ≡ record live { changes = None }) × (after ≡ before) = rw none at notes in
-        record { telling = ap (λ (l : Live). l.telling) notes.0; name = ap (λ (l : Live). l.name) notes.0 }
-    by (Some c) None some none notes =
-        let notes : (next ≡ live) × (after ≡ before) = rw (some, none, NotesChanges) at notes in
-        telling_stays live next notes.0
-    by (Some c) (Some i) some found notes = either (rw (some, found, NotesChanges) at notes)
-      where
-        either : {A B : Type 0} {changes : Option Changes} → ((next ≡ record live { changes = changes }) × A) ⊎ ((next ≡ live) × B) → KeepsTelling live next
-        either (inl (is, a)) = record { telling = ap (λ (l : Live). l.telling) is; name = ap (λ (l : Live). l.name) is }
-        either (inr (is, b)) = telling_stays live next is
+opened_keeps_name noted old e live = grind arith

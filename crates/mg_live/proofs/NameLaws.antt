@@ -25,10 +25,6 @@ named_so name b text is =
 is_named_so : (name : List ℕ) (b : OpenState) → all_scalars name ≡ true → b.buffer.name ≡ encode_utf8_all name → is_named name b ≡ true
 is_named_so name b right is = (bytes_eq-Decides (chars b.buffer.name) name).1 (ap chars is ∙ chars-encodes name right)
 
--- names of characters are told apart by their bytes
-pub same_characters : (m n : List ℕ) → all_scalars m ≡ true → all_scalars n ≡ true → encode_utf8_all m ≡ encode_utf8_all n → m ≡ n
-same_characters m n one two is = sym (chars-encodes m one) ∙ ap chars is ∙ chars-encodes n two
-
 -- a buffer that is found is open, and has the name
 pub record IsFound (name : List ℕ) (bs : Buffers) (i : ℕ) : Type 0 where
   pub within : i < length bs.all

@@ -126,7 +126,7 @@ loads_numbers name calls more r w v (inl (is, answer, adds)) = same_numbers w v 
 loads_numbers name calls more r w v (inr (Err fault, adds, (is, answer))) = same_numbers w v is
 loads_numbers name calls more r w v (inr (Ok found, adds, (is, answer))) = load_numbers w v (load_outcome name w.replica w.limit found) is
 
-abbrev AskedFor : List ℕ → Option (List Call) → Option (List Call) → Editor → Editor → CarryAnswer → Option Editor → Type 0
+abbrev pub AskedFor : List ℕ → Option (List Call) → Option (List Call) → Editor → Editor → CarryAnswer → Option Editor → Type 0
 AskedFor name calls more old new r None = TellsOutcome (Loads (encode_utf8_all name) calls more) opening_outcome old new r
 AskedFor name calls more old new r (Some now) = (more ≡ calls) × (new ≡ now) × (r ≡ Ok tt)
 

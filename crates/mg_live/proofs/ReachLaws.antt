@@ -5,7 +5,7 @@ use Rattle.std.specs.Bool.{MatchBool}
 use Rattle.std.specs.List.{list_any, slice_get}
 use Rattle.std.proofs.Math.Seq.{drop-append_seam}
 use Rattle.std.proofs.lemmas.Bool.{leb-true, and_parts}
-use Rattle.std.proofs.lemmas.List.{get_or-set_same, length-drop, drop_all, length-append}
+use Rattle.std.proofs.lemmas.List.{get_or-set_same, length-drop, length-append}
 use Rattle.std.proofs.lemmas.List.Quantifiers.{position-Some}
 use Rattle.std.proofs.lemmas.Option.{same_Some, slice_get_within}
 use Rattle.rga_ops.specs.Answer.{answer}
@@ -88,16 +88,6 @@ same_kept old new front end one two same = subst (λ xs. AreKept (kept front end
   end = refl;
 })
 
-pub nothing_kept : (old new : List ℕ) → AreKept (kept 0 0) old new
-nothing_kept old new = record {
-  front_in_old = omega arith;
-  front_in_new = omega arith;
-  front = refl;
-  end_in_old = omega arith;
-  end_in_new = omega arith;
-  end = drop_all (length old - 0) old (omega arith) ∙ sym (drop_all (length new - 0) new (omega arith));
-}
-
 spliced_kept : (old put : List ℕ) (lo hi : ℕ) → lo ≤ hi → hi ≤ length old → AreKept (kept lo (length old - hi)) old (spliced old lo hi put)
 spliced_kept old put lo hi up within =
     let long = length-spliced old put lo hi up within in
@@ -116,15 +106,6 @@ spliced_kept old put lo hi up within =
 
 pub splice_kept : (old new put : List ℕ) (lo hi : ℕ) → lo ≤ hi → hi ≤ length old → new ≡ spliced old lo hi put → AreKept (kept lo (length old - hi)) old new
 splice_kept old new put lo hi up within is = subst (λ xs. AreKept (kept lo (length old - hi)) old xs) (sym is) (spliced_kept old put lo hi up within)
-
-pub around_kept : (old new : List ℕ) (lo hi front after : ℕ) → (lo ≤ length old → front ≡ lo) → (hi ≤ length old → after ≡ hi) → front ≤ length old
-    → MayBeSpliced lo hi old new → AreKept (kept front (length old - after)) old new
-around_kept old new lo hi front after front_is after_is within (inl same) = same_kept old new front (length old - after) within (omega arith) same
-around_kept old new lo hi front after front_is after_is within (inr (put, up, le, is)) =
-    let first : front ≡ lo = front_is (omega (arith, up, le)) in
-    let last : after ≡ hi = after_is le in
-    subst (λ f. AreKept (kept f (length old - after)) old new) (sym first)
-    (subst (λ a. AreKept (kept lo (length old - a)) old new) (sym last) (splice_kept old new put lo hi up le is))
 
 -- ---- beside an element
 
@@ -198,18 +179,66 @@ still Anywhere told now is = tt
 still (Element id) told now is = inl is
 still (Between lo hi) told now is = inl is
 
+-- ---- operations of others, and splices, by what came of them
+
+module _ {C : Type 0} (e : Editor) (live : Live) (f : Editor) (next : Live) (verdict : Verdict) (same : f ≡ e → next ≡ live → C) where
+  module _ {A : Type 0} (ops : List Op) (Each : ℕ → Editor → Result A Refusal → Editor → Type 0) (each : (i : ℕ) (r : Result A Refusal) → live_index live.name e ≡ Some i → Each i e r f → MatchResult r (λ _. next ≡ with_taken live) (λ why. next ≡ live) → C) where
+    abbrev AnsweredSo : Result A Refusal → Type 0
+    AnsweredSo r = MatchResult r (λ _. (verdict ≡ Ok true) × (next ≡ with_taken live)) (λ why. (verdict ≡ Err (Refused why)) × (next ≡ live))
+
+    abbrev OthersAt : Option ℕ → Type 0
+    OthersAt None = (verdict ≡ Err Closed) × (f ≡ e) × (next ≡ live)
+    OthersAt (Some i) = MatchBool (list_any (is_far (clock_at i e)) ops)
+        ((verdict ≡ Err Far) × (f ≡ e) × (next ≡ live))
+        ((r : Result A Refusal) × Each i e r f × AnsweredSo r)
+
+    pub others_case : TakesOthers ops Each e live verdict f next → C
+    others_case takes = by (live_index live.name e) refl takes
+      where
+        answered : (i : ℕ) (r : Result A Refusal) → live_index live.name e ≡ Some i → Each i e r f → AnsweredSo r → C
+        answered i (Ok a) at took (says, is) = each i (Ok a) at took is
+        answered i (Err why) at took (says, is) = each i (Err why) at took is
+
+        by_far : (i : ℕ) (far : Bool) → live_index live.name e ≡ Some i
+            → MatchBool far ((verdict ≡ Err Far) × (f ≡ e) × (next ≡ live)) ((r : Result A Refusal) × Each i e r f × AnsweredSo r) → C
+        by_far i true at (says, stays, is) = same stays is
+        by_far i false at (r, took, so) = answered i r at took so
+
+        by : (o : Option ℕ) → live_index live.name e ≡ o → OthersAt o → C
+        by None at (says, stays, is) = same stays is
+        by (Some i) at it = by_far i (list_any (is_far (clock_at i e)) ops) at it
+
+  module _ (base lo hi : ℕ) (put : List ℕ) (made : (i : ℕ) (noted : Bool) → live_index live.name e ≡ Some i → RunsAt i (ReplaceRange lo hi put) 1 e.work (f.work, Ok tt) → next ≡ with_made true noted (made_at i e f) live → C) where
+    abbrev SplicedSo : ℕ → ActionVerdict → Type 0
+    SplicedSo i r = MatchResult r
+        (λ _. (noted : Bool) × (f ≡ with_changed i f.work e) × (verdict ≡ Ok noted) × (next ≡ with_made true noted (made_at i e f) live))
+        (λ fault. (f ≡ e) × (verdict ≡ Err (splice_fault fault)) × (next ≡ live))
+
+    abbrev SplicesAt : Option ℕ → Type 0
+    SplicesAt None = (verdict ≡ Err Closed) × (f ≡ e) × (next ≡ live)
+    SplicesAt (Some i) = MatchBool (nat_eq base (change_count live.changes))
+        ((r : ActionVerdict) × RunsAt i (ReplaceRange lo hi put) 1 e.work (f.work, r) × SplicedSo i r)
+        ((verdict ≡ Err Stale) × (f ≡ e) × (next ≡ live))
+
+    pub splices_case : Splices base lo hi put e live verdict f next → C
+    splices_case takes = by (live_index live.name e) refl takes
+      where
+        spliced : (i : ℕ) (r : ActionVerdict) → live_index live.name e ≡ Some i → RunsAt i (ReplaceRange lo hi put) 1 e.work (f.work, r) → SplicedSo i r → C
+        spliced i (Ok u) at did (noted, changed, says, is) = made i noted at did is
+        spliced i (Err fault) at did (stays, says, is) = same stays is
+
+        by_base : (i : ℕ) (current : Bool) → live_index live.name e ≡ Some i
+            → MatchBool current
+            ((r : ActionVerdict) × RunsAt i (ReplaceRange lo hi put) 1 e.work (f.work, r) × SplicedSo i r)
+            ((verdict ≡ Err Stale) × (f ≡ e) × (next ≡ live)) → C
+        by_base i true at (r, did, so) = spliced i r at did so
+        by_base i false at (says, stays, is) = same stays is
+
+        by : (o : Option ℕ) → live_index live.name e ≡ o → SplicesAt o → C
+        by None at (says, stays, is) = same stays is
+        by (Some i) at it = by_base i (nat_eq base (change_count live.changes)) at it
+
 -- ---- a report that changed nothing, or one text
-
-abbrev SplicedSo : ℕ → Editor → Live → Editor → Live → Verdict → ActionVerdict → Type 0
-SplicedSo i e live f next verdict r = MatchResult r
-    (λ _. (noted : Bool) × (f ≡ with_changed i f.work e) × (verdict ≡ Ok noted) × (next ≡ with_made true noted (made_at i e f) live))
-    (λ fault. (f ≡ e) × (verdict ≡ Err (splice_fault fault)) × (next ≡ live))
-
-abbrev SplicesAt : ℕ → ℕ → ℕ → List ℕ → Editor → Live → Editor → Live → Verdict → Option ℕ → Type 0
-SplicesAt base lo hi put e live f next verdict None = (verdict ≡ Err Closed) × (f ≡ e) × (next ≡ live)
-SplicesAt base lo hi put e live f next verdict (Some i) = MatchBool (nat_eq base (change_count live.changes))
-    ((r : ActionVerdict) × RunsAt i (ReplaceRange lo hi put) 1 e.work (f.work, r) × SplicedSo i e live f next verdict r)
-    ((verdict ≡ Err Stale) × (f ≡ e) × (next ≡ live))
 
 module _ (live : Live) (e : Editor) (told : IsTold live e) where
   stays : (reach : Reach) (next : Live) (f : Editor) → f ≡ e → SameTold live next → WasTold reach next f
@@ -248,34 +277,18 @@ module _ (live : Live) (e : Editor) (told : IsTold live e) where
         by Known c was known =
             inl (was ∙ ap text (sym (now ∙ held_adds_nothing b.content inserting ((known-iff b.limit b.content inserting).0 known).1)))
 
-    answered : (r : Result Taken Refusal) (next : Live) (verdict : Verdict) → TakesOperation inserting i e r f
-        → MatchResult r (λ _. (verdict ≡ Ok true) × (next ≡ with_taken live)) (λ why. (verdict ≡ Err (Refused why)) × (next ≡ live)) → WasTold (Element id) next f
-    answered (Ok kind) next verdict takes (says, is) =
-        let same : SameTold live next = record { name = ap (λ (l : Live). l.name) is; changes = ap (λ (l : Live). l.changes) is } in
-        was_told_so (Element id) live next f same (taken kind (sym (takes.exact (λ bad. absurd cc))) takes.left)
-    answered (Err why) next verdict takes (says, is) = stays (Element id) next f takes.left (told_as live next is)
-
-  abbrev TakenAt : Op → Editor → Live → Verdict → Option ℕ → Type 0
-  TakenAt op f next verdict None = (verdict ≡ Err Closed) × (f ≡ e) × (next ≡ live)
-  TakenAt op f next verdict (Some i) = MatchBool (list_any (is_far (clock_at i e)) (op ∷ []))
-      ((verdict ≡ Err Far) × (f ≡ e) × (next ≡ live))
-      ((r : Result Taken Refusal) × TakesOperation op i e r f × MatchResult r
-      (λ _. (verdict ≡ Ok true) × (next ≡ with_taken live)) (λ why. (verdict ≡ Err (Refused why)) × (next ≡ live)))
-
   inserted : (id parent : Identifier) (ch : ℕ) (f : Editor) (next : Live) (verdict : Verdict)
       → TakesOthers (Insert id parent ch ∷ []) (TakesOperation (Insert id parent ch)) e live verdict f next → WasTold (Element id) next f
-  inserted id parent ch f next verdict takes = by (live_index live.name e) refl takes
+  inserted id parent ch f next verdict =
+      others_case e live f next verdict (λ same is. stays (Element id) next f same (told_as live next is))
+      (Insert id parent ch ∷ []) (TakesOperation (Insert id parent ch)) answered
     where
-      by_far : (far : Bool) (i : ℕ) → live_index live.name e ≡ Some i
-          → MatchBool far ((verdict ≡ Err Far) × (f ≡ e) × (next ≡ live))
-          ((r : Result Taken Refusal) × TakesOperation (Insert id parent ch) i e r f × MatchResult r
-          (λ _. (verdict ≡ Ok true) × (next ≡ with_taken live)) (λ why. (verdict ≡ Err (Refused why)) × (next ≡ live))) → WasTold (Element id) next f
-      by_far true i at (says, same, is) = stays (Element id) next f same (told_as live next is)
-      by_far false i at (r, takes, so) = answered id parent ch i f at r next verdict takes so
-
-      by : (o : Option ℕ) → live_index live.name e ≡ o → TakenAt (Insert id parent ch) f next verdict o → WasTold (Element id) next f
-      by None at (says, same, is) = stays (Element id) next f same (told_as live next is)
-      by (Some i) at it = by_far (list_any (is_far (clock_at i e)) (Insert id parent ch ∷ [])) i at it
+      answered : (i : ℕ) (r : Result Taken Refusal) → live_index live.name e ≡ Some i → TakesOperation (Insert id parent ch) i e r f
+          → MatchResult r (λ _. next ≡ with_taken live) (λ why. next ≡ live) → WasTold (Element id) next f
+      answered i (Ok kind) at takes is =
+          let same : SameTold live next = record { name = ap (λ (l : Live). l.name) is; changes = ap (λ (l : Live). l.changes) is } in
+          was_told_so (Element id) live next f same (taken id parent ch i f at kind (sym (takes.exact (λ bad. absurd cc))) takes.left)
+      answered i (Err why) at takes is = stays (Element id) next f takes.left (told_as live next is)
 
   -- ---- a splice
 
@@ -318,25 +331,12 @@ module _ (live : Live) (e : Editor) (told : IsTold live e) where
                     (subst (λ xs. MayBeSpliced lo hi (text b.content) xs) (sym now) (ran_so b t.1 e.work.notes t.2 e.work.fill t.3))
               ]
 
-      spliced_so : (r : ActionVerdict) (next : Live) (verdict : Verdict) → RunsAt i (ReplaceRange lo hi put) 1 e.work (f.work, r) → SplicedSo i e live f next verdict r → WasTold (Between lo hi) next f
-      spliced_so (Ok u) next verdict did (noted, same, says, is) =
-          let alike : SameTold live next = record { name = ap (λ (l : Live). l.name) is; changes = ap (λ (l : Live). l.changes) is } in
-          was_told_so (Between lo hi) live next f alike (spliced_in (Ok u) did)
-      spliced_so (Err fault) next verdict did (same, says, is) = stays (Between lo hi) next f same (told_as live next is)
-
     splices : (base : ℕ) (f : Editor) (next : Live) (verdict : Verdict) → Splices base lo hi put e live verdict f next → WasTold (Between lo hi) next f
-    splices base f next verdict takes = by (live_index live.name e) refl takes
-      where
-        by_base : (i : ℕ) (same : Bool) → live_index live.name e ≡ Some i
-            → MatchBool same
-            ((r : ActionVerdict) × RunsAt i (ReplaceRange lo hi put) 1 e.work (f.work, r) × SplicedSo i e live f next verdict r)
-            ((verdict ≡ Err Stale) × (f ≡ e) × (next ≡ live)) → WasTold (Between lo hi) next f
-        by_base i true at (r, did, so) = spliced_so i f at r next verdict did so
-        by_base i false at (says, same, is) = stays (Between lo hi) next f same (told_as live next is)
-
-        by : (o : Option ℕ) → live_index live.name e ≡ o → SplicesAt base lo hi put e live f next verdict o → WasTold (Between lo hi) next f
-        by None at (says, same, is) = stays (Between lo hi) next f same (told_as live next is)
-        by (Some i) at it = by_base i (nat_eq base (change_count live.changes)) at it
+    splices base f next verdict =
+        splices_case e live f next verdict (λ same is. stays (Between lo hi) next f same (told_as live next is)) base lo hi put
+        (λ i noted at did is.
+        let alike : SameTold live next = record { name = ap (λ (l : Live). l.name) is; changes = ap (λ (l : Live). l.changes) is } in
+        was_told_so (Between lo hi) live next f alike (spliced_in i f at (Ok tt) did))
 
 -- ---- any report
 

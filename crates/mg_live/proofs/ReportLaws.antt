@@ -1,8 +1,7 @@
 -- A session stands after a report.
-use Rattle.std.proofs.Common.{◌≡◌, inl, inr, ◌∙◌, ◌<◌, ℕ, Bool, true, false, List, [], ◌∷◌, length, Option, Some, None, Result, Ok, Err, MatchResult, refl, sym, ap, subst, nat_eq}
+use Rattle.std.proofs.Common.{◌≡◌, inl, inr, ◌∙◌, ◌<◌, ℕ, Bool, true, List, [], ◌∷◌, length, Some, Result, Ok, Err, MatchResult, refl, sym, ap, subst}
 use Rattle.std.specs.Prelude.{encode_utf8_all}
-use Rattle.std.specs.Bool.{MatchBool}
-use Rattle.std.specs.List.{Contains, list_any}
+use Rattle.std.specs.List.{Contains}
 use Rattle.std.specs.Str.{all_scalars}
 use Rattle.rga_ops.specs.Answer.{answer}
 use Rattle.rga_ops.specs.ListAnswer.{list_answer}
@@ -21,28 +20,27 @@ use Rattle.mg_plain.specs.declared.command.Command.TheVariants.{ReplaceRange}
 use Rattle.mg_session.specs.declared.course.Course.{Course}
 use Rattle.mg_session.specs.declared.course.Course.TheVariants.{On}
 use Rattle.mg_workspace.specs.AtIndex.{RunsAt, state_at}
-use Rattle.mg_workspace.specs.declared.fault.ActionFault.{ActionFault}
 use Rattle.mg_editor.specs.Editors.{Editor}
 use Rattle.mg_editor.specs.Holding.{GoesOn, HaveOwnNames, IsOpen}
-use Rattle.mg_editor.specs.LiveTaking.{taking, with_changed}
+use Rattle.mg_editor.specs.LiveTaking.{taking}
 use Rattle.mg_editor.specs.declared.pasting.PasteFault.{PasteFault}
 use Rattle.mg_editor.proofs.HoldingLaws.{one_taken_on, pasted_on, spliced_on, taken_on}
 use Rattle.mg_editor.proofs.NamesLaws.{pasted_own, spliced_own, taken_own}
 use Rattle.mg_editor.proofs.RemovalLaws.{pasted_stay, spliced_stay, taken_stay}
-use Rattle.mg_live.specs.Changes.{change_count}
 use Rattle.mg_live.specs.FaultNames.{of_paste}
 use Rattle.mg_live.specs.Made.{is_live, live_index, made_at, with_made}
-use Rattle.mg_live.specs.Reports.{Verdict, clock_at, is_far, with_taken, TakesOperation, TakesList, TakesOthers, Pastes, Splices, TakesPiece, Takes, RefusesReport, Follows, TakesReport, TakesLine, counted, resized, splice_fault}
+use Rattle.mg_live.specs.Reports.{Verdict, with_taken, TakesOperation, TakesList, TakesOthers, Pastes, Splices, TakesPiece, Takes, RefusesReport, Follows, TakesReport, TakesLine, counted, resized}
 use Rattle.mg_live.specs.Standing.{AreKept, AreSafe, operations_of, operations_read, operations_at}
 use Rattle.mg_live.specs.States.{Live}
 use Rattle.mg_live.specs.declared.fault.ReportFault.{ReportFault}
-use Rattle.mg_live.specs.declared.fault.ReportFault.TheVariants.{Line, Refused, Far, Closed, Stale}
+use Rattle.mg_live.specs.declared.fault.ReportFault.TheVariants.{Line}
 use Rattle.mg_live.specs.declared.gathered.Piece.{Piece}
 use Rattle.mg_live.specs.declared.gathered.Piece.TheVariants.{Held as Waits, Whole, Dropped}
 use Rattle.mg_live.proofs.KeyLaws.{StandsSo, goes_on}
 use Rattle.mg_live.proofs.MadeLaws.{live_there, made_safe}
 use Rattle.mg_live.proofs.NameLaws.{found_so}
 use Rattle.mg_live.proofs.NumberLaws.{KeepsNumbers, paste_numbers, run_numbers, same_numbers}
+use Rattle.mg_live.proofs.ReachLaws.{others_case, splices_case}
 use Rattle.mg_live.proofs.ShapeLaws.{paste_same, run_same}
 use Rattle.mg_live.proofs.StageLaws.{GoOn}
 
@@ -62,47 +60,30 @@ follows_keep : (verdict : Verdict) (live next : Live) (after : Course) → Follo
 follows_keep (Ok noted) live next after (is, same) = untold_as live next is
 follows_keep (Err fault) live next after so = refused_keeps fault On live next after so
 
-abbrev SplicedSo : ℕ → Editor → Live → Editor → Live → Verdict → Result (Unit {0}) ActionFault → Type 0
-SplicedSo i e live f next verdict r = MatchResult r
-    (λ _. (noted : Bool) × (f ≡ with_changed i f.work e) × (verdict ≡ Ok noted) × (next ≡ with_made true noted (made_at i e f) live))
-    (λ fault. (f ≡ e) × (verdict ≡ Err (splice_fault fault)) × (next ≡ live))
-
 abbrev PastedSo : Editor → Live → Editor → Live → Verdict → Result (Unit {0}) PasteFault → Type 0
 PastedSo e live f next verdict a = MatchResult a
     (λ _. (noted : Bool) × (verdict ≡ Ok noted) × (next ≡ with_made (is_live live.name e.work.buffers.current e) noted (made_at e.work.buffers.current e f) live))
     (λ fault. (verdict ≡ Err (of_paste fault)) × (next ≡ live))
 
-abbrev SplicesAt : ℕ → ℕ → ℕ → List ℕ → Editor → Live → Editor → Live → Verdict → Option ℕ → Type 0
-SplicesAt base lo hi put e live f next verdict None = (verdict ≡ Err Closed) × (f ≡ e) × (next ≡ live)
-SplicesAt base lo hi put e live f next verdict (Some i) = MatchBool (nat_eq base (change_count live.changes))
-    ((r : Result (Unit {0}) ActionFault) × RunsAt i (ReplaceRange lo hi put) 1 e.work (f.work, r) × SplicedSo i e live f next verdict r)
-    ((verdict ≡ Err Stale) × (f ≡ e) × (next ≡ live))
-
-abbrev read_well : Report → Result Report LineFault
-read_well told = Ok told
-
-abbrev read_badly : Result Report LineFault
-read_badly = Err line.Memory
-
 -- ---- what stands of a session then, and how each open buffer came to be
 
 module _ (name : List ℕ) (right : all_scalars name ≡ true) (s : Held) (e : Editor) where
   pub record Came (ops : List Op) (f : Editor) (next : Live) : Type 0 where
-    pub stands : StandsSo name next.telling.untold f s
+    pub stands : StandsSo name next.telling.untold f.work.buffers s
     pub named : next.name ≡ name
     pub each : (d : OpenState) → Contains f.work.buffers.all d → GoesOn ops e.work.buffers s d s
     pub numbers : KeepsNumbers e.work f.work
 
   pub keeps_came : (ops : List Op) (f : Editor) (live next : Live) → KeepsUntold live next → Came ops f live → Came ops f next
   keeps_came ops f live next keeps came = record {
-    stands = subst (λ (xs : List Op). StandsSo name xs f s) (sym keeps.untold) came.stands;
+    stands = subst (λ (xs : List Op). StandsSo name xs f.work.buffers s) (sym keeps.untold) came.stands;
     named = keeps.name ∙ came.named;
     each = came.each;
     numbers = came.numbers;
   }
 
   -- the buffers are as they were
-  module _ (live : Live) (stands : StandsSo name live.telling.untold e s) (named : live.name ≡ name) where
+  module _ (live : Live) (stands : StandsSo name live.telling.untold e.work.buffers s) (named : live.name ≡ name) where
     here : (ops : List Op) → Came ops e live
     here ops = record {
       stands = stands;
@@ -121,7 +102,7 @@ module _ (name : List ℕ) (right : all_scalars name ≡ true) (s : Held) (e : E
     went : (ops : List Op) (f : Editor) (next : Live) → AreKept f.work.buffers → HaveOwnNames f.work.buffers
         → ((d : OpenState) → Contains f.work.buffers.all d → GoesOn ops e.work.buffers s d s)
         → ((b : OpenState) → Contains e.work.buffers.all b → IsOpen b.buffer.name f.work.buffers)
-        → KeepsNumbers e.work f.work → (StandsSo name live.telling.untold f s → StandsSo name next.telling.untold f s) → next.name ≡ live.name → Came ops f next
+        → KeepsNumbers e.work f.work → (StandsSo name live.telling.untold f.work.buffers s → StandsSo name next.telling.untold f.work.buffers s) → next.name ≡ live.name → Came ops f next
     went ops f next later own each stay numbers noted same =
         let go : GoOn (encode_utf8_all name) e.work f.work s s = record {
           each = λ d c. inl (ops, each d c);
@@ -136,7 +117,7 @@ module _ (name : List ℕ) (right : all_scalars name ≡ true) (s : Held) (e : E
         → ((d : OpenState) → Contains f.work.buffers.all d → GoesOn ops e.work.buffers s d s) → KeepsUntold live next → Came ops f next
     taken ops i f next later same each keeps =
         went ops f next later (taken_own i ops e f stands.own same) each (taken_stay i ops e f same) (record { replica = ap (λ (g : Editor). g.work.replica) same; limit = ap (λ (g : Editor). g.work.limit) same })
-        (λ so. subst (λ (xs : List Op). StandsSo name xs f s) (sym keeps.untold) so) keeps.name
+        (λ so. subst (λ (xs : List Op). StandsSo name xs f.work.buffers s) (sym keeps.untold) so) keeps.name
 
     takes_one : (op : Op) (i : ℕ) (r : Result Taken Refusal) (f : Editor) (next : Live) → i < length e.work.buffers.all → AreKept f.work.buffers → TakesOperation op i e r f
         → KeepsUntold live next → Came (op ∷ []) f next
@@ -152,40 +133,24 @@ module _ (name : List ℕ) (right : all_scalars name ≡ true) (s : Held) (e : E
         taken ops i f next later takes.left (taken_on ops s i e f there later.are answered takes.left) keeps
     takes_list ops i (Err why) f next there later takes keeps = stays_with ops f next takes.left keeps
 
-    module _ {A : Type 0} (ops : List Op) (Each : ℕ → Editor → Result A Refusal → Editor → Type 0) (f : Editor) (next : Live) (verdict : Verdict) (each : (i : ℕ) (r : Result A Refusal) → i < length e.work.buffers.all → Each i e r f → KeepsUntold live next → Came ops f next) where
-      abbrev AnsweredSo : Result A Refusal → Type 0
-      AnsweredSo r = MatchResult r (λ _. (verdict ≡ Ok true) × (next ≡ with_taken live)) (λ why. (verdict ≡ Err (Refused why)) × (next ≡ live))
-
-      answered : (i : ℕ) (r : Result A Refusal) → i < length e.work.buffers.all → Each i e r f → AnsweredSo r → Came ops f next
-      answered i (Ok a) there takes (told, is) = each i (Ok a) there takes (record { untold = ap (λ (l : Live). l.telling.untold) is; name = ap (λ (l : Live). l.name) is })
-      answered i (Err why) there takes (told, is) = each i (Err why) there takes (untold_as live next is)
-
-      abbrev OthersAt : Option ℕ → Type 0
-      OthersAt None = (verdict ≡ Err Closed) × (f ≡ e) × (next ≡ live)
-      OthersAt (Some i) = MatchBool (list_any (is_far (clock_at i e)) ops)
-          ((verdict ≡ Err Far) × (f ≡ e) × (next ≡ live))
-          ((r : Result A Refusal) × Each i e r f × AnsweredSo r)
-
-      others_at : (o : Option ℕ) → live_index live.name e ≡ o → OthersAt o → Came ops f next
-      others_at None at (told, same, is) = stays ops f next same is
-      others_at (Some i) at takes =
-          let there = (found_so live.name e.work.buffers i stands.kept.named at).within in
-          by_far (list_any (is_far (clock_at i e)) ops) there takes
-        where
-          by_far : (far : Bool) → i < length e.work.buffers.all
-              → MatchBool far ((verdict ≡ Err Far) × (f ≡ e) × (next ≡ live)) ((r : Result A Refusal) × Each i e r f × AnsweredSo r) → Came ops f next
-          by_far true there (told, same, is) = stays ops f next same is
-          by_far false there (r, takes, so) = answered i r there takes so
-
-      others : TakesOthers ops Each e live verdict f next → Came ops f next
-      others takes = others_at (live_index live.name e) refl takes
+    others : {A : Type 0} (ops : List Op) (Each : ℕ → Editor → Result A Refusal → Editor → Type 0) (f : Editor) (next : Live) (verdict : Verdict)
+        → ((i : ℕ) (r : Result A Refusal) → i < length e.work.buffers.all → Each i e r f → KeepsUntold live next → Came ops f next)
+        → TakesOthers ops Each e live verdict f next → Came ops f next
+    others {A} ops Each f next verdict each = others_case e live f next verdict (stays ops f next) ops Each answered
+      where
+        answered : (i : ℕ) (r : Result A Refusal) → live_index live.name e ≡ Some i → Each i e r f
+            → MatchResult r (λ _. next ≡ with_taken live) (λ why. next ≡ live) → Came ops f next
+        answered i (Ok a) at takes is =
+            each i (Ok a) (found_so live.name e.work.buffers i stands.kept.named at).within takes
+            (record { untold = ap (λ (l : Live). l.telling.untold) is; name = ap (λ (l : Live). l.name) is })
+        answered i (Err why) at takes is = each i (Err why) (found_so live.name e.work.buffers i stands.kept.named at).within takes (untold_as live next is)
 
     -- ---- pasted text, and splices
 
     pastes : (put : List ℕ) (f : Editor) (next : Live) (verdict : Verdict) → AreKept f.work.buffers → Pastes put e live verdict f next → Came [] f next
     pastes put f next verdict later (r, pasted, came) = by r refl came
       where
-        pasted_so : (StandsSo name live.telling.untold f s → StandsSo name next.telling.untold f s) → next.name ≡ live.name → Came [] f next
+        pasted_so : (StandsSo name live.telling.untold f.work.buffers s → StandsSo name next.telling.untold f.work.buffers s) → next.name ≡ live.name → Came [] f next
         pasted_so noted same =
             went [] f next later (pasted_own put e f r stands.own pasted) (pasted_on [] s put e f r stands.kept.are later.are pasted)
             (pasted_stay put e f r pasted) (paste_numbers put e f r pasted) noted same
@@ -204,38 +169,26 @@ module _ (name : List ℕ) (right : all_scalars name ≡ true) (s : Held) (e : E
             })
             (ap (λ (l : Live). l.name) is)
         by (Err fault) at (told, is) =
-            pasted_so (λ so. subst (λ (l : Live). StandsSo name l.telling.untold f s) (sym is) so) (ap (λ (l : Live). l.name) is)
-
-    spliced : (base lo hi : ℕ) (put : List ℕ) (i : ℕ) (r : Result (Unit {0}) ActionFault) (f : Editor) (next : Live) (verdict : Verdict) → live_index live.name e ≡ Some i
-        → AreKept f.work.buffers → RunsAt i (ReplaceRange lo hi put) 1 e.work (f.work, r) → SplicedSo i e live f next verdict r → Came [] f next
-    spliced base lo hi put i (Ok u) f next verdict at later did (noted, same, told, is) =
-        let there = (found_so live.name e.work.buffers i stands.kept.named at).within in
-        went [] f next later (spliced_own i (ReplaceRange lo hi put) 1 e f (Ok u) stands.own did) (spliced_on [] s i (ReplaceRange lo hi put) 1 e f (Ok u) there later.are did)
-        (spliced_stay i (ReplaceRange lo hi put) 1 e f (Ok u) did) (run_numbers i (ReplaceRange lo hi put) 1 e.work f.work (Ok u) did)
-        (λ so. record {
-          kept = so.kept;
-          own = so.own;
-          logged = so.logged;
-          safe = subst (λ (l : Live). AreSafe (encode_utf8_all name) l.telling.untold f.work.buffers s) (sym is)
-              (made_safe name s f so.own later.named so.logged true noted e i live stands.kept.named
-              (λ _. subst (λ n. live_index n e ≡ Some i) named at) (λ count. run_same i (ReplaceRange lo hi put) 1 e.work f.work (Ok u) did) so.safe);
-        })
-        (ap (λ (l : Live). l.name) is)
-    spliced base lo hi put i (Err fault) f next verdict at later did (same, told, is) = stays [] f next same is
+            pasted_so (λ so. subst (λ (l : Live). StandsSo name l.telling.untold f.work.buffers s) (sym is) so) (ap (λ (l : Live). l.name) is)
 
     splices : (base lo hi : ℕ) (put : List ℕ) (f : Editor) (next : Live) (verdict : Verdict) → AreKept f.work.buffers → Splices base lo hi put e live verdict f next → Came [] f next
-    splices base lo hi put f next verdict later takes = by (live_index live.name e) refl takes
+    splices base lo hi put f next verdict later = splices_case e live f next verdict (stays [] f next) base lo hi put made
       where
-        by_base : (i : ℕ) (same : Bool) → live_index live.name e ≡ Some i
-            → MatchBool same
-            ((r : Result (Unit {0}) ActionFault) × RunsAt i (ReplaceRange lo hi put) 1 e.work (f.work, r) × SplicedSo i e live f next verdict r)
-            ((verdict ≡ Err Stale) × (f ≡ e) × (next ≡ live)) → Came [] f next
-        by_base i true at (r, did, so) = spliced base lo hi put i r f next verdict at later did so
-        by_base i false at (told, same, is) = stays [] f next same is
-
-        by : (o : Option ℕ) → live_index live.name e ≡ o → SplicesAt base lo hi put e live f next verdict o → Came [] f next
-        by None at (told, same, is) = stays [] f next same is
-        by (Some i) at it = by_base i (nat_eq base (change_count live.changes)) at it
+        made : (i : ℕ) (noted : Bool) → live_index live.name e ≡ Some i → RunsAt i (ReplaceRange lo hi put) 1 e.work (f.work, Ok tt)
+            → next ≡ with_made true noted (made_at i e f) live → Came [] f next
+        made i noted at did is =
+            let there = (found_so live.name e.work.buffers i stands.kept.named at).within in
+            went [] f next later (spliced_own i (ReplaceRange lo hi put) 1 e f (Ok tt) stands.own did) (spliced_on [] s i (ReplaceRange lo hi put) 1 e f (Ok tt) there later.are did)
+            (spliced_stay i (ReplaceRange lo hi put) 1 e f (Ok tt) did) (run_numbers i (ReplaceRange lo hi put) 1 e.work f.work (Ok tt) did)
+            (λ so. record {
+              kept = so.kept;
+              own = so.own;
+              logged = so.logged;
+              safe = subst (λ (l : Live). AreSafe (encode_utf8_all name) l.telling.untold f.work.buffers s) (sym is)
+                  (made_safe name s f so.own later.named so.logged true noted e i live stands.kept.named
+                  (λ _. subst (λ n. live_index n e ≡ Some i) named at) (λ count. run_same i (ReplaceRange lo hi put) 1 e.work f.work (Ok tt) did) so.safe);
+            })
+            (ap (λ (l : Live). l.name) is)
 
     sized : (rows columns : ℕ) (f : Editor) (next : Live) → AreKept f.work.buffers → f ≡ resized rows columns e → next ≡ live → Came [] f next
     sized rows columns f next later same is =
@@ -245,17 +198,17 @@ module _ (name : List ℕ) (right : all_scalars name ≡ true) (s : Held) (e : E
         (λ d c. record { b = d; was = subst (λ (l : List OpenState). Contains l d) all c; steps = []; takes = tt; goes = (refl, refl) })
         (λ b c. (b, subst (λ (l : List OpenState). Contains l b) (sym all) c, refl))
         (record { replica = ap (λ (g : Editor). g.work.replica) same; limit = ap (λ (g : Editor). g.work.limit) same })
-        (λ so. subst (λ (l : Live). StandsSo name l.telling.untold f s) (sym is) so) (ap (λ (l : Live). l.name) is)
+        (λ so. subst (λ (l : Live). StandsSo name l.telling.untold f.work.buffers s) (sym is) so) (ap (λ (l : Live). l.name) is)
 
   -- a piece of text, with what is held of it
   piece_taken : (Each : List ℕ → Editor → Live → Verdict → Editor → Live → Type 0) (piece : Piece) (live : Live) (f : Editor) (next : Live) (verdict : Verdict)
-      → StandsSo name live.telling.untold e s → live.name ≡ name → ((put : List ℕ) → Each put e live verdict f next → Came [] f next)
+      → StandsSo name live.telling.untold e.work.buffers s → live.name ≡ name → ((put : List ℕ) → Each put e live verdict f next → Came [] f next)
       → TakesPiece piece Each e live verdict f next → Came [] f next
   piece_taken Each Waits live f next verdict stands named each (told, same, is) = stays live stands named [] f next same is
   piece_taken Each (Dropped fault) live f next verdict stands named each (told, same, is) = stays live stands named [] f next same is
   piece_taken Each (Whole put) live f next verdict stands named each taken = each put taken
 
-  module _ (live : Live) (stands : StandsSo name live.telling.untold e s) (named : live.name ≡ name) (f : Editor) (next : Live) (verdict : Verdict) (later : AreKept f.work.buffers) where
+  module _ (live : Live) (stands : StandsSo name live.telling.untold e.work.buffers s) (named : live.name ≡ name) (f : Editor) (next : Live) (verdict : Verdict) (later : AreKept f.work.buffers) where
     takes : (told : Report) → Takes told e live verdict f next → Came (operations_of told) f next
     takes (report.One op) it = others live stands named (op ∷ []) (TakesOperation op) f next verdict (λ i r there. takes_one live stands named op i r f next there later) it
     takes (report.Run run) (inl (told, same, is)) = stays live stands named (stretch_operations run) f next same is
@@ -279,7 +232,7 @@ module _ (name : List ℕ) (right : all_scalars name ≡ true) (s : Held) (e : E
 
   -- ---- the line of a report
 
-  module _ (live : Live) (stands : StandsSo name live.telling.untold e s) (named : live.name ≡ name) (f : Editor) (next : Live) (after : Course) (later : AreKept f.work.buffers) where
+  module _ (live : Live) (stands : StandsSo name live.telling.untold e.work.buffers s) (named : live.name ≡ name) (f : Editor) (next : Live) (after : Course) (later : AreKept f.work.buffers) where
     reported : (told : Report) → TakesReport told e (counted live) f next after → Came (operations_of told) f next
     reported told (verdict, between, taken, follows) =
         keeps_came (operations_of told) f between next (follows_keep verdict between next after follows)
@@ -292,11 +245,8 @@ module _ (name : List ℕ) (right : all_scalars name ≡ true) (s : Held) (e : E
             → MatchResult read (λ told. TakesReport told e (counted live) f next after) (λ fault. (f ≡ e) × RefusesReport (Line fault) On (counted live) next after)
             → Came (operations_at bytes) f next
         by (Ok told) at it =
-            let is : report_at bytes ≡ Ok told = sym (exact (λ bad. clash told at bad)) ∙ at in
+            let is : report_at bytes ≡ Ok told = sym (exact (λ bad. absurd cc)) ∙ at in
             subst (λ (x : Result Report LineFault). Came (operations_read x) f next) (sym is) (reported told it)
-          where
-            clash : (told : Report) → r ≡ Ok told → r ≡ Err line.Memory → ⊥
-            clash told at bad = let both : read_well told ≡ read_badly = sym at ∙ bad in absurd cc
         by (Err fault) at (same, so) =
             let keeps = refused_keeps (Line fault) On (counted live) next after so in
             stays_with live stands named (operations_at bytes) f next same (record { untold = keeps.untold; name = keeps.name })

@@ -1,5 +1,5 @@
 -- Which names stand at which index after a press, a paste and a splice.
-use Rattle.std.proofs.Common.{◌≡◌, ◌⊎◌, inl, inr, ◌∙◌, ◌<◌, ◌≤◌, arith, ℕ, zero, suc, List, ◌++◌, length, get_or, refl, sym, ap, append-nil}
+use Rattle.std.proofs.Common.{◌≡◌, ◌⊎◌, inl, inr, ◌∙◌, ◌<◌, ◌≤◌, arith, ℕ, suc, List, ◌++◌, length, get_or, refl, sym, ap, append-nil}
 use Rattle.std.specs.List.{remove}
 use Rattle.std.proofs.lemmas.List.{length-set, take_all, drop_all}
 use Rattle.std.proofs.lemmas.List.Edits.{length-remove}
@@ -69,9 +69,7 @@ removes_none : (xs : List OpenState) (i : ℕ) → length xs ≤ i → remove xs
 removes_none xs i past = (λ k. take_all i xs past k ++ drop_all (suc i) xs (omega (arith, past)) k) ∙ append-nil xs
 
 not_below : (i n : ℕ) → (i < n → ⊥) → n ≤ i
-not_below i zero never = omega arith
-not_below zero (suc n) never = absurd (never (omega arith))
-not_below (suc i) (suc n) never = let less = not_below i n (λ lt. never (omega (arith, lt))) in omega (arith, less)
+not_below i n never = grind (arith, never)
 
 -- where as many are open none was removed
 as_many : (w v : Workspace) → length v.buffers.all ≡ length w.buffers.all → Shape w v → SameNames w v

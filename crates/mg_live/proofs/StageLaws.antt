@@ -20,11 +20,15 @@ use Rattle.mg_live.specs.Standing.{AreHeld, AreInLog, AreKept, AreSafe}
 use Rattle.mg_live.proofs.GrowingLaws.{held_longer, steps_grow}
 use Rattle.mg_live.proofs.NameLaws.{same_buffer}
 
-is_buffer : (bs : Buffers) → AreKept bs → (d : OpenState) → Contains bs.all d → IsBuffer d
+pub is_buffer : (bs : Buffers) → AreKept bs → (d : OpenState) → Contains bs.all d → IsBuffer d
 is_buffer bs kept d c = record { sound = kept.sound d c; writable = kept.are.writable d c; fits = kept.are.fits d c }
 
 same_content : (bytes : List ℕ) (c d : Content) → StandsFor bytes c → StandsFor bytes d → c ≡ d
 same_content bytes c d one two = one.content ∙ sym two.content
+
+-- the name of a buffer that was opened
+pub opened_as : (name : List ℕ) (v : Workspace) (s t : Held) (d : OpenState) → IsOpenedBy name v s d t → d.buffer.name ≡ name
+opened_as name v s t d o = ap (λ (b : OpenState). b.buffer.name) o.is ∙ opened_name name v.replica v.limit o.found o.loaded o.end o.outcome
 
 pub in_same_log : (ops : List Op) (a b : Option (List ℕ)) → b ≡ a → AreInLog ops a → AreInLog ops b
 in_same_log ops a b is held = subst (AreInLog ops) (sym is) held
@@ -55,7 +59,7 @@ module _ (name : List ℕ) (old new : Workspace) (s t : Held) (kept : AreKept ne
         let grown = steps_grow goes.steps goes.b d s t goes.goes in
         held_longer ops goes.b.buffer.content d.buffer.content grown.within (safe.open_buffer goes.b goes.was (sym grown.name ∙ is))
     still_there d c is (inr (n, o, none)) =
-        let named : d.buffer.name ≡ n = ap (λ (x : OpenState). x.buffer.name) o.is ∙ opened_name n old.replica old.limit o.found o.loaded o.end o.outcome in
+        let named : d.buffer.name ≡ n = opened_as n old s t d o in
         let at : n ≡ name = sym named ∙ is in
         let before : AreInLog ops (s n).log = subst (λ m. AreInLog ops (s m).log) (sym at) (safe.closed (none at)) in
         let held : AreInLog ops (t d.buffer.name).log =
@@ -94,6 +98,3 @@ safe_more name ops made bs s x own there is held safe = record {
     by : (d : OpenState) → Contains bs.all d → d.buffer.name ≡ name → (op : Op) → Contains ops op ⊎ Contains made op → Holds d.buffer.content op
     by d c named op (inl has) = safe.open_buffer d c named op has
     by d c named op (inr has) = subst (λ (b : OpenState). Holds b.buffer.content op) (same_buffer bs x d own there c (is ∙ sym named)) (held op has)
-
-pub safe_as : (name : List ℕ) (xs ys : List Op) (bs : Buffers) (s : Held) → ys ≡ xs → AreSafe name xs bs s → AreSafe name ys bs s
-safe_as name xs ys bs s is safe = subst (λ (ops : List Op). AreSafe name ops bs s) (sym is) safe

@@ -21,7 +21,7 @@ use Rattle.mg_workspace.specs.Buffers.{no_buffer}
 use Rattle.mg_workspace.specs.Opening.{workspace}
 use Rattle.mg_workspace.specs.Workspaces.{Workspace}
 use Rattle.mg_editor.specs.Editors.{Editor}
-use Rattle.mg_editor.specs.Holding.{AreLogged, HaveOwnNames}
+use Rattle.mg_editor.specs.Holding.{AreLogged, HaveOwnNames, IsOpenedBy}
 use Rattle.mg_editor.specs.Opening.{opened_editor}
 use Rattle.mg_editor.proofs.NamesLaws.{one_own}
 use Rattle.mg_session.specs.Opening.{LoadsTo}
@@ -30,7 +30,6 @@ use Rattle.mg_live.specs.Running.{live_at_start}
 use Rattle.mg_live.specs.Standing.{AreHeld, AreKept, AreSafe, Stands}
 use Rattle.mg_live.specs.States.{Live, Moment}
 use Rattle.mg_live.proofs.GrowingLaws.{unsaved_held}
-use Rattle.mg_live.proofs.TogetherActs.{IsLoadedSo}
 
 abbrev Outcome : Type 0
 Outcome = Result (OpenState × LogEnd) LoadFault
@@ -122,18 +121,18 @@ module _ (v : Values) (noted : Bool) (first : Editor) (found : Files) (before ma
           (subst (λ (xs : List Op). AreHeld xs buffer.buffer.content) (sym at) (unsaved_held buffer (t buffer.buffer.name).log logged_so))
       by false d c = λ op has. absurd (Contains-nil op has)
 
-  pub start_loaded : (d : OpenState) → Contains first.work.buffers.all d → IsLoadedSo v.name v.replica v.limit s d t
-  start_loaded d c = record {
-    found = found;
-    answers = led.1.found;
-    loaded = opens.loaded;
-    end = opens.end;
-    outcome = opens.outcome;
-    runs = v.runs;
-    brief = v.brief;
-    is = only buffer d (subst (λ (l : List OpenState). Contains l d) all c);
-    held = led.2 v.name ∙ led.1.here;
-  }
+  pub start_opened : (d : OpenState) → Contains first.work.buffers.all d → IsOpenedBy v.name first.work s d t
+  start_opened d c =
+      let opened : IsOpenedBy v.name (workspace v opens.loaded) s d t = record {
+        found = found;
+        answers = led.1.found;
+        loaded = opens.loaded;
+        end = opens.end;
+        outcome = opens.outcome;
+        is = only buffer d (subst (λ (l : List OpenState). Contains l d) all c);
+        held = led.2 v.name ∙ led.1.here;
+      } in
+      subst (λ (w : Workspace). IsOpenedBy v.name w s d t) (sym opens.work) opened
 
   start_so : (m : Moment) → m.editor ≡ first → m.live ≡ live_at_start noted v first → Stands t m
   start_so m editor live =
@@ -151,10 +150,10 @@ pub start_stands : (v : Values) (noted : Bool) (first : Editor) (before made : L
 start_stands v noted first before made s t m (found, adds, opens) leads kept =
     start_so v noted first found before made s t adds (opened_so v found first opens) leads kept m
 
-pub loaded_at_start : (v : Values) (first : Editor) (before made : List Call) (s t : Held) → LoadsTo v (Some before) (Some (before ++ made)) (Ok first)
-    → MayLead made s t → AreKept first.work.buffers → (d : OpenState) → Contains first.work.buffers.all d → IsLoadedSo v.name v.replica v.limit s d t
-loaded_at_start v first before made s t (found, adds, is) leads kept =
-    start_loaded v true first found before made s t adds (opened_so v found first is) leads kept
+pub opened_at_start : (v : Values) (first : Editor) (before made : List Call) (s t : Held) → LoadsTo v (Some before) (Some (before ++ made)) (Ok first)
+    → MayLead made s t → AreKept first.work.buffers → (d : OpenState) → Contains first.work.buffers.all d → IsOpenedBy v.name first.work s d t
+opened_at_start v first before made s t (found, adds, is) leads kept =
+    start_opened v true first found before made s t adds (opened_so v found first is) leads kept
 
 -- the numbers are those of the settings
 pub numbers_at_start : (v : Values) (first : Editor) (before made : List Call) → LoadsTo v (Some before) (Some (before ++ made)) (Ok first)

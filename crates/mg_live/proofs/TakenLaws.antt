@@ -1,5 +1,5 @@
 -- Bytes of the keys that were taken, one after the other, and their reads.
-use Rattle.std.proofs.Common.{◌≡◌, ◌≢◌, arith, ℕ, ◌+◌, ◌<◌, ◌||◌, Bool, true, false, List, [], ◌∷◌, length, get_or, drop, refl, sym, ap, subst, ◌∙◌, true≢false}
+use Rattle.std.proofs.Common.{◌≡◌, ◌≢◌, arith, ℕ, ◌+◌, ◌<◌, ◌||◌, Bool, true, false, List, [], ◌∷◌, length, get_or, drop, refl, sym, ap, subst, ◌∙◌}
 use Rattle.std.proofs.lemmas.List.{drop_more}
 use Rattle.std.specs.Io.KnownBytes.{Consumes, IsAtEnd}
 use Rattle.rga_exchange.specs.Counting.{Calls, one_more}
@@ -10,18 +10,11 @@ use Rattle.mg_session.specs.Courses.{is_on}
 use Rattle.mg_session.specs.Moments.{Known, ToldCalls, seen}
 use Rattle.mg_session.specs.declared.course.Course.{Course}
 use Rattle.mg_session.specs.declared.course.Course.TheVariants.{On, Quit, NoKeys}
+use Rattle.mg_session.proofs.TakenLaws.{is_off}
 use Rattle.mg_live.specs.Blocks.{EndsBlock}
 use Rattle.mg_live.specs.Reports.{NotesChanges}
 use Rattle.mg_live.specs.Running.{Noted, TakesEvents, TakesBytes, TakesBlock, ReadsKeys, at_end, failed, block, is_any, quits, Finishes, Runs}
 use Rattle.mg_live.specs.States.{Live, Moment, moment}
-
-pub on_is : (course : Course) → is_on course ≡ true → course ≡ On
-on_is On is = refl
-on_is course is = absurd (true≢false (sym is))
-
-pub is_off : (course : Course) → course ≢ On → is_on course ≡ false
-is_off On off = absurd (off refl)
-is_off course off = refl
 
 -- ---- events
 
@@ -70,8 +63,7 @@ reads_more bytes {reading} {next} {left} {a} {b} {c} {from} {mid} {rest} on read
 -- ---- a session
 
 pub quits_not : (course : Course) → course ≢ Quit → quits course ≡ false
-quits_not Quit other = absurd (other refl)
-quits_not course other = refl
+quits_not course other = grind arith
 
 module _ {R : Type 0} (remaining : R → Known) {keys rest : Calls R} {a n b r : Moment} {start left : Reading} where
   pub runs_quit : Noted a n → EndsBlock n b → start ≡ fresh → ReadsKeys start b left r (seen remaining keys) (seen remaining rest) → r.course ≡ Quit

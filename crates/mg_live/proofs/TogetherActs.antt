@@ -1,14 +1,13 @@
 -- What becomes of a live buffer, as acts of a writer of mg_held.
-use Rattle.std.proofs.Common.{◌≡◌, ◌≤◌, inl, inr, ◌∙◌, ℕ, zero, suc, Bool, List, [], ◌∷◌, Some, Ok, slice_get, slice_set, refl, sym, ap, subst}
+use Rattle.std.proofs.Common.{◌≡◌, ◌≤◌, inl, inr, ◌∙◌, ℕ, zero, suc, List, [], ◌∷◌, Some, Ok, slice_get, slice_set, refl, sym, ap, subst}
 use Rattle.std.specs.List.{Contains}
 use Rattle.rga_ops.specs.Content.{Content, Holds, IsSound, IsWithin, known_count}
 use Rattle.rga_ops.specs.declared.op.Op.{Op}
 use Rattle.rga_ops.proofs.ContentLaws.{within_chain}
 use Rattle.rga_ops.proofs.TakenLaws.{held_stays}
 use Rattle.rga_exchange.specs.Sending.{StandsFor}
-use Rattle.rga_exchange.specs.declared.log.LogEnd.{LogEnd}
 use Rattle.rga_world.proofs.ListPlaces.{contains_at, contains_place, set_here, set_old}
-use Rattle.mg_buffer.specs.OpenState.{OpenState, with_brief, with_runs}
+use Rattle.mg_buffer.specs.OpenState.{OpenState}
 use Rattle.mg_files.specs.Files.{Files}
 use Rattle.mg_files.specs.Loading.{load_outcome}
 use Rattle.mg_held.specs.Held.{Held, AnswersLoad, log_bytes}
@@ -19,9 +18,11 @@ use Rattle.mg_held.proofs.FreshSteps.{reached_sites}
 use Rattle.mg_held.proofs.GoodSteps.{all_logged_grows, reached_further}
 use Rattle.mg_held.proofs.JoinSteps.{step_replica}
 use Rattle.mg_held.proofs.OpenEvents.{opening_follows, opening_replica}
-use Rattle.mg_held.proofs.OpenSteps.{opened_name}
 use Rattle.mg_held.proofs.RunSteps.{after_step}
 use Rattle.mg_held.proofs.WriterSteps.{step_follows}
+use Rattle.mg_workspace.specs.Workspaces.{Workspace}
+use Rattle.mg_editor.specs.Holding.{IsOpenedBy}
+use Rattle.mg_live.proofs.StageLaws.{opened_as}
 
 -- ---- what is in a log stays there
 
@@ -145,22 +146,10 @@ goes ops (step ∷ steps) ws number w d t r was logged only (c, u, first, more) 
 
 -- ---- an opening
 
--- a load of what is held answered files that open the buffer
-pub record IsLoadedSo (name : List ℕ) (replica limit : ℕ) (s : Held) (d : OpenState) (t : Held) : Type 0 where
-  pub found : Files
-  pub answers : AnswersLoad (s name) found
-  pub loaded : OpenState
-  pub end : LogEnd
-  pub outcome : load_outcome name replica limit found ≡ Ok (loaded, end)
-  pub runs : Bool
-  pub brief : Bool
-  pub is : d ≡ with_brief brief (with_runs runs loaded)
-  pub held : t name ≡ s name
-
-pub opens : (name : List ℕ) (replica limit : ℕ) (ws : List Writer) (number : ℕ) (w : Writer) (d : OpenState) (t : Held) → AreReached ws → slice_get ws number ≡ Some w
-    → w.buffer.buffer.name ≡ name → own_replica w ≡ replica → own_limit w ≡ limit → IsBuffer d → IsLoadedSo name replica limit w.files d t
+pub opens : (name : List ℕ) (v : Workspace) (ws : List Writer) (number : ℕ) (w : Writer) (d : OpenState) (t : Held) → AreReached ws → slice_get ws number ≡ Some w
+    → w.buffer.buffer.name ≡ name → own_replica w ≡ v.replica → own_limit w ≡ v.limit → IsBuffer d → IsOpenedBy name v w.files d t
     → Moved ws number w (writer d t)
-opens name replica limit ws number w d t r was named numbered limited kept o =
+opens name v ws number w d t r was named numbered limited kept o =
     let y : Writer = writer d t in
     let content : d.buffer.content ≡ o.loaded.buffer.content = ap (λ (b : OpenState). b.buffer.content) o.is in
     let limit_is : d.buffer.limit ≡ o.loaded.buffer.limit = ap (λ (b : OpenState). b.buffer.limit) o.is in
@@ -169,7 +158,6 @@ opens name replica limit ws number w d t r was named numbered limited kept o =
       writable = subst IsWritableWhole content kept.writable;
       fits = subst (λ n. known_count o.loaded.buffer.content ≤ n) limit_is (subst (λ c. known_count c ≤ d.buffer.limit) content kept.fits);
     } in
-    let d_named : d.buffer.name ≡ name = ap (λ (b : OpenState). b.buffer.name) o.is ∙ opened_name name replica limit o.found o.loaded o.end o.outcome in
     let anew : IsOpenedAnew w y = record {
       found = o.found;
       answers = subst (λ n. AnswersLoad (w.files n) o.found) (sym named) o.answers;
@@ -178,12 +166,12 @@ opens name replica limit ws number w d t r was named numbered limited kept o =
       outcome =
           subst (λ n. load_outcome n (own_replica w) (own_limit w) o.found ≡ Ok (o.loaded, o.end)) (sym named)
           (subst (λ n. load_outcome name n (own_limit w) o.found ≡ Ok (o.loaded, o.end)) (sym numbered)
-          (subst (λ n. load_outcome name replica n o.found ≡ Ok (o.loaded, o.end)) (sym limited) o.outcome));
+          (subst (λ n. load_outcome name v.replica n o.found ≡ Ok (o.loaded, o.end)) (sym limited) o.outcome));
       kept = is_buffer;
-      runs = o.runs;
-      brief = o.brief;
+      runs = v.runs;
+      brief = v.brief;
       is = o.is;
-      held = ap t d_named ∙ o.held ∙ ap w.files (sym named);
+      held = ap t (opened_as name v w.files t d o) ∙ o.held ∙ ap w.files (sym named);
     } in
     let (world, reached, sites) = reached_sites ws r in
     let follows = opening_follows world w y (sites w (contains_at ws number w was)) reached anew in

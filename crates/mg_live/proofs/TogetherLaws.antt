@@ -24,27 +24,27 @@ use Rattle.mg_buffer.specs.OpenState.{OpenState}
 use Rattle.mg_files.specs.Files.{Files}
 use Rattle.mg_files.specs.Loading.{loaded, opened}
 use Rattle.mg_held.specs.Held.{Held, log_bytes}
-use Rattle.mg_held.specs.Kept.{IsBuffer}
 use Rattle.mg_held.specs.Run.{MayGo}
 use Rattle.mg_held.specs.Writers.{Writer, IsFresh, HaveOwnNumbers, AreReached, IsInALog, all_logged, logged_content, own_files, own_limit, own_replica}
-use Rattle.mg_held.proofs.OpenSteps.{opened_name}
 use Rattle.mg_held.proofs.SharedSteps.{no_list_conflict, one_text}
 use Rattle.mg_events.specs.Reading.{Told, key, report, refused}
-use Rattle.mg_workspace.specs.Buffers.{Buffers, current_buffer, no_buffer}
+use Rattle.mg_workspace.specs.Buffers.{current_buffer, no_buffer}
 use Rattle.mg_workspace.specs.Workspaces.{Workspace}
 use Rattle.mg_editor.specs.Editors.{Editor}
-use Rattle.mg_editor.specs.Holding.{GoesOn, HaveOwnNames, IsOpen, IsOpenedBy}
+use Rattle.mg_editor.specs.Holding.{GoesOn, IsOpen, IsOpenedBy}
 use Rattle.mg_editor.proofs.RemovalLaws.{gone_on_named}
 use Rattle.mg_live.specs.Running.{TakesEvent}
-use Rattle.mg_live.specs.Standing.{AreKept, AreSafe, AreKeptWithin, ComesBy, Stands, live_name, operations_at}
+use Rattle.mg_live.specs.Standing.{AreKeptWithin, ComesBy, Stands, live_name, operations_at}
 use Rattle.mg_live.specs.States.{Live, Moment}
 use Rattle.mg_live.specs.Together.{LiveWriter, at_moment, IsLiveBuffer, IsLoggedByOne, IsShared, SaysShared, StartsSession, TakesShared, EndsTelling, StaysSame, LiveAct, Starts, Takes, Ends, Stays, Dies, Becomes, MayLive, MayLiveOn, IsNew, HaveOwnReplicas, AreLive, AreWriters, live_logged, all_live_logged}
-use Rattle.mg_live.proofs.BlockLaws.{block_each, block_name, block_numbers, block_spares, block_stands, told_held, written_name}
-use Rattle.mg_live.proofs.EventLaws.{event_each, event_name, event_numbers, event_spares, event_stands}
+use Rattle.mg_live.proofs.BlockLaws.{Goes, block_goes, told_held, written_name}
+use Rattle.mg_live.proofs.EventLaws.{event_goes}
+use Rattle.mg_live.proofs.KeyLaws.{stands_at, stands_so}
 use Rattle.mg_live.proofs.NameLaws.{open_or_not, same_buffer}
 use Rattle.mg_live.proofs.NumberLaws.{KeepsNumbers, press_numbers, same_numbers}
-use Rattle.mg_live.proofs.StartLaws.{loaded_at_start, name_at_start, numbers_at_start, start_stands}
-use Rattle.mg_live.proofs.TogetherActs.{IsLoadedSo, Moved, goes, opens, rests, writer}
+use Rattle.mg_live.proofs.StageLaws.{is_buffer, opened_as}
+use Rattle.mg_live.proofs.StartLaws.{opened_at_start, name_at_start, numbers_at_start, start_stands}
+use Rattle.mg_live.proofs.TogetherActs.{Moved, goes, opens, rests, writer}
 
 -- ---- one writer and its session
 
@@ -70,18 +70,14 @@ session_at x w m fit is = subst (λ o. IfSome o (RunsBeside x w)) is fit.session
 own_is : (x : LiveWriter) (w : Writer) → Matches x w → own_files w ≡ x.held x.name
 own_is x w fit = ap w.files fit.name ∙ ap (λ (s : Held). s x.name) fit.files
 
--- how the buffers of a session went on from one moment to another
-record SessionGoes (x : LiveWriter) (ops : List Op) (before after : Moment) (t : Held) : Type 0 where
-  stands : Stands t after
-  name : after.live.name ≡ before.live.name
-  numbers : KeepsNumbers before.editor.work after.editor.work
-  each : (d : OpenState) → Contains after.editor.work.buffers.all d
-      → GoesOn ops before.editor.work.buffers x.held d t
-      ⊎ ((n : List ℕ) × (v : Workspace) × KeepsNumbers before.editor.work v × IsOpenedBy n v x.held d t)
-  spares : (IsOpen (live_name before) after.editor.work.buffers → ⊥) → t (live_name before) ≡ x.held (live_name before)
+-- how a session went on from one moment to another
+abbrev SessionGoes : LiveWriter → List Op → Moment → Moment → Held → Type 0
+SessionGoes x ops before after t = Goes before after x.held t
+    (λ d. GoesOn ops before.editor.work.buffers x.held d t
+    ⊎ ((n : List ℕ) × (v : Workspace) × KeepsNumbers before.editor.work v × IsOpenedBy n v x.held d t))
 
-is_kept : (bs : Buffers) → AreKept bs → (d : OpenState) → Contains bs.all d → IsBuffer d
-is_kept bs kept d c = record { sound = kept.sound d c; writable = kept.are.writable d c; fits = kept.are.fits d c }
+goes_as : {before after : Moment} {s t : Held} {P Q : OpenState → Type 0} → Goes before after s t P → ((d : OpenState) → P d → Q d) → Goes before after s t Q
+goes_as g as_so = record { stands = g.stands; name = g.name; numbers = g.numbers; each = λ d c. as_so d (g.each d c); spares = g.spares }
 
 -- where the writer went along
 record Along (ws : List Writer) (number : ℕ) (w : Writer) (y : LiveWriter) : Type 0 where
@@ -138,21 +134,9 @@ module _ (ws : List Writer) (number : ℕ) (w : Writer) (reached : AreReached ws
       anew : (d : OpenState) → Contains after.editor.work.buffers.all d → d.buffer.name ≡ x.name → (n : List ℕ) (v : Workspace) → KeepsNumbers before.editor.work v
           → IsOpenedBy n v x.held d t → Moved ws number w (writer d t)
       anew d c is n v numbers o =
-          let d_named : d.buffer.name ≡ n = ap (λ (b : OpenState). b.buffer.name) o.is ∙ opened_name n v.replica v.limit o.found o.loaded o.end o.outcome in
-          let loaded : IsLoadedSo n v.replica v.limit x.held d t = record {
-            found = o.found;
-            answers = o.answers;
-            loaded = o.loaded;
-            end = o.end;
-            outcome = o.outcome;
-            runs = v.runs;
-            brief = v.brief;
-            is = o.is;
-            held = o.held;
-          } in
-          opens n v.replica v.limit ws number w d t reached was (fit.name ∙ sym is ∙ d_named) (fit.replica ∙ sym (numbers.replica ∙ beside.replica))
-          (fit.limit ∙ sym (numbers.limit ∙ beside.limit)) (is_kept after.editor.work.buffers go.stands.kept d c)
-          (subst (λ (s : Held). IsLoadedSo n v.replica v.limit s d t) (sym fit.files) loaded)
+          opens n v ws number w d t reached was (fit.name ∙ sym is ∙ opened_as n v x.held t d o) (fit.replica ∙ sym (numbers.replica ∙ beside.replica))
+          (fit.limit ∙ sym (numbers.limit ∙ beside.limit)) (is_buffer after.editor.work.buffers go.stands.kept d c)
+          (subst (λ (s : Held). IsOpenedBy n v s d t) (sym fit.files) o)
 
       by : IsOpen (live_name after) after.editor.work.buffers ⊎ (IsOpen (live_name after) after.editor.work.buffers → ⊥) → Along ws number w (at_moment t (Some after) x)
       by (inl (d, c, at)) =
@@ -176,56 +160,35 @@ takes_goes : (xs : List LiveWriter) (told : List Op) (event : Told) (x : LiveWri
     → (ops : List Op) × SessionGoes x ops before after t × ((op : Op) → Contains ops op → IsShared xs told op)
 takes_goes xs told event x before after t stands k = by event k.taken k.within k.shared
   where
-    goes_so : (event : Told) (taken : TakesEvent event before after) → AreKeptWithin event before after taken → (ops : List Op)
-        → ((d : OpenState) → ComesBy event before after taken x.held d t
-        → GoesOn ops before.editor.work.buffers x.held d t ⊎ ((n : List ℕ) × (v : Workspace) × KeepsNumbers before.editor.work v × IsOpenedBy n v x.held d t))
-        → SessionGoes x ops before after t
-    goes_so event taken within ops comes =
-        let l = k.leads in
-        record {
-          stands = event_stands x.held t l.told l.made l.leads event before after taken stands within k.kept l.calls l.adds;
-          name = event_name x.held t l.told l.made l.leads event before after taken stands within k.kept l.calls l.adds;
-          numbers = event_numbers x.held t l.told l.made l.leads event before after taken stands within k.kept l.calls l.adds;
-          each = λ d c. comes d (event_each x.held t l.told l.made l.leads event before after taken stands within k.kept l.calls l.adds d c);
-          spares = event_spares x.held t l.told l.made l.leads event before after taken stands within k.kept l.calls l.adds;
-        }
+    went : (event : Told) (taken : TakesEvent event before after) → AreKeptWithin event before after taken
+        → Goes before after x.held t (λ d. ComesBy event before after taken x.held d t)
+    went event taken within =
+        event_goes x.held t k.leads.told k.leads.made k.leads.leads event before after taken stands within k.kept k.leads.calls k.leads.adds
 
     by : (event : Told) (taken : TakesEvent event before after) → AreKeptWithin event before after taken → SaysShared xs told event before after taken
         → (ops : List Op) × SessionGoes x ops before after t × ((op : Op) → Contains ops op → IsShared xs told op)
     by (key byte) taken within alone = (
       [],
-      goes_so (key byte) taken within []
+      goes_as (went (key byte) taken within)
           (λ d comes. elim comes [
             | inl g ↦ inl (subst (λ (ops : List Op). GoesOn ops before.editor.work.buffers x.held d t) (g.1 alone) g.2)
             | inr o ↦ inr (o.0, taken.1.pressed.work, press_numbers byte before.editor taken.1.pressed taken.1.answer taken.1.presses, o.1)
           ]),
       λ op has. absurd (Contains-nil op has),
     )
-    by (report line) taken within shared = (operations_at line, goes_so (report line) taken within (operations_at line) (λ d comes. inl comes), shared)
-    by (refused fault) taken within shared = ([], goes_so (refused fault) taken within [] (λ d comes. inl comes), λ op has. absurd (Contains-nil op has))
+    by (report line) taken within shared = (operations_at line, goes_as (went (report line) taken within) (λ d comes. inl comes), shared)
+    by (refused fault) taken within shared = ([], goes_as (went (refused fault) taken within) (λ d comes. inl comes), λ op has. absurd (Contains-nil op has))
 
 ends_goes : (x : LiveWriter) (before after : Moment) (t : Held) (ops : List Op) → Stands x.held before → EndsTelling x.held before after t ops
     → SessionGoes x [] before after t
-ends_goes x before after t ops stands k = record {
-  stands = block_stands before after k.block x.held t k.leads.told k.leads.made k.leads.leads stands k.kept k.leads.calls k.leads.adds;
-  name = block_name before after k.block x.held t k.leads.told k.leads.made k.leads.leads stands k.kept k.leads.calls k.leads.adds;
-  numbers = block_numbers before after k.block x.held t k.leads.told k.leads.made k.leads.leads;
-  each = λ d c. inl (block_each before after k.block x.held t k.leads.told k.leads.made k.leads.leads stands k.kept k.leads.calls k.leads.adds d c);
-  spares = block_spares before after k.block x.held t k.leads.told k.leads.made k.leads.leads stands k.kept k.leads.calls k.leads.adds;
-}
+ends_goes x before after t ops stands k =
+    goes_as (block_goes before after k.block x.held t k.leads.told k.leads.made k.leads.leads stands k.kept k.leads.calls k.leads.adds) (λ d g. inl g)
 
 -- neither what is held nor a buffer changed
 stays_goes : (x : LiveWriter) (before after : Moment) → Stands x.held before → StaysSame before after → SessionGoes x [] before after x.held
 stays_goes x before after stands same = record {
-  stands = record {
-    kept = subst (λ (e : Editor). AreKept e.work.buffers) (sym same.editor) stands.kept;
-    own = subst (λ (e : Editor). HaveOwnNames e.work.buffers) (sym same.editor) stands.own;
-    logged = λ d c. stands.logged d (there d c);
-    spelled = subst (λ n. all_scalars n ≡ true) (sym same.name) stands.spelled;
-    untold = subst (λ (e : Editor). AreSafe (live_name after) after.live.telling.untold e.work.buffers x.held) (sym same.editor)
-        (subst (λ n. AreSafe (encode_utf8_all n) after.live.telling.untold before.editor.work.buffers x.held) (sym same.name)
-        (subst (λ (ops : List Op). AreSafe (live_name before) ops before.editor.work.buffers x.held) (sym same.untold) stands.untold));
-  };
+  stands = stands_at x.held after (subst (λ n. all_scalars n ≡ true) (sym same.name) stands.spelled)
+      (rw (same.name, same.untold, same.editor) (stands_so x.held before stands));
   name = same.name;
   numbers = same_numbers before.editor.work after.editor.work (ap (λ (e : Editor). e.work) same.editor);
   each = λ d c. inl (record { b = d; was = there d c; steps = []; takes = tt; goes = (refl, refl) });
@@ -244,15 +207,14 @@ starts_along ws number w x m t reached was fit k =
     let bs = k.first.work.buffers in
     let d : OpenState = current_buffer bs in
     let c : Contains bs.all d = Contains-get_or bs.all bs.current no_buffer k.kept.are.current in
-    let loaded = loaded_at_start v k.first k.told k.made x.held t k.loads k.leads k.kept d c in
-    let d_named : d.buffer.name ≡ v.name =
-    ap (λ (b : OpenState). b.buffer.name) loaded.is ∙ opened_name v.name v.replica v.limit loaded.found loaded.loaded loaded.end loaded.outcome in
+    let opened = opened_at_start v k.first k.told k.made x.held t k.loads k.leads k.kept d c in
+    let d_named : d.buffer.name ≡ v.name = opened_as v.name k.first.work x.held t d opened in
     let named : live_name m ≡ x.name =
     ap (λ (l : Live). encode_utf8_all l.name) k.live ∙ name_at_start v k.first k.told k.made x.held t k.loads k.leads k.kept ∙ k.name in
     let there : Contains m.editor.work.buffers.all d = subst (λ (e : Editor). Contains e.work.buffers.all d) (sym k.editor) c in
     let moved : Moved ws number w (writer d t) =
-    opens v.name v.replica v.limit ws number w d t reached was (fit.name ∙ sym k.name) (fit.replica ∙ sym k.replica) (fit.limit ∙ sym k.limit)
-    (is_kept bs k.kept d c) (subst (λ (s : Held). IsLoadedSo v.name v.replica v.limit s d t) (sym fit.files) loaded) in
+    opens v.name k.first.work ws number w d t reached was (fit.name ∙ sym k.name) (fit.replica ∙ sym (numbers.0 ∙ k.replica)) (fit.limit ∙ sym (numbers.1 ∙ k.limit))
+    (is_buffer bs k.kept d c) (subst (λ (s : Held). IsOpenedBy v.name k.first.work s d t) (sym fit.files) opened) in
     to_buffer ws number w reached was x m d t fit stands named (ap (λ (e : Editor). e.work.replica) k.editor ∙ numbers.0 ∙ k.replica)
     (ap (λ (e : Editor). e.work.limit) k.editor ∙ numbers.1 ∙ k.limit) (d_named ∙ k.name)
     (λ b at is. same_buffer m.editor.work.buffers b d stands.own at there (is ∙ sym (d_named ∙ k.name))) moved

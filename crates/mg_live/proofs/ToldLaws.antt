@@ -8,13 +8,14 @@ use Rattle.std.specs.Option.{option_map}
 use Rattle.std.proofs.lemmas.Option.{none-some, same_Some}
 use Rattle.rga_ops.specs.Order.{text}
 use Rattle.rga_ops.specs.Splice.{Splice}
-use Rattle.rga_exchange.specs.Counting.{one_more}
 use Rattle.mg_buffer.specs.OpenState.{OpenState}
 use Rattle.mg_buffer.specs.State.{State}
+use Rattle.rga_exchange.specs.Counting.{Calls, one_more}
+use Rattle.mg_session.specs.Moments.{Known, StepIf}
 use Rattle.mg_session.specs.declared.course.Course.{Course}
 use Rattle.mg_session.specs.declared.course.Course.TheVariants.{On, NoScreen, NoMemory}
 use Rattle.mg_workspace.specs.AtIndex.{state_at}
-use Rattle.mg_workspace.specs.Buffers.{no_buffer}
+use Rattle.mg_workspace.specs.Buffers.{Buffers, no_buffer}
 use Rattle.mg_workspace.specs.Names.{buffer_named, is_named}
 use Rattle.mg_editor.specs.Editors.{Editor}
 use Rattle.mg_editor.specs.Frames.{placed_editor}
@@ -25,10 +26,11 @@ use Rattle.mg_live.specs.Blocks.{EndsBlock, Tells, Writes, has_more, reported, w
 use Rattle.mg_live.specs.Changes.{Changes, change_between, noted}
 use Rattle.mg_live.specs.Made.{live_index}
 use Rattle.mg_live.specs.Reports.{NotesChanges}
-use Rattle.mg_live.specs.States.{Live, Moment, StepIf}
+use Rattle.mg_live.specs.States.{Live, Moment}
 use Rattle.mg_live.specs.Statuses.{Draws, LeavesUnmade, Readies, Shows, begun, draws, unmade, whole}
 use Rattle.mg_live.specs.Told.{IsTold}
 use Rattle.mg_live.proofs.ChangeTextLaws.{no_change}
+use Rattle.mg_live.proofs.NumberLaws.{KeepsNumbers}
 
 -- ---- lists of buffers with the same names
 
@@ -104,6 +106,22 @@ abbrev NotedFor : Editor → Course → Live → Live → Course → Option Chan
 NotedFor e before live next after None = (next ≡ live) × (after ≡ before)
 NotedFor e before live next after (Some c) = NotedIn e before live next after c (live_index live.name e)
 
+-- what is noted of changes is noted beside; and the session stands as it did, or has no memory
+pub notes_so : (e : Editor) (before : Course) (live next : Live) (after : Course) → NotesChanges e before live next after
+    → (changes : Option Changes) × (next ≡ record live { changes = changes }) × ((Unit {0} × (after ≡ before)) ⊎ (Unit {0} × (after ≡ NoMemory)))
+notes_so e before live next after notes = by live.changes notes
+  where
+    within : (c : Changes) (o : Option ℕ) → NotedIn e before live next after c o
+        → (changes : Option Changes) × (next ≡ record live { changes = changes }) × ((Unit {0} × (after ≡ before)) ⊎ (Unit {0} × (after ≡ NoMemory)))
+    within c None (same, is) = (live.changes, same, inl (tt, is))
+    within c (Some i) (inl (same, is)) = (Some (noted (text (state_at i e.work).content) c), same, inl (tt, is))
+    within c (Some i) (inr (same, is)) = (live.changes, same, inr (tt, is))
+
+    by : (o : Option Changes) → NotedFor e before live next after o
+        → (changes : Option Changes) × (next ≡ record live { changes = changes }) × ((Unit {0} × (after ≡ before)) ⊎ (Unit {0} × (after ≡ NoMemory)))
+    by None (same, is) = (live.changes, same, inl (tt, is))
+    by (Some c) it = within c (live_index live.name e) it
+
 pub told_once_noted : (e : Editor) (before : Course) (live next : Live) (after : Course) → NotesChanges e before live next after → after ≡ On → IsTold next e
 told_once_noted e before live next after notes on c i has at = by live.changes refl notes
   where
@@ -146,36 +164,58 @@ steps_on {a} {b} {c} one two = record {
   course = λ on. one.course (two.course on);
 }
 
-readied : (fresh is_new : Bool) (live next : Live) (e f : Editor) → Readies fresh is_new live e next f → Stays live next e f
+record Readied (live next : Live) (e f : Editor) : Type 0 where
+  buffers : f.work.buffers ≡ e.work.buffers
+  numbers : KeepsNumbers e.work f.work
+  shown : next ≡ record live { shown = next.shown }
+
+not_readied : (live next : Live) (e f : Editor) → next ≡ live → f ≡ e → Readied live next e f
+not_readied live next e f is same =
+    let here : Readied live live e e = record { buffers = refl; numbers = record { replica = refl; limit = refl }; shown = refl } in
+    subst (λ (g : Editor). Readied live next e g) (sym same) (subst (λ (l : Live). Readied live l e e) (sym is) here)
+
+readied : (fresh is_new : Bool) (live next : Live) (e f : Editor) → Readies fresh is_new live e next f → Readied live next e f
 readied fresh is_new live next e f r = by (draws fresh live) r
   where
-    by : (drawn : Bool) → MatchBool drawn (Draws is_new live next f × (f ≡ placed_editor e)) ((is_new ≡ false) × (next ≡ live) × (f ≡ e)) → Stays live next e f
+    by : (drawn : Bool) → MatchBool drawn (Draws is_new live next f × (f ≡ placed_editor e)) ((is_new ≡ false) × (next ≡ live) × (f ≡ e)) → Readied live next e f
     by true (draw, placed) =
-        stays_as live next e f (ap (λ (l : Live). l.name) draw.rest) (ap (λ (l : Live). told_text l.changes) draw.rest) (ap (λ (g : Editor). g.work.buffers.all) placed)
-    by false (new, is, same) =
-        stays_as live next e f (ap (λ (l : Live). l.name) is) (ap (λ (l : Live). told_text l.changes) is) (ap (λ (g : Editor). g.work.buffers.all) same)
+        subst (λ (g : Editor). Readied live next e g) (sym placed)
+        (record { buffers = refl; numbers = record { replica = refl; limit = refl }; shown = draw.rest })
+    by false (new, is, same) = not_readied live next e f is same
 
-unmade_so : (fresh : Bool) (live next : Live) (e f : Editor) → LeavesUnmade fresh live e next f → Stays live next e f
-unmade_so fresh live next e f (inl (is, same)) =
-    stays_as live next e f (ap (λ (l : Live). l.name) is) (ap (λ (l : Live). told_text l.changes) is) (ap (λ (g : Editor). g.work.buffers.all) same)
+unmade_so : (fresh : Bool) (live next : Live) (e f : Editor) → LeavesUnmade fresh live e next f → Readied live next e f
+unmade_so fresh live next e f (inl (is, same)) = not_readied live next e f is same
 unmade_so fresh live next e f (inr (is_new, r)) = readied fresh is_new live next e f r
 
-left_so : (a b c : Moment) → b ≡ c → Stays a.live c.live a.editor c.editor → Stays a.live b.live a.editor b.editor
-left_so a b c is stays = subst (λ (m : Moment). Stays a.live m.live a.editor m.editor) (sym is) stays
+-- what a status leaves: the windows may be placed, and another frame be shown
+pub record Redrawn (a b : Moment) : Type 0 where
+  pub buffers : b.editor.work.buffers ≡ a.editor.work.buffers
+  pub numbers : KeepsNumbers a.editor.work b.editor.work
+  pub live : b.live ≡ record a.live { shown = b.live.shown }
+  pub calls : b.calls ≡ a.calls
+  pub course : b.course ≡ On → a.course ≡ On
+
+redrawn_as : (a b : Moment) (f : Editor) (screen : Calls Known) (course : Course) (next : Live) → Readied a.live next a.editor f → (course ≡ On → a.course ≡ On)
+    → b ≡ record a { editor = f; screen = screen; course = course; live = next } → Redrawn a b
+redrawn_as a b f screen course next r on is =
+    subst (Redrawn a) (sym is) (record { buffers = r.buffers; numbers = r.numbers; live = r.shown; calls = refl; course = on })
+
+pub redrawn : {fresh more : Bool} {told : List ℕ} (a b : Moment) → Shows fresh more told a b → Redrawn a b
+redrawn {fresh} {more} {told} a b (whole bytes screen next f is written failures flushed left) =
+    redrawn_as a b f screen a.course next (readied fresh is.is_new a.live next a.editor f is.drawn) (λ on. on) left
+redrawn {fresh} {more} {told} a b (begun front rest screen next f is written fails left) =
+    redrawn_as a b f screen NoScreen next (readied fresh is.is_new a.live next a.editor f is.drawn) (λ on. absurd cc) left
+redrawn {fresh} {more} {told} a b (unmade next f placed left) =
+    redrawn_as a b f a.screen NoMemory next (unmade_so fresh a.live next a.editor f placed) (λ on. absurd cc) left
 
 shown_steps : {fresh more : Bool} {told : List ℕ} (a b : Moment) → Shows fresh more told a b → Steps a b
-shown_steps {fresh} {more} {told} a b (whole bytes screen next f is written failures flushed left) = record {
-  stays = left_so a b (record a { editor = f; screen = screen; live = next }) left (readied fresh is.is_new a.live next a.editor f is.drawn);
-  course = λ on. sym (ap (λ (m : Moment). m.course) left) ∙ on;
-}
-shown_steps {fresh} {more} {told} a b (begun front rest screen next f is written fails left) = record {
-  stays = left_so a b (record a { editor = f; screen = screen; course = NoScreen; live = next }) left (readied fresh is.is_new a.live next a.editor f is.drawn);
-  course = λ on. absurd (let clash : NoScreen ≡ On = sym (ap (λ (m : Moment). m.course) left) ∙ on in cc);
-}
-shown_steps {fresh} {more} {told} a b (unmade next f placed left) = record {
-  stays = left_so a b (record a { editor = f; course = NoMemory; live = next }) left (unmade_so fresh a.live next a.editor f placed);
-  course = λ on. absurd (let clash : NoMemory ≡ On = sym (ap (λ (m : Moment). m.course) left) ∙ on in cc);
-}
+shown_steps a b shows =
+    let r = redrawn a b shows in
+    record {
+      stays = stays_as a.live b.live a.editor b.editor (ap (λ (l : Live). l.name) r.live) (ap (λ (l : Live). told_text l.changes) r.live)
+          (ap (λ (bs : Buffers). bs.all) r.buffers);
+      course = r.course;
+    }
 
 shown_if : (go fresh more : Bool) (told : List ℕ) (a b : Moment) → StepIf go (Shows fresh more told) a b → Steps a b
 shown_if true fresh more told a b shows = shown_steps a b shows

@@ -29,9 +29,6 @@ record Spares (bs : List OpenState) (before : List Call) (new : Option (List Cal
 no_calls : (bs : List OpenState) (before : List Call) (new : Option (List Call)) → new ≡ Some before → Spares bs before new
 no_calls bs before new is = record { made = []; told = is ∙ ap Some (sym (append-nil before)); spares = λ name other. tt }
 
-first : (b : OpenState) (bs : List OpenState) → Contains (b ∷ bs) b
-first b bs = (zero, omega arith, refl)
-
 later : (x b : OpenState) (bs : List OpenState) → Contains bs b → Contains (x ∷ bs) b
 later x b bs (k, lt, is) = (suc k, omega (arith, lt), is)
 
@@ -41,7 +38,7 @@ turn_spares false writing i b d bs old mid before at is (same, stays) = no_calls
 turn_spares true writing i b d bs old mid before at is (ended, w) =
     let save = saved_as writing i ended old.calls mid.calls b d at w.writes in
     let course = save_goes save.0 before old.calls mid.calls b d is save.1 in
-    record { made = course.made; told = course.told; spares = λ name other. course.spares name (other b (first b bs)) }
+    record { made = course.made; told = course.told; spares = λ name other. course.spares name (other b (zero, omega arith, refl)) }
 
 sweep_spares : (writing : Writing) (n : ℕ) (bs ds : List OpenState) (old new : live.Course) (before : List Call) → old.calls ≡ Some before
     → Sweeps writing n bs ds old new → Spares bs before new.calls

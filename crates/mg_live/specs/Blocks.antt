@@ -11,7 +11,8 @@ use Rattle.mg_live.specs.Changes.{Changes}
 use Rattle.mg_live.specs.Made.{live_index, unsaved_at}
 use Rattle.mg_live.specs.declared.blocks.Due.{Due}
 use Rattle.mg_live.specs.declared.blocks.Due.TheVariants as due
-use Rattle.mg_live.specs.States.{Live, Moment, StepIf}
+use Rattle.mg_session.specs.Moments.{StepIf}
+use Rattle.mg_live.specs.States.{Live, Moment}
 use Rattle.mg_live.specs.Statuses.{can_show, Shows}
 
 -- ---- what is due

@@ -10,7 +10,7 @@ use Rattle.mg_workspace.specs.AtIndex.{state_at}
 use Rattle.mg_workspace.specs.Failures.{first_standing}
 use Rattle.mg_editor.specs.Editors.{Editor}
 use Rattle.mg_session.specs.Courses.{is_on, SessionAnswer, session_answer}
-use Rattle.mg_session.specs.Moments.{Known, ToldCalls, seen}
+use Rattle.mg_session.specs.Moments.{Known, ToldCalls, seen, StepIf}
 use Rattle.mg_session.specs.Opening.{LoadsTo, opening_failures}
 use Rattle.mg_session.specs.Running.{Devices}
 use Rattle.mg_session.specs.declared.course.Course.{Course}
@@ -22,7 +22,7 @@ use Rattle.mg_live.specs.Gathering.{nothing_held, is_begun}
 use Rattle.mg_live.specs.Keys.{TakesKey}
 use Rattle.mg_live.specs.Reports.{TakesLine, RefusesLine, RefusesReport, NotesChanges, counted}
 use Rattle.mg_live.specs.Made.{unsaved_at, if_memory}
-use Rattle.mg_live.specs.States.{Live, Moment, moment, nothing_shown, StepIf}
+use Rattle.mg_live.specs.States.{Live, Moment, moment, nothing_shown}
 use Rattle.mg_live.specs.Tallies.{no_tally}
 use Rattle.mg_live.specs.Telling.{nothing_to_tell}
 use Rattle.mg_live.specs.declared.fault.ReportFault.TheVariants.{Cut}

@@ -1,5 +1,5 @@
 -- What a live session keeps, and a live session at one moment.
-use Rattle.std.specs.Prelude.{◌≡◌, ℕ, Bool, true, false, List, [], Option, None, Result}
+use Rattle.std.specs.Prelude.{ℕ, Bool, List, [], Option, None, Result}
 use Rattle.rga_exchange.specs.Counting.{Calls}
 use Rattle.rga_ops.specs.Identifier.{Identifier}
 use Rattle.mg_files.specs.declared.port.PortFault.{PortFault}
@@ -52,8 +52,3 @@ pub record Moment : Type 0 where
 
 abbrev pub moment : Editor → ToldCalls → ℕ → Calls Known → Course → Live → Moment
 moment editor calls faults screen course live = record { editor = editor; calls = calls; faults = faults; screen = screen; course = course; live = live }
-
--- what is done from one moment to another where that is asked for, and else nothing
-abbrev pub StepIf : Bool → (Moment → Moment → Type 0) → Moment → Moment → Type 0
-StepIf true Does before after = Does before after
-StepIf false Does before after = after ≡ before

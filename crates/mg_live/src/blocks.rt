@@ -2,9 +2,9 @@
 ghost use Rattle.std.specs.Prelude.{◌≡◌, ◌&&◌, ℕ, [], true, IfSome};
 ghost use Rattle.rga_exchange.specs.Counting.{Calls};
 ghost use Rattle.rga_exchange.specs.RunLines.{runs_text};
-ghost use Rattle.mg_session.specs.Moments.{Known, ToldCalls, seen};
+ghost use Rattle.mg_session.specs.Moments.{Known, ToldCalls, seen, StepIf};
 ghost use Rattle.mg_live.specs.Blocks as spec;
-ghost use Rattle.mg_live.specs.States.{moment, StepIf};
+ghost use Rattle.mg_live.specs.States.{moment};
 ghost use Rattle.mg_live.specs.Statuses.{can_show, Shows};
 
 use crate::live::Live;
@@ -22,7 +22,7 @@ use std::io::Write;
 fn touched<S: TextStore>(live: &Live, editor: &Editor<S>) -> Option<usize>
     ensures { result ≡ spec.touched live.now editor.now }
 {
-    if live.telling.has_taken() {
+    if live.telling.took {
         editor.live_index(live.name.as_slice())
     } else {
         None
@@ -42,14 +42,14 @@ enum Due {
 fn are_saves_due<S: TextStore>(live: &Live, editor: &Editor<S>) -> bool
     ensures { result ≡ spec.saves_due live.now editor.now }
 {
-    live.telling.is_resting() && editor.owes_save(touched(live, editor))
+    live.telling.resting && editor.owes_save(touched(live, editor))
 }
 
 /// Whether something was made in this block, and a log is due.
 fn are_logs_due<S: TextStore>(live: &Live, editor: &Editor<S>) -> bool
     ensures { result ≡ spec.logs_due live.now editor.now }
 {
-    live.telling.has_made() && editor.owes_log()
+    live.telling.made && editor.owes_log()
 }
 
 /// Whether nothing of the live buffer is missing in its log.
@@ -67,7 +67,7 @@ fn told_operations<'a, S: TextStore>(live: &'a Live, editor: &Editor<S>) -> &'a 
     ensures { result.now ≡ spec.told_operations live.now editor.now }
 {
     if can_tell(live, editor) {
-        live.telling.untold()
+        live.telling.untold.as_slice()
     } else {
         &[]
     }
@@ -118,9 +118,9 @@ fn write<S: TextStore, P: Port>(
 fn mark_reported(live: &mut Live)
     ensures { live.new ≡ spec.reported live.old }
 {
-    live.tally.end_block();
+    live.tally.refused.clear();
     if let Some(changes) = &mut live.changes {
-        changes.end_block();
+        changes.list.clear();
     }
 }
 
@@ -140,7 +140,7 @@ fn mark_told(live: &mut Live, is_told: bool, course: Course)
     ensures { live.new ≡ spec.with_told (can_show course && is_told) live.old }
 {
     if can_show(course) && is_told {
-        live.telling.mark_told();
+        live.telling.untold.clear();
     }
 }
 
@@ -227,7 +227,8 @@ fn tell_if<S: TextStore, W: Write>(
 fn end_due(live: &mut Live)
     ensures { live.new ≡ spec.ended live.old }
 {
-    live.telling.end_block();
+    live.telling.made = false;
+    live.telling.resting = false;
 }
 
 /// Ends a block: a status is written, with the frame after it; then what was made is logged, or all is

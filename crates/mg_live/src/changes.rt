@@ -25,7 +25,7 @@ pub(crate) struct Changes {
     alloc: Global,
     text: Characters,
     count: u64,
-    list: Vec<Splice>,
+    pub(crate) list: Vec<Splice>,
 }
 
 impl Model for Changes {
@@ -69,30 +69,11 @@ impl Changes {
         Ok(())
     }
 
-    /// A block ended, and its changes were told. Takes no memory.
-    pub(crate) fn end_block(&mut self)
-        ensures { self.new ≡ record self.old { list = [] } }
-    {
-        self.list.clear();
-    }
-
-    pub(crate) fn list(&self) -> &[Splice]
-        ensures { result.now ≡ self.now.list }
-    {
-        &self.list
-    }
-
     /// How many characters the text has that was told last.
     pub(crate) fn text_len(&self) -> usize
         ensures { result ≡ length self.now.text }
     {
         self.text.len()
-    }
-
-    pub(crate) fn count(&self) -> u64
-        ensures { result ≡ self.now.count }
-    {
-        self.count
     }
 }
 
@@ -145,14 +126,18 @@ fn end_alike(old: &[char], new: &[char]) -> bool
     are_alike(&old[old.len() - BLOCK..], &new[new.len() - BLOCK..])
 }
 
-/// How many characters two texts have in common at their beginnings, by whole blocks.
-fn common_blocks(old: &[char], new: &[char]) -> usize
+/// How many characters two texts have in common at their beginnings, by whole blocks after those that
+/// are known.
+fn common_blocks(old: &[char], new: &[char], known: usize) -> usize
+    requires old { known ≤ length old.now }
+    requires new { known ≤ length new.now }
+    requires alike { take known old.now ≡ take known new.now }
     ensures exact { result + spec.common_front (drop result old.now) (drop result new.now)
         ≡ spec.common_front old.now new.now }
     ensures old { result ≤ length old.now }
     ensures new { result ≤ length new.now }
 {
-    let mut count = 0;
+    let mut count = known;
     'blocks: while begin_alike(&old[count..], &new[count..]) {
         count += BLOCK;
     }
@@ -160,51 +145,26 @@ fn common_blocks(old: &[char], new: &[char]) -> usize
 }
 
 /// The same at their ends.
-fn common_end_blocks(old: &[char], new: &[char]) -> usize
+fn common_end_blocks(old: &[char], new: &[char], known: usize) -> usize
+    requires old { known ≤ length old.now }
+    requires new { known ≤ length new.now }
+    requires alike { drop (length old.now - known) old.now
+        ≡ drop (length new.now - known) new.now }
     ensures exact { result
         + spec.common_front (drop result (reverse old.now)) (drop result (reverse new.now))
         ≡ spec.common_end old.now new.now }
     ensures old { result ≤ length old.now }
     ensures new { result ≤ length new.now }
 {
-    let mut count = 0;
+    let mut count = known;
     'blocks: while end_alike(&old[..old.len() - count], &new[..new.len() - count]) {
         count += BLOCK;
     }
     count
 }
 
-/// How many characters two texts have in common at their beginnings.
-fn common_front(old: &[char], new: &[char]) -> usize
-    ensures exact { result ≡ spec.common_front old.now new.now }
-    ensures old { result ≤ length old.now }
-    ensures new { result ≤ length new.now }
-{
-    let mut count = common_blocks(old, new);
-    'alike: while count < old.len() && count < new.len() && old[count] == new[count] {
-        count += 1;
-    }
-    count
-}
-
-/// How many they have in common at their ends.
-fn common_end(old: &[char], new: &[char]) -> usize
-    ensures exact { result ≡ spec.common_end old.now new.now }
-    ensures old { result ≤ length old.now }
-    ensures new { result ≤ length new.now }
-{
-    let mut count = common_end_blocks(old, new);
-    'alike: while count < old.len()
-        && count < new.len()
-        && old[old.len() - 1 - count] == new[new.len() - 1 - count]
-    {
-        count += 1;
-    }
-    count
-}
-
 /// How many characters two texts have in common at their beginnings, of which so many are known.
-fn front_beyond(old: &[char], new: &[char], known: usize) -> usize
+fn common_front(old: &[char], new: &[char], known: usize) -> usize
     requires old { known ≤ length old.now }
     requires new { known ≤ length new.now }
     requires alike { take known old.now ≡ take known new.now }
@@ -212,11 +172,15 @@ fn front_beyond(old: &[char], new: &[char], known: usize) -> usize
     ensures old { result ≤ length old.now }
     ensures new { result ≤ length new.now }
 {
-    known + common_front(&old[known..], &new[known..])
+    let mut count = common_blocks(old, new, known);
+    'alike: while count < old.len() && count < new.len() && old[count] == new[count] {
+        count += 1;
+    }
+    count
 }
 
 /// How many they have in common at their ends, of which so many are known.
-fn end_beyond(old: &[char], new: &[char], known: usize) -> usize
+fn common_end(old: &[char], new: &[char], known: usize) -> usize
     requires old { known ≤ length old.now }
     requires new { known ≤ length new.now }
     requires alike { drop (length old.now - known) old.now
@@ -225,7 +189,14 @@ fn end_beyond(old: &[char], new: &[char], known: usize) -> usize
     ensures old { result ≤ length old.now }
     ensures new { result ≤ length new.now }
 {
-    known + common_end(&old[..old.len() - known], &new[..new.len() - known])
+    let mut count = common_end_blocks(old, new, known);
+    'alike: while count < old.len()
+        && count < new.len()
+        && old[old.len() - 1 - count] == new[new.len() - 1 - count]
+    {
+        count += 1;
+    }
+    count
 }
 
 /// The change that makes one text the other, of which so much is the same; none where all is.
@@ -238,9 +209,9 @@ fn change_between(
     requires { spec.AreKept kept old.now new.now }
     ensures { IfOk result (λ change. change ≡ spec.change_between old.now new.now) }
 {
-    let lo = front_beyond(old, new, kept.front);
+    let lo = common_front(old, new, kept.front);
     let known = kept.end.min(old.len() - lo).min(new.len() - lo);
-    let same = end_beyond(&old[lo..], &new[lo..], known);
+    let same = common_end(&old[lo..], &new[lo..], known);
     let hi = old.len() - same;
     let put = &new[lo..new.len() - same];
     if lo == hi && put.is_empty() {
@@ -255,7 +226,7 @@ pub(crate) fn change_count(changes: &Option<Changes>) -> u64
     ensures { result ≡ spec.change_count changes.now }
 {
     match changes {
-        Some(changes) => changes.count(),
+        Some(changes) => changes.count,
         None => 0,
     }
 }

@@ -74,6 +74,6 @@ pub(crate) fn finish<S: Teller, W: Write, P: Port>(
         (seen W.contents screen.new) result live.new) }
 {
     let course = cut_on(live, is_within, course);
-    live.telling.rest();
+    live.telling.resting = true;
     end_block(live, editor, screen, port, course)
 }

@@ -47,7 +47,7 @@ pub(crate) fn take_key<S: Teller, P: Port>(
 fn count_key(live: &mut Live)
     ensures { live.new ≡ record live.old { tally = with_key live.old.tally } }
 {
-    live.tally.count_key();
+    live.tally.keys = live.tally.keys.saturating_add(1);
 }
 
 /// Whether a request asks for a save.
@@ -119,6 +119,6 @@ fn note_opened<S: TextStore>(live: &mut Live, editor: &Editor<S>, was_open: bool
     let Some(index) = editor.live_index(live.name.as_slice()) else {
         return true;
     };
-    live.telling.note_taken(false);
+    live.telling.took = false;
     live.telling.add(editor.unsaved_at(index)).is_ok()
 }

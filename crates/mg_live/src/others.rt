@@ -48,7 +48,7 @@ pub(crate) fn take_one<S: TextStore>(
     }
     match editor.take_operation(index, op) {
         Ok(_) => {
-            live.telling.note_taken(true);
+            live.telling.took = true;
             Ok(true)
         }
         Err(refusal) => Err(ReportFault::Refused(refusal)),
@@ -72,7 +72,7 @@ pub(crate) fn take_list<S: TextStore>(
     }
     match editor.take_operations(index, ops) {
         Ok(()) => {
-            live.telling.note_taken(true);
+            live.telling.took = true;
             Ok(true)
         }
         Err(refusal) => Err(ReportFault::Refused(refusal)),

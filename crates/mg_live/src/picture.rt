@@ -1,9 +1,7 @@
 //! Statuses, with what stands after them.
-ghost use Rattle.std.specs.Prelude.{◌≡◌, ◌∷◌, ◌++◌, [], ℕ, IfOk, IfSome, OnOk, OnSome, None, true, false, string_bytes, map};
+ghost use Rattle.std.specs.Prelude.{◌≡◌, ℕ, IfOk, IfSome, OnSome, None, false, string_bytes};
 ghost use Rattle.mg_live.specs.Made.{live_index};
 ghost use Rattle.mg_status.specs.StatusText.{status_text};
-ghost use Rattle.rga_exchange.specs.Counting.{Counts, Writes, WritesFront};
-ghost use Rattle.rga_lines.specs.Stream.{bytes_of_lines, newline};
 ghost use Rattle.mg_editor.specs.Frames.{placed_editor};
 ghost use Rattle.mg_session.specs.Moments.{ToldCalls, seen};
 ghost use Rattle.mg_live.specs.States.{moment};
@@ -13,13 +11,12 @@ use crate::live::Live;
 use crate::shown::{Shown, are_same_rows};
 use mg_editor::Editor;
 use mg_files::PortFault;
-use mg_session::Course;
+use mg_session::{Course, push_rows, write_bytes};
 use mg_status::{BufferStatus, Saved, Status, status_line};
 use rga_exchange::Counted;
 use rga_ops::Splice;
 use rga_store::TextStore;
 use std::alloc::{AllocError, Global};
-use std::io;
 use std::io::Write;
 
 /// What is to be shown: a fresh frame or none, whether a second status follows, and lines of
@@ -70,7 +67,7 @@ fn changes_status(live: &Live) -> Option<&[Splice]>
     ensures { spec.AreChanges live.now.changes result }
 {
     match &live.changes {
-        Some(changes) => Some(changes.list()),
+        Some(changes) => Some(changes.list.as_slice()),
         None => None,
     }
 }
@@ -97,7 +94,7 @@ fn status_text<S: TextStore>(
             buffer: editor.buffer_status(editor.current_index())?,
             changes: changes_status(live),
             cursor: live.shown.cursor,
-            keys: live.tally.keys(),
+            keys: live.tally.keys,
             live: live_status(live, editor)?,
             loaded: live.loaded,
             message: message.as_str(),
@@ -107,8 +104,8 @@ fn status_text<S: TextStore>(
             places: live.shown.places.as_slice(),
             point,
             prompt: editor.prompt_status(),
-            refused: live.tally.refused(),
-            reports: live.tally.reports(),
+            refused: live.tally.refused.as_slice(),
+            reports: live.tally.reports,
             rows: after.rows,
             saved: saved_status(live.saved),
             windows: windows.as_slice(),
@@ -136,19 +133,9 @@ fn draw<S: TextStore>(live: &mut Live, editor: &mut Editor<S>) -> Option<bool>
     Some(!is_same)
 }
 
-/// Sees to it that the text of each buffer is at hand. `None` where memory is wanting.
-fn list<S: TextStore>(editor: &mut Editor<S>) -> Option<bool>
-    ensures listed { IfSome result (λ is_new. is_new ≡ false) }
-    ensures same { editor.new ≡ editor.old }
-{
-    match editor.list() {
-        Ok(()) => Some(false),
-        Err(_) => None,
-    }
-}
-
-/// Draws the frame if it is to be fresh, unless changes are told in its place. Answers whether there
-/// are new rows. `None` where memory is wanting, and then nothing is shown anew.
+/// Draws the frame if it is to be fresh, unless changes are told in its place; else sees to it that
+/// the text of each buffer is at hand. Answers whether there are new rows. `None` where memory is
+/// wanting, and then nothing is shown anew.
 fn ready<S: TextStore>(live: &mut Live, editor: &mut Editor<S>, fresh: bool) -> Option<bool>
     ensures drawn { IfSome result
         (λ is_new. spec.Readies fresh is_new live.old editor.old live.new editor.new) }
@@ -157,7 +144,10 @@ fn ready<S: TextStore>(live: &mut Live, editor: &mut Editor<S>, fresh: bool) -> 
     if fresh && live.changes.is_none() {
         return draw(live, editor);
     }
-    list(editor)
+    match editor.list() {
+        Ok(()) => Some(false),
+        Err(_) => None,
+    }
 }
 
 /// How many lines these are.
@@ -165,26 +155,6 @@ fn line_count(bytes: &[u8]) -> usize
     ensures { result ≡ spec.line_count bytes.now }
 {
     bytes.iter().filter(|byte| **byte == b'\n').count()
-}
-
-/// Adds a row, with a newline after it.
-fn push_row(bytes: &mut Vec<u8>, row: &str) -> Result<(), AllocError>
-    ensures { OnOk result (bytes.new.items ≡ bytes.old.items ++ (row.now ++ newline ∷ [])) }
-{
-    bytes.extend_from_slice(row.as_bytes())?;
-    bytes.push(b'\n')?;
-    Ok(())
-}
-
-/// Adds the rows, each with a newline after it.
-fn push_rows(bytes: &mut Vec<u8>, rows: &[String]) -> Result<(), AllocError>
-    ensures { OnOk result (bytes.new.items
-        ≡ bytes.old.items ++ bytes_of_lines (map string_bytes rows.now)) }
-{
-    for row in rows {
-        push_row(bytes, row.as_str())?;
-    }
-    Ok(())
 }
 
 /// The bytes of a status, with the rows that are shown after it if they are new, and then with lines
@@ -216,17 +186,6 @@ fn picture<S: TextStore>(
     Ok(bytes)
 }
 
-/// Writes bytes, and flushes the device.
-fn write<W: Write>(bytes: &[u8], screen: &mut Counted<W>) -> io::Result<()>
-    ensures bytes { OnOk result (Writes W.contents screen.old screen.new bytes.now) }
-    ensures begun { WritesFront W.contents screen.old screen.new bytes.now }
-    ensures device { Counts result screen.old screen.new }
-    ensures flushed { OnOk result (screen.new.flushed ≡ true) }
-{
-    screen.write_all(bytes)?;
-    screen.flush()
-}
-
 /// Writes a status with what stands after it. The frame is drawn if it is to be fresh, unless changes
 /// are told in its place. The session then stands as it did, unless that fails.
 pub(crate) fn show<S: TextStore, W: Write>(
@@ -247,7 +206,7 @@ pub(crate) fn show<S: TextStore, W: Write>(
     let Ok(bytes) = picture(live, editor, is_new, line.more, line.told) else {
         return Course::NoMemory;
     };
-    match write(&bytes, screen) {
+    match write_bytes(&bytes, screen) {
         Ok(()) => course,
         Err(_) => Course::NoScreen,
     }

@@ -10,7 +10,7 @@ use crate::live::Live;
 use crate::others::{take_list, take_one};
 use crate::pieces::{paste, splice};
 use mg_editor::Editor;
-use mg_events::{LineFault, Places, Report, read_report};
+use mg_events::{LineFault, Report, read_report};
 use mg_screen::{MAX_COLUMNS, MAX_ROWS, MIN_COLUMNS, MIN_ROWS};
 use mg_session::Course;
 use rga_ops::Op;
@@ -42,13 +42,6 @@ fn resize<S: TextStore>(editor: &mut Editor<S>, rows: u64, columns: u64)
     let rows = (rows as usize).max(MIN_ROWS).min(MAX_ROWS);
     let columns = (columns as usize).max(MIN_COLUMNS).min(MAX_COLUMNS);
     editor.resize(rows, columns);
-}
-
-/// The places of others are these now.
-fn place(live: &mut Live, places: Places)
-    ensures { live.new ≡ record live.old { places = places } }
-{
-    live.places = places.all;
 }
 
 /// What a report says is done. Answers whether there was memory to note what that made, or why it
@@ -84,11 +77,11 @@ fn take<S: TextStore>(
             Ok(true)
         }
         Report::Places(places) => {
-            place(live, places);
+            live.places = places.all;
             Ok(true)
         }
         Report::Rest => {
-            live.telling.rest();
+            live.telling.resting = true;
             Ok(true)
         }
     }

@@ -1,5 +1,5 @@
 //! Live sessions.
-ghost use Rattle.std.specs.Prelude.{◌≡◌, Err, IfSome};
+ghost use Rattle.std.specs.Prelude.{◌≡◌, Err};
 ghost use Rattle.rga_exchange.specs.Counting.{CountsAs, StaysFlushed, one_more};
 ghost use Rattle.mg_live.specs.Running as spec;
 ghost use Rattle.mg_live.specs.States.{moment};
@@ -16,19 +16,12 @@ use crate::taking::take_keys;
 use mg_editor::Editor;
 use mg_events::Reader;
 use mg_files::Port;
-use mg_screen::{Settings, Values};
-use mg_session::{Course, SessionFault, open, session_answer};
+use mg_screen::Settings;
+use mg_session::{Course, SessionFault, is_strict, open, session_answer};
 use rga_exchange::Counted;
 use rga_store::Teller;
 use std::alloc::Global;
 use std::io::{Read, Write};
-
-/// What a session of these settings keeps before an editor is open. `None` where memory is wanting.
-fn fresh(alloc: Global, values: &Values) -> Option<Live>
-    ensures { IfSome result (λ live. live ≡ spec.fresh_live values.now) }
-{
-    Live::new(alloc, values).ok()
-}
 
 /// Takes what the keys mean, between a status at the start and one at the end.
 fn run<S: Teller, R: Read, W: Write, P: Port>(
@@ -55,13 +48,6 @@ fn run<S: Teller, R: Read, W: Write, P: Port>(
     }
 }
 
-/// Whether the settings ask for a strict session.
-fn is_strict(settings: &Settings) -> bool
-    ensures { result ≡ settings.now.strict }
-{
-    settings.values().strict
-}
-
 /// Runs a live session: loads what is there under the name of the settings, which is its first call
 /// of the port, and takes keys and reports, block by block, up to a key that quits or to the end of
 /// the keys.
@@ -86,7 +72,7 @@ pub fn run_live<S: Teller, R: Read, W: Write, P: Port>(
     ensures file { result ≡ Err File → P.failures port.new ≡ one_more (P.failures port.old) }
 {
     let asked = settings.values();
-    let Some(mut live) = fresh(alloc, asked) else {
+    let Ok(mut live) = Live::new(alloc, asked) else {
         return Err(SessionFault::Memory);
     };
     match open::<S, P>(alloc, port, settings) {

@@ -1,7 +1,6 @@
 //! Keys and reports of a live session, block by block.
-ghost use Rattle.std.specs.Prelude.{◌≡◌, ◌<◌, ◌≤◌, ◌+◌, ◌||◌, ℕ, length, take, IfOk, OnOk, OnErr, false};
-ghost use Rattle.std.specs.Io.KnownBytes.{Consumes, Keeps};
-ghost use Rattle.rga_exchange.specs.Counting.{Calls, Counts, IsReadToEnd};
+ghost use Rattle.std.specs.Prelude.{◌≡◌, ◌||◌, ℕ, false};
+ghost use Rattle.rga_exchange.specs.Counting.{Calls};
 ghost use Rattle.mg_events.specs.Reading.{Reading, key, report, told_by};
 ghost use Rattle.mg_live.specs.Running as spec;
 ghost use Rattle.mg_live.specs.States.{moment};
@@ -17,10 +16,9 @@ use crate::reports::{refuse_line, take_line};
 use mg_editor::Editor;
 use mg_events::{Event, Reader};
 use mg_files::Port;
-use mg_session::Course;
+use mg_session::{Course, read_block};
 use rga_exchange::Counted;
 use rga_store::{Teller, TextStore};
-use std::io;
 use std::io::{Read, Write};
 
 /// How many bytes one read of the keys asks for.
@@ -148,21 +146,6 @@ fn take_block<S: Teller, W: Write, P: Port>(
     } else {
         taken.course
     }
-}
-
-/// Reads bytes of the keys, and answers how many.
-fn read_block<R: Read>(keys: &mut Counted<R>, block: &mut [u8]) -> io::Result<usize>
-    requires { 0 < length block.old }
-    ensures length { length block.new ≡ length block.old }
-    ensures within { IfOk result (λ count. count ≤ length block.new) }
-    ensures bytes { IfOk result (λ count.
-        Consumes (R.remaining keys.old.inner) (R.remaining keys.new.inner) (take count block.new)) }
-    ensures kept { OnErr result (Keeps (R.remaining keys.old.inner) (R.remaining keys.new.inner)) }
-    ensures end { IfOk result (λ count. count ≡ 0 → IsReadToEnd R.remaining keys.new) }
-    ensures device { Counts result keys.old keys.new }
-    ensures call { OnOk result (keys.old.left ≡ keys.new.left + 1) }
-{
-    keys.read(block)
 }
 
 /// Takes what the keys mean, block by block, up to one behind which the session ends, or to their

@@ -1,5 +1,5 @@
 //! How many keys and reports were taken, and which reports were refused.
-ghost use Rattle.std.specs.Prelude.{◌≡◌, [], map, OnOk, OnErr};
+ghost use Rattle.std.specs.Prelude.{◌≡◌, OnOk, OnErr};
 ghost use Rattle.mg_live.specs.Tallies as spec;
 
 use crate::fault::ReportFault;
@@ -11,9 +11,9 @@ use std::marker::Model;
 /// refused.
 #[derive(Drop)]
 pub(crate) struct Tally {
-    keys: u64,
-    reports: u64,
-    refused: Vec<RefusedReport>,
+    pub(crate) keys: u64,
+    pub(crate) reports: u64,
+    pub(crate) refused: Vec<RefusedReport>,
 }
 
 impl Model for Tally {
@@ -41,13 +41,6 @@ impl Tally {
         }
     }
 
-    /// A key more. Takes no memory.
-    pub(crate) fn count_key(&mut self)
-        ensures { self.new ≡ spec.with_key self.old }
-    {
-        self.keys = self.keys.saturating_add(1);
-    }
-
     /// A report more. Takes no memory.
     pub(crate) fn count_report(&mut self)
         ensures { self.new ≡ spec.with_report self.old }
@@ -65,30 +58,5 @@ impl Tally {
             fault: fault.name(),
         })?;
         Ok(())
-    }
-
-    /// A block ended, and its refused reports were told. Takes no memory.
-    pub(crate) fn end_block(&mut self)
-        ensures { self.new ≡ record self.old { refused = [] } }
-    {
-        self.refused.clear();
-    }
-
-    pub(crate) fn keys(&self) -> u64
-        ensures { result ≡ self.now.keys }
-    {
-        self.keys
-    }
-
-    pub(crate) fn reports(&self) -> u64
-        ensures { result ≡ self.now.reports }
-    {
-        self.reports
-    }
-
-    pub(crate) fn refused(&self) -> &[RefusedReport]
-        ensures { map spec.told_refusal result.now ≡ self.now.refused }
-    {
-        &self.refused
     }
 }

@@ -1,5 +1,5 @@
 //! What of the own operations is still to be saved and told.
-ghost use Rattle.std.specs.Prelude.{◌≡◌, ◌++◌, ◌||◌, [], true, false, OnOk, OnErr};
+ghost use Rattle.std.specs.Prelude.{◌≡◌, ◌++◌, ◌||◌, OnOk, OnErr};
 ghost use Rattle.mg_live.specs.Telling as spec;
 
 use rga_ops::Op;
@@ -10,13 +10,13 @@ use std::marker::Model;
 /// block.
 #[derive(Drop)]
 pub(crate) struct Telling {
-    untold: Vec<Op>,
+    pub(crate) untold: Vec<Op>,
     /// In this block something was made, in whatever buffer.
-    made: bool,
+    pub(crate) made: bool,
     /// In this block nobody was said to type.
-    resting: bool,
+    pub(crate) resting: bool,
     /// The live buffer took operations of others since its load.
-    took: bool,
+    pub(crate) took: bool,
 }
 
 impl Model for Telling {
@@ -61,58 +61,5 @@ impl Telling {
         ensures { self.new ≡ record self.old { made = self.old.made || is_any } }
     {
         self.made = self.made || is_any;
-    }
-
-    /// Nobody types. Takes no memory.
-    pub(crate) fn rest(&mut self)
-        ensures { self.new ≡ record self.old { resting = true } }
-    {
-        self.resting = true;
-    }
-
-    /// The live buffer took operations of others, or was opened anew. Takes no memory.
-    pub(crate) fn note_taken(&mut self, took: bool)
-        ensures { self.new ≡ record self.old { took = took } }
-    {
-        self.took = took;
-    }
-
-    /// All is told. Takes no memory.
-    pub(crate) fn mark_told(&mut self)
-        ensures { self.new ≡ record self.old { untold = [] } }
-    {
-        self.untold.clear();
-    }
-
-    /// The block ended. Takes no memory.
-    pub(crate) fn end_block(&mut self)
-        ensures { self.new ≡ record self.old { made = false; resting = false } }
-    {
-        self.made = false;
-        self.resting = false;
-    }
-
-    pub(crate) fn untold(&self) -> &[Op]
-        ensures { result.now ≡ self.now.untold }
-    {
-        &self.untold
-    }
-
-    pub(crate) fn has_made(&self) -> bool
-        ensures { result ≡ self.now.made }
-    {
-        self.made
-    }
-
-    pub(crate) fn is_resting(&self) -> bool
-        ensures { result ≡ self.now.resting }
-    {
-        self.resting
-    }
-
-    pub(crate) fn has_taken(&self) -> bool
-        ensures { result ≡ self.now.took }
-    {
-        self.took
     }
 }

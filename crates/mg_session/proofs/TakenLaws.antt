@@ -12,13 +12,13 @@ use Rattle.mg_session.specs.Running.{ShowsKey, TakesKeys, ReadsKeys, through, br
 use Rattle.mg_session.specs.declared.course.Course.{Course}
 use Rattle.mg_session.specs.declared.course.Course.TheVariants.{On}
 
--- what holds before a step holds behind it, if it does where the step is done
-pub behind_step : (P : Moment → Type 0) (Does : Moment → Moment → Type 0) (asked : Bool) (a b : Moment)
+-- what holds before a step holds after it, if it does where the step is done
+pub after_step : {M : Type 0} (P : M → Type 0) (Does : M → M → Type 0) (asked : Bool) (a b : M)
     → P a → (asked ≡ true → Does a b → P b) → StepIf asked Does a b → P b
-behind_step P Does true a b holds done step = done refl step
-behind_step P Does false a b holds done same = subst P (sym same) holds
+after_step P Does true a b holds done step = done refl step
+after_step P Does false a b holds done same = subst P (sym same) holds
 
-is_off : (course : Course) → course ≢ On → is_on course ≡ false
+pub is_off : (course : Course) → course ≢ On → is_on course ≡ false
 is_off On ended = absurd (ended refl)
 is_off course ended = refl
 
@@ -60,5 +60,5 @@ module _ (trace : Bool) where
       → StepIf trace Displays a b → Runs remaining trace a b keys keys
   runs_none remaining keys a b on ended starts =
       let traced : trace ≡ true =
-      behind_step (λ m. m.course ≢ On → trace ≡ true) Displays trace a b (λ off. absurd (off on)) (λ is _ _. is) starts ended in
+      after_step (λ (m : Moment). m.course ≢ On → trace ≡ true) Displays trace a b (λ off. absurd (off on)) (λ is _ _. is) starts ended in
       record { begun = b; ended = b; starts = starts; taken = rw (is_off b.course ended) (refl, refl); finishes = rw traced refl }

@@ -28,6 +28,6 @@ abbrev pub moment : Editor → ToldCalls → Calls Known → Course → Moment
 moment editor calls screen course = record { editor = editor; calls = calls; screen = screen; course = course }
 
 -- what is done from one moment to another where that is asked for, and else nothing
-abbrev pub StepIf : Bool → (Moment → Moment → Type 0) → Moment → Moment → Type 0
+abbrev pub StepIf : {M : Type 0} → Bool → (M → M → Type 0) → M → M → Type 0
 StepIf true Does before behind = Does before behind
 StepIf false Does before behind = behind ≡ before

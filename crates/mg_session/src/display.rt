@@ -1,5 +1,5 @@
 //! Frames, as they are written.
-ghost use Rattle.std.specs.Prelude.{◌≡◌, ◌⊎◌, ◌∷◌, ◌++◌, [], map, string_bytes, true, None, IfOk, OnOk, IfSome, OnSome};
+ghost use Rattle.std.specs.Prelude.{◌≡◌, ◌⊎◌, ◌∷◌, ◌++◌, [], map, string_bytes, true, None, OnOk, IfSome, OnSome};
 ghost use Rattle.rga_exchange.specs.Counting.{Counts, Writes, WritesFront};
 ghost use Rattle.rga_lines.specs.Stream.{newline, bytes_of_lines};
 ghost use Rattle.mg_editor.specs.Frames.{placed_editor};
@@ -28,47 +28,50 @@ pub(crate) fn follows_session(trace: bool, course: Course) -> bool
     !trace && course_answer(course).is_ok()
 }
 
-fn push_row(text: &mut String, row: &str) -> Result<(), AllocError>
-    ensures { OnOk result
-        (string_bytes text.new ≡ string_bytes text.old ++ (row.now ++ newline ∷ [])) }
+/// Adds a row, with a newline after it.
+fn push_row(bytes: &mut Vec<u8>, row: &str) -> Result<(), AllocError>
+    ensures { OnOk result (bytes.new.items ≡ bytes.old.items ++ (row.now ++ newline ∷ [])) }
 {
-    text.push_str(row)?;
-    text.push('\n')?;
+    bytes.extend_from_slice(row.as_bytes())?;
+    bytes.push(b'\n')?;
     Ok(())
 }
 
-/// The rows, each with a newline behind it.
-fn rows_text(alloc: Global, rows: &[String]) -> Result<String, AllocError>
-    ensures { IfOk result
-        (λ text. string_bytes text ≡ bytes_of_lines (map string_bytes rows.now)) }
+/// Adds the rows, each with a newline after it.
+pub fn push_rows(bytes: &mut Vec<u8>, rows: &[String]) -> Result<(), AllocError>
+    ensures { OnOk result (bytes.new.items
+        ≡ bytes.old.items ++ bytes_of_lines (map string_bytes rows.now)) }
 {
-    let mut text = String::new(alloc);
     for row in rows {
-        push_row(&mut text, row.as_str())?;
+        push_row(bytes, row.as_str())?;
     }
-    Ok(text)
+    Ok(())
 }
 
-/// Writes a text, and flushes the device.
-fn write_text<W: Write>(text: &str, screen: &mut Counted<W>) -> io::Result<()>
-    ensures bytes { OnOk result (Writes W.contents screen.old screen.new text.now) }
-    ensures begun { WritesFront W.contents screen.old screen.new text.now }
+/// Writes bytes, and flushes the device.
+pub fn write_bytes<W: Write>(bytes: &[u8], screen: &mut Counted<W>) -> io::Result<()>
+    ensures bytes { OnOk result (Writes W.contents screen.old screen.new bytes.now) }
+    ensures begun { WritesFront W.contents screen.old screen.new bytes.now }
     ensures device { Counts result screen.old screen.new }
     ensures flushed { OnOk result (screen.new.flushed ≡ true) }
 {
-    screen.write_all(text.as_bytes())?;
+    screen.write_all(bytes)?;
     screen.flush()
 }
 
 /// The frame of an editor, as it is written; nothing if memory is refused.
-fn frame_of<S: TextStore>(alloc: Global, editor: &mut Editor<S>) -> Option<String>
+fn frame_of<S: TextStore>(alloc: Global, editor: &mut Editor<S>) -> Option<Vec<u8>>
     ensures placed { OnSome result (editor.new ≡ placed_editor editor.old) }
     ensures unmade { result ≡ None →
         (editor.new ≡ editor.old) ⊎ (editor.new ≡ placed_editor editor.old) }
-    ensures text { IfSome result (λ text. string_bytes text ≡ spec.editor_text editor.new) }
+    ensures text { IfSome result (λ text. text.items ≡ spec.editor_text editor.new) }
 {
-    match editor.frame() {
-        Ok(frame) => rows_text(alloc, &frame.rows).ok(),
+    let Ok(frame) = editor.frame() else {
+        return None;
+    };
+    let mut text = Vec::new(alloc);
+    match push_rows(&mut text, &frame.rows) {
+        Ok(()) => Some(text),
         Err(_) => None,
     }
 }
@@ -87,7 +90,7 @@ pub(crate) fn show<S: TextStore, W: Write>(
     let Some(text) = frame_of(alloc, editor) else {
         return Course::NoMemory;
     };
-    match write_text(text.as_str(), screen) {
+    match write_bytes(&text, screen) {
         Ok(()) => course,
         Err(_) => Course::NoScreen,
     }

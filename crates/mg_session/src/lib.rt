@@ -6,8 +6,8 @@
 //! program above may rest on its contract: which keys a session takes, in turn, and exactly what
 //! they show, for any reader and screen that tell their bytes and any port that tells its calls;
 //! that each session ends; and on its faults, a device's being answered exactly where a call of it
-//! failed. A session of another kind is begun by `open`, presses a key by `press`, and is answered
-//! by `session_answer`.
+//! failed. A session of another kind is begun by `open`, reads its keys by `read_block`, presses a
+//! key by `press`, writes by `push_rows` and `write_bytes`, and is answered by `session_answer`.
 #![tactic(auto)]
 
 mod course;
@@ -18,7 +18,8 @@ mod opening;
 mod session;
 
 pub use course::{Course, course_answer, is_on, session_answer};
+pub use display::{push_rows, write_bytes};
 pub use fault::SessionFault;
 pub use keys::{course_behind, press};
 pub use opening::open;
-pub use session::run_keys;
+pub use session::{is_strict, read_block, run_keys};

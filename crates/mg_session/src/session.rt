@@ -81,7 +81,7 @@ pub fn run_keys<S: Teller, R: Read, W: Write, P: Port>(
 }
 
 /// Whether the settings ask for a strict session.
-fn is_strict(settings: &Settings) -> bool
+pub fn is_strict(settings: &Settings) -> bool
     ensures { result ≡ settings.now.strict }
 {
     settings.values().strict
@@ -206,7 +206,7 @@ impl Session {
 }
 
 /// Reads bytes of the keys, and answers how many.
-fn read_block<R: Read>(keys: &mut Counted<R>, block: &mut [u8]) -> io::Result<usize>
+pub fn read_block<R: Read>(keys: &mut Counted<R>, block: &mut [u8]) -> io::Result<usize>
     requires { 0 < length block.old }
     ensures length { length block.new ≡ length block.old }
     ensures within { IfOk result (λ count. count ≤ length block.new) }

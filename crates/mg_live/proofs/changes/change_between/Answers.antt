@@ -2,16 +2,16 @@ use Rattle.std.proofs.Common.{arith, sym, ◌∙◌, ◌-◌, ◌≤◌, ◌+◌
 use Rattle.mg_live.proofs.AlikeLaws.{less_alike, whole_rest}
 use Rattle.mg_live.proofs.changes.change_between.Goals as goal
 
-pub end_beyond-same-requires-clause-alike : goal.end_beyond-same-requires-clause-alike
-end_beyond-same-requires-clause-alike c =
+pub common_end-same-requires-clause-alike : goal.common_end-same-requires-clause-alike
+common_end-same-requires-clause-alike c =
     let old = c.args.old.now in
     let new = c.args.new.now in
-    let lo = c.front_beyond-lo.result in
+    let lo = c.common_front-lo.result in
     let n = c.min-known.result in
     let kept = c.requires in
     let less : n ≤ c.args.kept.end = omega (arith, c.min.ensures, c.min-known.ensures) in
-    let in_old : lo + n ≤ length old = omega (arith, c.min.ensures, c.min-known.ensures, c.front_beyond-lo.ensures.old) in
-    let in_new : lo + n ≤ length new = omega (arith, c.min-known.ensures, c.front_beyond-lo.ensures.new) in
+    let in_old : lo + n ≤ length old = omega (arith, c.min.ensures, c.min-known.ensures, c.common_front-lo.ensures.old) in
+    let in_new : lo + n ≤ length new = omega (arith, c.min-known.ensures, c.common_front-lo.ensures.new) in
     (λ k. drop (length (whole_rest lo old k) - n) (whole_rest lo old k))
     ∙ less_alike lo n c.args.kept.end old new less in_old in_new kept.end_in_old kept.end_in_new kept.end
     ∙ sym (λ k. drop (length (whole_rest lo new k) - n) (whole_rest lo new k))

@@ -1,7 +1,14 @@
 use Rattle.std.proofs.Common.{arith, ap, sym, ◌∙◌, ◌-◌, ◌≤◌, ◌+◌, length, drop, take}
 use Rattle.std.proofs.lemmas.List.{length-drop, take_all}
-use Rattle.mg_live.proofs.AlikeLaws.{block_on}
+use Rattle.mg_live.proofs.AlikeLaws.{block_on, front_known}
 use Rattle.mg_live.proofs.changes.common_blocks.Goals as goal
+
+pub blocks-2-init : goal.blocks-2-init
+blocks-2-init c = record {
+  exact = front_known c.args.known c.args.old.now c.args.new.now c.requires.old c.requires.new c.requires.alike;
+  old = c.requires.old;
+  new = c.requires.new;
+}
 
 pub blocks-2-preserved : goal.blocks-2-preserved
 blocks-2-preserved c =

@@ -17,17 +17,17 @@ returns-in_default-picture g c = λ calls faults.
     unmade c.ready.new.live c.ready.new.editor (inr (c.in-Some.is_new, c.in-Some.ensures.drawn))
     (refl {a = moment c.ready.new.editor calls faults screen NoMemory c.ready.new.live})
 
-pub returns-in-Ok-write : goal.returns-in-Ok-write
-returns-in-Ok-write g c = λ calls faults.
-    let screen = seen g.W.Write.contents c.write.new.screen in
-    let written = rw c.deref.ensures.value at c.in-Ok-write.ensures.bytes in
+pub returns-in-Ok-write_bytes : goal.returns-in-Ok-write_bytes
+returns-in-Ok-write_bytes g c = λ calls faults.
+    let screen = seen g.W.Write.contents c.write_bytes.new.screen in
+    let written = rw c.deref.ensures.value at c.in-Ok-write_bytes.ensures.bytes in
     whole _ screen c.ready.new.live c.ready.new.editor (record { is_new = c.in-Some.is_new; drawn = c.in-Some.ensures.drawn; is = c.in-Ok.ensures })
-    written c.in-Ok-write.ensures.device c.in-Ok-write.ensures.flushed
+    written c.in-Ok-write_bytes.ensures.device c.in-Ok-write_bytes.ensures.flushed
     (refl {a = moment c.ready.new.editor calls faults screen c.args.course c.ready.new.live})
 
 pub returns : goal.returns
 returns g c = λ calls faults.
-    let screen = seen g.W.Write.contents c.write.new.screen in
+    let screen = seen g.W.Write.contents c.write_bytes.new.screen in
     let front = c.in-Err.ensures.begun in
     let is = rw (← c.deref.ensures.value, front.parts) at c.in-Ok.ensures in
     begun front.front front.rest screen c.ready.new.live c.ready.new.editor

@@ -6,7 +6,7 @@ use Rattle.mg_live.proofs.session.run_live.Goals as goal
 
 pub note_start-begun-requires : goal.note_start-begun-requires
 note_start-begun-requires g c =
-    one_open c.args.settings.now (g.P.Port.calls c.args.port.now) (g.P.Port.calls c.open.new.port) c.in-Ok.editor c.in-Ok.ensures.loaded
+    one_open c.args.settings.now (g.P.Port.calls c.args.port.now) (g.P.Port.calls c.open.new.port) c.in-Ok-open.editor c.in-Ok-open.ensures.loaded
 
 pub returns-in_default : goal.returns-in_default
 returns-in_default g c = record {
@@ -17,12 +17,12 @@ returns-in_default g c = record {
   file = search rules;
 }
 
-pub returns-in-Ok : goal.returns-in-Ok
-returns-in-Ok g c =
+pub returns-in-Ok-open : goal.returns-in-Ok-open
+returns-in-Ok-open g c =
     let has_run =
     session_ran g.R.Read.remaining g.W.Write.contents c.args.settings.now c.args.keys.now c.run-course.new.keys c.args.screen.now c.run-course.new.screen
     (g.P.Port.calls c.args.port.now) (g.P.Port.calls c.run-course.new.port) (g.P.Port.failures c.args.port.now) (g.P.Port.failures c.run-course.new.port)
     c.values-asked.result.now c.is_strict.result c.failure.result c.session_answer.result (g.P.Port.failures c.open.new.port)
-    c.values-asked.ensures.exact c.is_strict.ensures c.in-Ok.ensures.loaded c.in-Ok.ensures.device (c.note_start-begun.ensures c.in-Some.ensures) c.run-course.ensures c.failure.ensures
+    c.values-asked.ensures.exact c.is_strict.ensures c.in-Ok-open.ensures.loaded c.in-Ok-open.ensures.device (c.note_start-begun.ensures c.in-Ok.ensures) c.run-course.ensures c.failure.ensures
     c.session_answer.ensures in
-    record { ran = has_run.ran; flushed = has_run.flushed; keys = has_run.reads; screen = has_run.writes; file = λ is. absurd (has_run.file is) }
+    record { ran = has_run.ran; flushed = has_run.tells.flushed; keys = has_run.tells.reads; screen = has_run.tells.writes; file = λ is. absurd (has_run.tells.file is) }

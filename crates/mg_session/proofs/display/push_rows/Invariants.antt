@@ -1,6 +1,6 @@
 use Rattle.std.proofs.Common.{◌≡◌, ◌++◌, drop, map, string_bytes}
 use Rattle.rga_lines.specs.Stream.{bytes_of_lines}
-use Rattle.mg_live.proofs.picture.push_rows.Given as goal
+use Rattle.mg_session.proofs.display.push_rows.Given as goal
 
 abbrev pub invariant-loop-row : goal.invariant-loop-row
 invariant-loop-row l =
