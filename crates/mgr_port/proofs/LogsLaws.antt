@@ -21,6 +21,3 @@ gains_front kept now refused all = record { front = refused; rest = []; parts = 
 pub gains_nothing : (kept now : Option (List ℕ)) → now ≡ kept → Appends kept now []
 gains_nothing None now is = tt
 gains_nothing (Some l) now is = subst (λ o. Appends (Some l) o []) (sym is) (sym (append-nil l))
-
-pub gains_none : (kept now : Option (List ℕ)) (refused : List ℕ) → now ≡ kept → AppendsFront kept now refused
-gains_none kept now refused is = record { front = []; rest = refused; parts = refl; appended = gains_nothing kept now is }
