@@ -1,5 +1,6 @@
 -- What stands under a name behind each beginning of the steps that give it a file.
-use Rattle.std.proofs.Common.{◌≡◌, ◌⊎◌, inl, inr, ℕ, List, [], ◌∷◌, ◌++◌, Bool, true, false, Option, Some, None, refl, sym, ap, ◌∙◌, subst, append_assoc}
+use Rattle.std.proofs.Common.{◌≡◌, ◌⊎◌, inl, inr, ℕ, List, [], ◌∷◌, ◌++◌, Bool, true, false, Option, Some, None, Result, OnErr, refl, sym, ap, ◌∙◌, subst, append_assoc}
+use Rattle.std.proofs.lemmas.Result.{on_err_weaker}
 use Rattle.mgr_port.specs.Disk.{DiskStep, Empties, Writes, Syncs, Keeps, TakesName, SyncsFolder, Removes, BeginsSteps, AreGivenUp, Place, behind_step, behind_steps, MayStand, MayBeFound, IsUntouched, keeping_steps, unnamed_steps, naming_steps, whole_steps, TellsSteps, TellsWrittenFront, StopsBefore}
 
 -- What holds of a place, holds of it behind a part of the first step where that is a write, and behind that step and any
@@ -164,3 +165,17 @@ stops_behind a b c step later one s = record {
   begins = inr (inr (s.made, refl, s.begins));
   tells = tells_more a b c (step ∷ []) s.made one s.tells;
 }
+
+-- ---- a whole file, as far as it came
+
+-- of its bytes not all were written
+pub stops_unwritten : (a b c : Option (List DiskStep)) (keeps : Bool) (bytes : List ℕ) → TellsSteps a b (Empties ∷ []) → TellsSteps b c [] ⊎ TellsWrittenFront b c bytes → StopsBefore a c (unnamed_steps keeps bytes)
+stops_unwritten a b c keeps bytes emptied begun =
+    let later = Syncs ∷ keeping_steps keeps in stops_behind a b c Empties (Writes bytes ∷ later) emptied (stops_in_write b c bytes later begun)
+
+-- all of them were
+pub stops_unnamed : {A E : Type 0} (answer : Result A E) (a b c d : Option (List DiskStep)) (keeps : Bool) (bytes : List ℕ) → TellsSteps a b (Empties ∷ []) → TellsSteps b c (Writes bytes ∷ [])
+    → OnErr answer (StopsBefore c d (Syncs ∷ keeping_steps keeps)) → OnErr answer (StopsBefore a d (unnamed_steps keeps bytes))
+stops_unnamed answer a b c d keeps bytes emptied written =
+    let later = Syncs ∷ keeping_steps keeps in
+    on_err_weaker answer (λ s. stops_behind a b d Empties (Writes bytes ∷ later) emptied (stops_behind b c d (Writes bytes) later written s))

@@ -1,5 +1,5 @@
 -- What is told of logs that are written anew.
-use Rattle.std.proofs.Common.{◌≡◌, ◌∙◌, ℕ, List, [], Option, Some, None, refl, sym, ap, subst}
+use Rattle.std.proofs.Common.{◌≡◌, ◌∙◌, ℕ, List, [], Option, Some, None, sym, ap}
 use Rattle.std.specs.Io.KnownBytes.{Appends}
 use Rattle.std.proofs.lemmas.List.{append-nil}
 use Rattle.mgr_port.specs.Logs.{SameElsewhere, AppendsFront}
@@ -16,11 +16,3 @@ all_written (Some l) bytes is = ap (λ (k : List ℕ). Some k) is
 
 pub gains_front : (kept now : Option (List ℕ)) (refused : List ℕ) → Appends kept now refused → AppendsFront kept now refused
 gains_front kept now refused all = record { front = refused; rest = []; parts = sym (append-nil refused); appended = all }
-
--- nothing more is
-pub gains_nothing : (kept now : Option (List ℕ)) → now ≡ kept → Appends kept now []
-gains_nothing None now is = tt
-gains_nothing (Some l) now is = subst (λ o. Appends (Some l) o []) (sym is) (sym (append-nil l))
-
-pub gains_none : (kept now : Option (List ℕ)) (refused : List ℕ) → now ≡ kept → AppendsFront kept now refused
-gains_none kept now refused is = record { front = []; rest = refused; parts = refl; appended = gains_nothing kept now is }

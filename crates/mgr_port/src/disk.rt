@@ -61,8 +61,9 @@ impl Named {
 
 /// Makes these bytes the whole file under a name, whatever is beside. What stood there is kept where
 /// it is to be. Whenever the machine stops, the file is the old one or the new one, whole (`laws`).
-/// Where a step before the last fails, the old file has the name.
-#[tactic(auto, using(crate::proofs::DiskLaws::stops_here, crate::proofs::DiskLaws::stops_in_write, crate::proofs::DiskLaws::stops_behind))]
+/// `io::Error` is that of the step that failed, and the old file has the name then; of the last step
+/// it is in `Unsettled`.
+#[tactic(auto, using(crate::proofs::DiskLaws::stops_here, crate::proofs::DiskLaws::stops_unwritten, crate::proofs::DiskLaws::stops_unnamed))]
 pub fn put_whole<D: Disk>(disk: &mut D, bytes: &[u8], keeps: bool) -> io::Result<Named>
     ensures named { IfOk result (λ named.
         TellsSteps (D.steps disk.old) (D.steps disk.new) (steps_to named keeps bytes.now)) }
@@ -75,7 +76,7 @@ pub fn put_whole<D: Disk>(disk: &mut D, bytes: &[u8], keeps: bool) -> io::Result
 }
 
 /// Makes these lines the whole file under a name, as `put_whole` does bytes.
-#[tactic(auto, using(crate::proofs::DiskLaws::stops_here, crate::proofs::DiskLaws::stops_in_write, crate::proofs::DiskLaws::stops_behind))]
+#[tactic(auto, using(crate::proofs::DiskLaws::stops_here, crate::proofs::DiskLaws::stops_unwritten, crate::proofs::DiskLaws::stops_unnamed))]
 pub(crate) fn put_log<D: Disk>(disk: &mut D, lines: &LogLines, keeps: bool) -> io::Result<Named>
     ensures named { IfOk result (λ named.
         TellsSteps (D.steps disk.old) (D.steps disk.new) (steps_to named keeps lines.now)) }

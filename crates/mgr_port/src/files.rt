@@ -217,12 +217,6 @@ pub(crate) fn fill(file: &mut File, bytes: &[u8]) -> io::Result<()> {
     file.sync_all()
 }
 
-/// Writes lines at the end of a file, and waits until it is on the device.
-pub(crate) fn fill_with(file: &mut File, lines: &LogLines) -> io::Result<()> {
-    write_lines(file, lines)?;
-    file.sync_all()
-}
-
 /// Writes lines at the end of a file. Where memory is wanting, nothing is written.
 pub(crate) fn write_lines(file: &mut File, lines: &LogLines) -> io::Result<()> {
     let mut writer = Counted::new(Patient::new(file));
@@ -273,15 +267,10 @@ pub(crate) fn keep<R: Files<File = File> + AllocGlobal>(
 }
 
 fn kept_path(alloc: Global, path: &str, number: u32) -> io::Result<String> {
-    let kept = if number == 0 {
-        format!(in alloc; "{path}~")
-    } else {
-        format!(in alloc; "{path}.~{number}~")
-    };
-    match kept {
-        Ok(kept) => Ok(kept),
-        Err(_) => Err(io::Error::from(ErrorKind::OutOfMemory)),
+    if number == 0 {
+        return Ok(format!(in alloc; "{path}~")?);
     }
+    Ok(format!(in alloc; "{path}.~{number}~")?)
 }
 
 /// The same under a path; `AlreadyExists` where that is taken.

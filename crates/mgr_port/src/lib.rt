@@ -9,7 +9,6 @@
 //! tried with the built program.
 #![tactic(auto)]
 
-mod beside;
 mod disk;
 mod files;
 pub mod laws;
@@ -20,7 +19,7 @@ mod note;
 mod patient;
 mod port;
 mod rewriting;
-mod sockets;
+mod staged;
 mod stamp;
 mod text;
 

@@ -1,14 +1,13 @@
 //! A log that this port has open.
-use crate::beside::remove_next;
-use crate::files::{fill_with, lock, metadata_if_there, open_to_add, plain_if_there, stands_for};
-use crate::stamp::Stamp;
+use crate::files::{lock, metadata_if_there, open_to_add, plain_if_there, stands_for, write_lines};
+use crate::staged::{Date, remove_next};
+use crate::stamp::{LATER, Stamp};
 use mg_files::LogLines;
 use std::fs::File;
 use std::io;
 use std::io::{ErrorKind, Read};
 use std::os::unix::fs::FileExt;
 use std::rt::Files;
-use std::time::SystemTime;
 
 /// How many bytes of a log's end are remembered.
 const END: usize = 256;
@@ -17,7 +16,7 @@ const END: usize = 256;
 #[derive(Drop)]
 pub(crate) struct Log {
     file: File,
-    stamp: Stamp,
+    pub(crate) stamp: Stamp,
     end: End,
 }
 
@@ -29,12 +28,6 @@ struct End {
 }
 
 impl Log {
-    /// A log that was written up to its length.
-    pub(crate) fn new(file: File) -> io::Result<Log> {
-        let length = file.metadata()?.len();
-        Log::read_to(file, length)
-    }
-
     /// A log that was read up to such a length. What another program put behind it meanwhile was not.
     pub(crate) fn read_to(file: File, length: u64) -> io::Result<Log> {
         let mut stamp = Stamp::of(&file.metadata()?);
@@ -68,13 +61,12 @@ impl Log {
         remove_next(rt, path, &self.file);
     }
 
-    pub(crate) fn stamp(&self) -> Stamp {
-        self.stamp
-    }
-
-    /// When it was changed last.
-    pub(crate) fn changed(&self) -> io::Result<SystemTime> {
-        self.file.metadata()?.modified()
+    /// By what a text is dated that is put beside it.
+    pub(crate) fn date(&self) -> Date<'_> {
+        Date {
+            of: &self.file,
+            later: LATER,
+        }
     }
 
     /// The bytes of the log, from its begin.
@@ -96,7 +88,8 @@ impl Log {
         if !self.only_grew(rt, path)? {
             return Err(io::Error::from(ErrorKind::NotFound));
         }
-        fill_with(&mut self.file, lines)?;
+        write_lines(&mut self.file, lines)?;
+        self.file.sync_all()?;
         let stamp = Stamp::of(&self.file.metadata()?);
         if stamp.length <= self.stamp.length || !self.only_grew(rt, path)? {
             return Err(io::Error::from(ErrorKind::NotFound));
@@ -115,7 +108,8 @@ impl Log {
         if !now.is_of_the_file(&self.stamp) || now.length < self.stamp.length {
             return Ok(false);
         }
-        if !self.end.is_at(&self.file, self.stamp.length)? {
+        let end = End::of(&self.file, self.stamp.length)?;
+        if end.length != self.end.length || end.bytes != self.end.bytes {
             return Ok(false);
         }
         if now.length == self.stamp.length {
@@ -136,12 +130,6 @@ impl End {
             bytes,
             length: count,
         })
-    }
-
-    /// Whether it stands in a file where such a length ends.
-    fn is_at(&self, file: &File, length: u64) -> io::Result<bool> {
-        let there = End::of(file, length)?;
-        Ok(there.length == self.length && there.bytes == self.bytes)
     }
 }
 

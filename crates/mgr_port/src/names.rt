@@ -60,8 +60,5 @@ fn followed<R: Files<File = File> + AllocGlobal>(rt: &R, link: String) -> io::Re
 
 /// A name with this behind it.
 fn path(alloc: Global, name: &str, end: &str) -> io::Result<String> {
-    match format!(in alloc; "{name}{end}") {
-        Ok(path) => Ok(path),
-        Err(_) => Err(io::Error::from(ErrorKind::OutOfMemory)),
-    }
+    Ok(format!(in alloc; "{name}{end}")?)
 }

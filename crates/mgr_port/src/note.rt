@@ -1,9 +1,9 @@
 //! The files of one note, as this port found and left them.
-use crate::beside::{Beside, Kind, remove_next};
 use crate::disk::{Named, put_log};
 use crate::files::{TRIES, lock_beside, metadata_if_there, open_beside, stands_for, take_beside};
 use crate::log::Log;
 use crate::names::Paths;
+use crate::staged::{How, Old, Rights, Staged, remove_next};
 use crate::text::Text;
 use mg_files::{Found, LogLines};
 use std::fs::{File, Metadata};
@@ -11,16 +11,10 @@ use std::io::ErrorKind;
 use std::rt::Files;
 use std::{fs, io};
 
-/// A note under its name.
+/// A note under its name. What is open of its files is locked.
 #[derive(Drop)]
 pub(crate) struct Note {
     pub(crate) paths: Paths,
-    pub(crate) files: NoteFiles,
-}
-
-/// The files of a note. What is open is locked.
-#[derive(Drop)]
-pub(crate) struct NoteFiles {
     /// The log, where this port has read or written one.
     log: Option<Log>,
     /// The next log, where it is open.
@@ -33,19 +27,6 @@ impl Note {
     pub(crate) fn new(paths: Paths) -> Note {
         Note {
             paths,
-            files: NoteFiles::new(),
-        }
-    }
-
-    /// Whether this is the note of that name.
-    pub(crate) fn is_of(&self, name: &str) -> bool {
-        self.paths.text.as_str() == name
-    }
-}
-
-impl NoteFiles {
-    fn new() -> NoteFiles {
-        NoteFiles {
             log: None,
             next: None,
             text: Text::new(),
@@ -57,12 +38,11 @@ impl NoteFiles {
     pub(crate) fn load<R: Files<File = File> + AllocGlobal>(
         &mut self,
         rt: &R,
-        paths: &Paths,
     ) -> io::Result<Found> {
         self.close();
-        let found = self.try_load(rt, paths);
+        let found = self.try_load(rt);
         if found.is_err() {
-            self.leave(rt, paths);
+            self.leave(rt);
             self.close();
         }
         found
@@ -70,35 +50,20 @@ impl NoteFiles {
 
     /// Closes what is open, which is not locked any more.
     fn close(&mut self) {
-        *self = NoteFiles::new();
+        self.log = None;
+        self.next = None;
+        self.text = Text::new();
     }
 
-    fn try_load<R: Files<File = File> + AllocGlobal>(
-        &mut self,
-        rt: &R,
-        paths: &Paths,
-    ) -> io::Result<Found> {
-        match take_log(rt, paths, &mut self.next)? {
-            Some(file) => self.load_log(rt, paths, file),
-            None => Ok(Found {
-                log: None,
-                text: self.text.load(rt, paths.text.as_str())?,
-            }),
-        }
-    }
-
-    /// Reads a log that is open and locked, and locks the text beside it. That is read where it is not
-    /// known as this port's own.
-    fn load_log<R: Files<File = File> + AllocGlobal>(
-        &mut self,
-        rt: &R,
-        paths: &Paths,
-        mut file: File,
-    ) -> io::Result<Found> {
+    fn try_load<R: Files<File = File> + AllocGlobal>(&mut self, rt: &R) -> io::Result<Found> {
+        let Some(mut file) = take_log(rt, &self.paths, &mut self.next)? else {
+            let text = self.text.load(rt, self.paths.text.as_str())?;
+            return Ok(Found { log: None, text });
+        };
         let bytes = Log::read(rt, &mut file)?;
         let log = Log::read_to(file, bytes.len() as u64)?;
-        log.give_up(rt, paths.next_log.as_str());
-        let text = self.text.take_beside(rt, paths.text.as_str(), &log)?;
+        log.give_up(rt, self.paths.next_log.as_str());
+        let text = self.text.take_beside(rt, self.paths.text.as_str(), &log)?;
         self.log = Some(log);
         Ok(Found {
             log: Some(bytes),
@@ -111,28 +76,26 @@ impl NoteFiles {
     pub(crate) fn append<R: Files<File = File> + AllocGlobal>(
         &mut self,
         rt: &R,
-        paths: &Paths,
         lines: &LogLines,
     ) -> io::Result<()> {
-        let path = paths.log.as_str();
+        let path = self.paths.log.as_str();
         if let Some(log) = &mut self.log {
             return log.append(rt, path, lines);
         }
         if metadata_if_there(rt, path)?.is_some() {
             return Err(io::Error::from(ErrorKind::AlreadyExists));
         }
-        self.make_log(rt, paths, lines, &None)
+        self.make_log(rt, lines, None)
     }
 
     /// Makes these lines the whole log. What stands there is kept.
     pub(crate) fn replace<R: Files<File = File> + AllocGlobal>(
         &mut self,
         rt: &R,
-        paths: &Paths,
         lines: &LogLines,
     ) -> io::Result<()> {
-        let standing = metadata_if_there(rt, paths.log.as_str())?;
-        self.make_log(rt, paths, lines, &standing)
+        let standing = metadata_if_there(rt, self.paths.log.as_str())?;
+        self.make_log(rt, lines, standing)
     }
 
     /// Writes lines beside the log, under a name that then becomes the log's. The new log is locked
@@ -140,17 +103,18 @@ impl NoteFiles {
     fn make_log<R: Files<File = File> + AllocGlobal>(
         &mut self,
         rt: &R,
-        paths: &Paths,
         lines: &LogLines,
-        standing: &Option<Metadata>,
+        standing: Option<Metadata>,
     ) -> io::Result<()> {
+        let path = self.paths.next_log.as_str();
         if let Some(log) = &self.log {
-            log.give_up(rt, paths.next_log.as_str());
+            log.give_up(rt, path);
         }
-        let mut next = take_next(rt, paths.next_log.as_str(), &mut self.next)?;
-        match name_next(rt, paths, &mut next, lines, standing) {
+        let mut next = take_next(rt, path, &mut self.next)?;
+        match name_next(rt, &self.paths, &mut next, lines, standing) {
             Ok(named) => {
-                self.log = Some(Log::new(next)?);
+                let length = next.metadata()?.len();
+                self.log = Some(Log::read_to(next, length)?);
                 named.settled()
             }
             Err(error) => {
@@ -165,10 +129,9 @@ impl NoteFiles {
     pub(crate) fn put_text<R: Files<File = File> + AllocGlobal>(
         &mut self,
         rt: &R,
-        paths: &Paths,
         bytes: &[u8],
     ) -> io::Result<()> {
-        self.text.put(rt, paths, bytes, &self.log)
+        self.text.put(rt, &self.paths, bytes, &self.log)
     }
 
     /// Closes the file whose name the text took last, if it is open.
@@ -178,12 +141,13 @@ impl NoteFiles {
 
     /// Removes what was only locked in the place of a log that was never made, and a name that the log
     /// may have kept beside its own.
-    pub(crate) fn leave<R: Files<File = File>>(&self, rt: &R, paths: &Paths) {
+    pub(crate) fn leave<R: Files<File = File>>(&self, rt: &R) {
+        let path = self.paths.next_log.as_str();
         if let Some(next) = &self.next {
-            remove_next(rt, paths.next_log.as_str(), next);
+            remove_next(rt, path, next);
         }
         if let Some(log) = &self.log {
-            log.give_up(rt, paths.next_log.as_str());
+            log.give_up(rt, path);
         }
     }
 }
@@ -260,31 +224,35 @@ fn name_next<R: Files<File = File> + AllocGlobal>(
     paths: &Paths,
     next: &mut File,
     lines: &LogLines,
-    standing: &Option<Metadata>,
+    standing: Option<Metadata>,
 ) -> io::Result<Named> {
-    if let Some(standing) = standing {
-        return name_log(rt, paths, next, lines, Kind::Log(standing), true);
-    }
-    let text = metadata_if_there(rt, paths.text.as_str())?;
-    name_log(rt, paths, next, lines, Kind::First(&text), false)
+    let (like, old) = match standing {
+        Some(log) => (Some(log), Old::Log),
+        None => (metadata_if_there(rt, paths.text.as_str())?, Old::Nothing),
+    };
+    let how = How {
+        rights: Rights::Like(&like),
+        date: None,
+        old,
+    };
+    name_log(rt, paths, next, lines, how)
 }
 
-/// Writes all of the next log, and gives it the log's name as a log of that kind. What stands under
-/// the name is kept where it is to be.
+/// Writes all of the next log, and gives it the log's name. What stands there is kept.
 fn name_log<R: Files<File = File> + AllocGlobal>(
     rt: &R,
     paths: &Paths,
     next: &mut File,
     lines: &LogLines,
-    kind: Kind<'_>,
-    keeps: bool,
+    how: How<'_>,
 ) -> io::Result<Named> {
-    let mut disk = Beside {
+    let keeps = matches!(how.old, Old::Log);
+    let mut staged = Staged {
         rt,
         file: next,
         path: paths.next_log.as_str(),
         name: paths.log.as_str(),
-        kind,
+        how,
     };
-    put_log(&mut disk, lines, keeps)
+    put_log(&mut staged, lines, keeps)
 }

@@ -9,15 +9,13 @@ use crate::log::Log;
 use crate::logs::Logs;
 use crate::names::Paths;
 use crate::note::Note;
-use crate::rewriting::{OpenLog, keep_refused, leave_next, make_next, name_next, open_log};
-use crate::sockets::{accept_one, connect_to, listen_at};
+use crate::rewriting::{OpenLog, keep_refused, leave_next, make_next, name_next};
 use mg_files::{Found, LinkFault, LogLines, Port, PortFault};
 use rga_exchange::Counted;
-use std::alloc::AllocError;
 use std::fs::File;
 use std::io;
 use std::io::ErrorKind;
-use std::net::{Net, OpenStream, Shutdown};
+use std::net::{Ipv4Addr, Net, OpenListener, OpenStream, Shutdown, TcpListener, TcpStream};
 use std::rt::Files;
 
 /// Files by their paths: the text of a buffer under its name, its log under that name with `.ops`
@@ -67,7 +65,7 @@ impl<R: Files<File = File> + Net + AllocGlobal + Drop> FilePort<R> {
     /// Removes what stands in the place of logs that were never made.
     fn leave(&self) {
         for note in &self.notes {
-            note.files.leave(&self.rt, &note.paths);
+            note.leave(&self.rt);
         }
     }
 }
@@ -131,42 +129,40 @@ fn index_of<R: Files<File = File> + AllocGlobal>(
     let Ok(paths) = Paths::new(rt, name) else {
         return Err(PortFault::Memory);
     };
-    Ok(add_note(notes, paths)?)
+    let index = notes.as_slice().len();
+    let Ok(()) = notes.push(Note::new(paths)) else {
+        return Err(PortFault::Memory);
+    };
+    Ok(index)
 }
 
 /// The index of the note of a name that was asked for before.
 fn known_index(notes: &[Note], name: &str) -> Option<usize>
     ensures { IfSome result (λ i. i < length notes.now) }
 {
-    notes.iter().position(|note| note.is_of(name))
+    notes
+        .iter()
+        .position(|note| note.paths.text.as_str() == name)
 }
 
 /// Closes the files whose names texts took. It is done where a peer is awaited, since it may take as
 /// long as a sync.
 fn close_replaced(notes: &mut Vec<Note>) {
     for note in notes.iter_mut() {
-        note.files.close_replaced();
+        note.close_replaced();
     }
 }
 
-/// The first peer that connects at a number. While none is there yet, files are closed.
+/// The first peer that connects at a number, and no other. While none is there yet, files are closed.
 fn await_peer<R: Files<File = File> + Net>(
     rt: &R,
     notes: &mut Vec<Note>,
     number: u16,
 ) -> io::Result<R::Stream> {
-    let listener = listen_at(rt, number)?;
+    let listener = TcpListener::bind(rt, (Ipv4Addr::LOCALHOST, number))?;
     close_replaced(notes);
-    accept_one::<R>(listener)
-}
-
-/// One note more, and its index.
-fn add_note(notes: &mut Vec<Note>, paths: Paths) -> Result<usize, AllocError>
-    ensures { IfOk result (λ i. i < length notes.new.items) }
-{
-    let index = notes.as_slice().len();
-    notes.push(Note::new(paths))?;
-    Ok(index)
+    let (stream, _) = listener.accept()?;
+    Ok(stream)
 }
 
 impl<R: Files<File = File> + Net + AllocGlobal + Drop> Port for FilePort<R> {
@@ -192,7 +188,7 @@ impl<R: Files<File = File> + Net + AllocGlobal + Drop> Port for FilePort<R> {
     {
         let index = index_of(&self.rt, &mut self.notes, name)?;
         let note = &mut self.notes[index];
-        let found = note.files.load(&self.rt, &note.paths);
+        let found = note.load(&self.rt);
         told(&mut self.failures, found)
     }
 
@@ -204,7 +200,7 @@ impl<R: Files<File = File> + Net + AllocGlobal + Drop> Port for FilePort<R> {
     {
         let index = index_of(&self.rt, &mut self.notes, name)?;
         let note = &mut self.notes[index];
-        let answer = note.files.append(&self.rt, &note.paths, lines);
+        let answer = note.append(&self.rt, lines);
         told(&mut self.failures, answer)
     }
 
@@ -216,7 +212,7 @@ impl<R: Files<File = File> + Net + AllocGlobal + Drop> Port for FilePort<R> {
     {
         let index = index_of(&self.rt, &mut self.notes, name)?;
         let note = &mut self.notes[index];
-        let answer = note.files.replace(&self.rt, &note.paths, lines);
+        let answer = note.replace(&self.rt, lines);
         told(&mut self.failures, answer)
     }
 
@@ -228,7 +224,7 @@ impl<R: Files<File = File> + Net + AllocGlobal + Drop> Port for FilePort<R> {
     {
         let index = index_of(&self.rt, &mut self.notes, name)?;
         let note = &mut self.notes[index];
-        let answer = note.files.put_text(&self.rt, &note.paths, bytes);
+        let answer = note.put_text(&self.rt, bytes);
         told(&mut self.failures, answer)
     }
 
@@ -241,7 +237,7 @@ impl<R: Files<File = File> + Net + AllocGlobal + Drop> Port for FilePort<R> {
         let Some(number) = self.number else {
             return Err(LinkFault::NoPort);
         };
-        let answer = connect_to(&self.rt, number);
+        let answer = TcpStream::connect(&self.rt, (Ipv4Addr::LOCALHOST, number));
         link_told(&mut self.failures, answer)
     }
 
@@ -292,7 +288,7 @@ impl<R: Files<File = File> + Net + AllocGlobal + Drop> Logs for FilePort<R> {
 
     /// A log that may not be written is refused.
     fn open_log(&mut self, name: &str) -> Result<OpenLog, PortFault> {
-        let opened = open_log(&self.rt, name);
+        let opened = OpenLog::open(&self.rt, name);
         told(&mut self.failures, opened)
     }
 

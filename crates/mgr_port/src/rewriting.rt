@@ -1,18 +1,17 @@
 //! A log that is read whole, and written anew beside.
-use crate::beside::{Beside, Kind, remove_next};
 use crate::disk::{Named, name_written};
 use crate::files::{
-    Keeping, TRIES, check_writable, fill, is_plain_there, keep, metadata_if_there, open_beside,
-    sync_folder, take_beside, take_mode,
+    TRIES, check_writable, fill, is_plain_there, metadata_if_there, open_beside, sync_folder,
+    take_beside, take_mode,
 };
 use crate::log::{Log, ends_in_a_newline};
 use crate::names::Paths;
+use crate::staged::{Date, How, Old, Rights, Staged, remove_next};
 use crate::stamp::Stamp;
 use std::fs::File;
 use std::io;
 use std::io::{ErrorKind, Read, Write};
 use std::rt::Files;
-use std::time::SystemTime;
 
 /// A log that is read. It is locked for as long as it is open.
 #[derive(Drop)]
@@ -38,9 +37,14 @@ impl Read for OpenLog {
 }
 
 impl OpenLog {
-    /// The log of a path, locked. `NotFound` where there is none, and `WouldBlock` where something
+    /// The log of a name, locked. `NotFound` where there is none, and `WouldBlock` where something
     /// else has it locked.
-    pub(crate) fn open<R: Files<File = File>>(rt: &R, path: &str) -> io::Result<OpenLog> {
+    pub(crate) fn open<R: Files<File = File> + AllocGlobal>(
+        rt: &R,
+        name: &str,
+    ) -> io::Result<OpenLog> {
+        let paths = Paths::new(rt, name)?;
+        let path = paths.log.as_str();
         for _ in 0..TRIES {
             match Log::open(rt, path) {
                 Ok(Some(file)) => {
@@ -59,62 +63,35 @@ impl OpenLog {
         Err(io::Error::from(ErrorKind::WouldBlock))
     }
 
-    /// When it was changed last.
-    fn changed(&self) -> io::Result<SystemTime> {
-        self.file.metadata()?.modified()
+    /// `WouldBlock` unless a path stands for the log, which has the length that was read.
+    pub(crate) fn check_as_read<R: Files>(&self, rt: &R, path: &str) -> io::Result<()> {
+        if let Some(there) = metadata_if_there(rt, path)? {
+            let there = Stamp::of(&there);
+            let open = Stamp::of(&self.file.metadata()?);
+            if there.is_of_the_file(&open) && there.length == self.read {
+                return Ok(());
+            }
+        }
+        Err(io::Error::from(ErrorKind::WouldBlock))
     }
 
-    /// Whether a path stands for the log, which has the length that was read.
-    fn is_as_read<R: Files>(&self, rt: &R, path: &str) -> io::Result<bool> {
-        let Some(there) = metadata_if_there(rt, path)? else {
-            return Ok(false);
-        };
-        let there = Stamp::of(&there);
-        let open = Stamp::of(&self.file.metadata()?);
-        Ok(there.is_of_the_file(&open) && there.length == self.read)
+    /// The date of a log that takes its place: if nothing of it is refused, its own, by which a text
+    /// that was put beside it is known. Else that text is nobody's, and is kept when another takes
+    /// its name.
+    fn date(&self) -> Option<Date<'_>> {
+        if self.refused {
+            return None;
+        }
+        Some(Date {
+            of: &self.file,
+            later: 0,
+        })
     }
-}
-
-/// Waits until a log is on the device that takes the place of one that was read. If nothing of that
-/// is refused, it gets its time of change, by which a text that was put beside it is known. Else that
-/// text is nobody's, and is kept when another takes its name.
-pub(crate) fn sync_as_read(next: &File, read: &OpenLog) -> io::Result<()> {
-    if !read.refused {
-        date_as_read(next, read);
-    }
-    next.sync_all()
-}
-
-/// A file system that keeps no such times is no reason to stop.
-fn date_as_read(next: &File, read: &OpenLog) {
-    if let Ok(time) = read.changed() {
-        let _ = next.set_modified(time);
-    }
-}
-
-/// Keeps a log of a path. Nothing gets the name of one that is not as it was read.
-pub(crate) fn keep_as_read<R: Files<File = File> + AllocGlobal>(
-    rt: &R,
-    read: &OpenLog,
-    path: &str,
-) -> io::Result<()> {
-    if !read.is_as_read(rt, path)? {
-        return Err(io::Error::from(ErrorKind::WouldBlock));
-    }
-    keep(rt, path, Keeping::ByName)
-}
-
-/// The log of a name, locked.
-pub(crate) fn open_log<R: Files<File = File> + AllocGlobal>(
-    rt: &R,
-    name: &str,
-) -> io::Result<OpenLog> {
-    let paths = Paths::new(rt, name)?;
-    OpenLog::open(rt, paths.log.as_str())
 }
 
 /// Puts bytes at the end of the file of what was refused of a log, and waits until they are on the
-/// device under its name. Who has the log open has this file for himself.
+/// device under its name. Where it is not there it is made, with the owner and the rights of the
+/// log. Who has the log open has this file for himself.
 pub(crate) fn keep_refused<R: Files<File = File> + AllocGlobal>(
     rt: &R,
     name: &str,
@@ -123,31 +100,19 @@ pub(crate) fn keep_refused<R: Files<File = File> + AllocGlobal>(
 ) -> io::Result<()> {
     log.refused = true;
     let path = Paths::new(rt, name)?.refused(rt.alloc())?;
-    let mut refused = open_refused(rt, path.as_str(), log)?;
-    end_line(&mut refused)?;
+    let is_there = is_plain_there(rt, path.as_str())?;
+    let mut refused = open_beside(rt, path.as_str())?;
+    if !is_there {
+        take_mode(&refused, &log.file.metadata()?)?;
+    }
+    let length = refused.metadata()?.len();
+    // A last line that was cut off ends, so that nothing is read as a part of it.
+    if length > 0 && !ends_in_a_newline(&refused, length)? {
+        refused.write_all(b"\n")?;
+    }
     fill(&mut refused, bytes)?;
     // One that was killed may have left it without a name on the device.
     sync_folder(rt, path.as_str())
-}
-
-/// The file of what was refused of a log. Where it is not there it is made, with the owner and the
-/// rights of the log.
-fn open_refused<R: Files<File = File>>(rt: &R, path: &str, log: &OpenLog) -> io::Result<File> {
-    if is_plain_there(rt, path)? {
-        return open_beside(rt, path);
-    }
-    let made = open_beside(rt, path)?;
-    take_mode(&made, &log.file.metadata()?)?;
-    Ok(made)
-}
-
-/// Ends a last line that was cut off, so that nothing is read as a part of it.
-fn end_line(file: &mut File) -> io::Result<()> {
-    let length = file.metadata()?.len();
-    if length == 0 || ends_in_a_newline(file, length)? {
-        return Ok(());
-    }
-    file.write_all(b"\n")
 }
 
 /// An empty file beside a log, locked, with the owner and the rights of the log.
@@ -184,14 +149,18 @@ fn name_beside<R: Files<File = File> + AllocGlobal>(
     mut next: File,
 ) -> io::Result<Named> {
     let path = paths.next_log.as_str();
-    let mut disk = Beside {
+    let mut staged = Staged {
         rt,
         file: &mut next,
         path,
         name: paths.log.as_str(),
-        kind: Kind::Rewritten(read),
+        how: How {
+            rights: Rights::AsMade,
+            date: read.date(),
+            old: Old::Read(read),
+        },
     };
-    let named = name_written(&mut disk, true);
+    let named = name_written(&mut staged, true);
     if named.is_err() {
         remove_next(rt, path, &next);
     }

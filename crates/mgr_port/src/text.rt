@@ -1,5 +1,4 @@
 //! A text, as this port found and left it.
-use crate::beside::{Beside, Kind, remove_next, sync_dated};
 use crate::disk::{Named, put_whole};
 use crate::files::{
     Keeping, TRIES, check_writable, keep, lock, make_beside, plain_if_there, set_mode, stands_for,
@@ -7,6 +6,7 @@ use crate::files::{
 };
 use crate::log::Log;
 use crate::names::Paths;
+use crate::staged::{Date, How, Old, Rights, Staged, remove_next, sync_dated};
 use crate::stamp::{Stamp, is_dated_by};
 use std::fs::{File, Metadata};
 use std::io::{ErrorKind, Write};
@@ -78,11 +78,15 @@ impl Text {
             return Ok(None);
         };
         let found = file.metadata()?;
-        if is_dated_by(&found, &log.stamp()) {
+        if is_dated_by(&found, &log.stamp) {
             self.own = Some(Stamp::of(&found));
             return Ok(None);
         }
-        read_if_readable(rt, path)
+        match fs::read(rt, path) {
+            Ok(bytes) => Ok(Some(bytes)),
+            Err(error) if error.kind() == ErrorKind::OutOfMemory => Err(error),
+            Err(_) => Ok(None),
+        }
     }
 
     /// Locks and reads the text, which is this port's own then.
@@ -124,7 +128,7 @@ impl Text {
         }
         let text = NextText {
             bytes,
-            log,
+            date: log.as_ref().map(Log::date),
             own: self.own,
         };
         let Some(next) = make_next(rt, paths, &there)? else {
@@ -173,21 +177,9 @@ impl Text {
         }
         let mut file = fs::create(rt, path)?;
         file.write_all(text.bytes)?;
-        sync_dated(&file, text.log)?;
+        sync_dated(&file, text.date)?;
         self.own = Some(Stamp::of(&file.metadata()?));
         Ok(())
-    }
-}
-
-/// The bytes of a file; none where it can't be read.
-fn read_if_readable<R: Files<File = File> + AllocGlobal>(
-    rt: &R,
-    path: &str,
-) -> io::Result<Option<Vec<u8>>> {
-    match fs::read(rt, path) {
-        Ok(bytes) => Ok(Some(bytes)),
-        Err(error) if error.kind() == ErrorKind::OutOfMemory => Err(error),
-        Err(_) => Ok(None),
     }
 }
 
@@ -195,26 +187,18 @@ fn read_if_readable<R: Files<File = File> + AllocGlobal>(
 #[derive(Clone, Copy)]
 pub(crate) struct NextText<'a> {
     bytes: &'a [u8],
-    pub(crate) log: &'a Option<Log>,
+    date: Option<Date<'a>>,
     /// What stood under the name when this port read it or put it.
     own: Option<Stamp>,
 }
 
 impl<'a> NextText<'a> {
-    /// Keeps what stands under the name, where anything of it would be lost.
-    pub(crate) fn keep_what_stands<R: Files<File = File> + AllocGlobal>(
+    /// Whether nothing is lost where this text takes the name.
+    pub(crate) fn is_safe<R: Files<File = File> + AllocGlobal>(
         &self,
         rt: &R,
         path: &str,
-    ) -> io::Result<()> {
-        if self.is_safe(rt, path)? {
-            return Ok(());
-        }
-        keep(rt, path, Keeping::ByName)
-    }
-
-    /// Whether nothing is lost where this text takes the name.
-    fn is_safe<R: Files<File = File> + AllocGlobal>(&self, rt: &R, path: &str) -> io::Result<bool> {
+    ) -> io::Result<bool> {
         let Some(there) = plain_if_there(rt, path)? else {
             return Ok(true);
         };
@@ -236,14 +220,18 @@ fn name_next<R: Files<File = File> + AllocGlobal>(
     text: NextText<'_>,
 ) -> io::Result<Named> {
     lock(next)?;
-    let mut disk = Beside {
+    let mut staged = Staged {
         rt,
         file: next,
         path: paths.next_text.as_str(),
         name: paths.text.as_str(),
-        kind: Kind::Text(text),
+        how: How {
+            rights: Rights::AsMade,
+            date: text.date,
+            old: Old::Text(text),
+        },
     };
-    put_whole(&mut disk, text.bytes, true)
+    put_whole(&mut staged, text.bytes, true)
 }
 
 /// A new file for a text, with its mode, owner and group; none where the text has to be written in

@@ -1,0 +1,150 @@
+//! Files that are written beside another, whose name they are to take.
+use crate::disk::Disk;
+use crate::files::{
+    Keeping, OWN, give_free_name, keep, set_mode, stands_for, sync_folder, take_mode, write_lines,
+};
+use crate::rewriting::OpenLog;
+use crate::text::NextText;
+use mg_files::LogLines;
+use std::fs::{File, Metadata};
+use std::io::Write;
+use std::rt::Files;
+use std::time::{Duration, SystemTime};
+use std::{fs, io};
+
+/// A file beside a log or a text, whose name it is to take.
+#[derive(Drop)]
+pub(crate) struct Staged<'a, R> {
+    pub(crate) rt: &'a R,
+    pub(crate) file: &'a mut File,
+    pub(crate) path: &'a str,
+    pub(crate) name: &'a str,
+    pub(crate) how: How<'a>,
+}
+
+/// How a file takes a name.
+#[derive(Clone, Copy)]
+pub(crate) struct How<'a> {
+    pub(crate) rights: Rights<'a>,
+    pub(crate) date: Option<Date<'a>>,
+    pub(crate) old: Old<'a>,
+}
+
+/// The owner and the rights of a file that is staged.
+#[derive(Clone, Copy)]
+pub(crate) enum Rights<'a> {
+    /// Those that it was made with.
+    AsMade,
+    /// Those of a file; with none only its owner may read it.
+    Like(&'a Option<Metadata>),
+}
+
+/// By when a file was changed, and how many nanoseconds later, another one is dated.
+#[derive(Clone, Copy)]
+pub(crate) struct Date<'a> {
+    pub(crate) of: &'a File,
+    pub(crate) later: u64,
+}
+
+/// What stands under the name that a file is to take.
+#[derive(Clone, Copy)]
+pub(crate) enum Old<'a> {
+    /// Nothing. The file takes no name that something else has got meanwhile.
+    Nothing,
+    /// A log.
+    Log,
+    /// What a text is written over. It need not be kept if nothing of it is lost.
+    Text(NextText<'a>),
+    /// A log that was read. Nothing gets the name of one that is not as it was read.
+    Read(&'a OpenLog),
+}
+
+impl<'a, R: Files<File = File> + AllocGlobal> Disk for Staged<'a, R> {
+    ghost use Rattle.std.specs.Prelude.{None};
+
+    ghost steps = { λ _. None };
+
+    fn empty(&mut self) -> io::Result<()> {
+        self.file.set_len(0)?;
+        match self.how.rights {
+            Rights::AsMade => Ok(()),
+            Rights::Like(like) => take_rights(self.file, like),
+        }
+    }
+
+    fn write(&mut self, bytes: &[u8]) -> io::Result<()> {
+        self.file.write_all(bytes)
+    }
+
+    fn write_lines(&mut self, lines: &LogLines) -> io::Result<()> {
+        write_lines(self.file, lines)
+    }
+
+    fn sync(&mut self) -> io::Result<()> {
+        sync_dated(self.file, self.how.date)
+    }
+
+    fn keep(&mut self) -> io::Result<()> {
+        match self.how.old {
+            Old::Nothing => return Ok(()),
+            Old::Log => {}
+            Old::Text(text) => {
+                if text.is_safe(self.rt, self.name)? {
+                    return Ok(());
+                }
+            }
+            Old::Read(log) => log.check_as_read(self.rt, self.name)?,
+        }
+        keep(self.rt, self.name, Keeping::ByName)
+    }
+
+    fn take_name(&mut self) -> io::Result<()> {
+        match self.how.old {
+            Old::Nothing => give_free_name(self.rt, self.path, self.name),
+            _ => fs::rename(self.rt, self.path, self.name),
+        }
+    }
+
+    fn sync_folder(&mut self) -> io::Result<()> {
+        sync_folder(self.rt, self.name)
+    }
+}
+
+/// Gives a new file the owner and the rights of another; with none only its owner may read it.
+fn take_rights(file: &File, like: &Option<Metadata>) -> io::Result<()> {
+    match like {
+        Some(standing) => take_mode(file, standing),
+        None => set_mode(file, OWN),
+    }
+}
+
+/// Removes a file from the path at which it was to wait for its name, if it still stands there.
+pub(crate) fn remove_next<R: Files<File = File>>(rt: &R, path: &str, next: &File) {
+    if let Ok(true) = stands_for(rt, path, next) {
+        let _ = fs::remove_file(rt, path);
+    }
+}
+
+/// Dates a file, and waits until it is on the device. By its date a later session knows beside which
+/// log a text was put. A file system that keeps no such times is no reason to stop.
+pub(crate) fn sync_dated(file: &File, date: Option<Date<'_>>) -> io::Result<()> {
+    if let Some(date) = date {
+        date.give_to(file);
+    }
+    file.sync_all()
+}
+
+impl<'a> Date<'a> {
+    fn give_to(self, file: &File) {
+        let Ok(changed) = changed(self.of) else {
+            return;
+        };
+        if let Some(time) = changed.checked_add(Duration::from_nanos(self.later)) {
+            let _ = file.set_modified(time);
+        }
+    }
+}
+
+fn changed(file: &File) -> io::Result<SystemTime> {
+    file.metadata()?.modified()
+}
