@@ -4,7 +4,7 @@ use Rattle.json.proofs.Printed.Utf8.{IsUtf8-are_ascii}
 use Rattle.serde_json.proofs.OnLiterals.{serde_json_on_literals}
 use Rattle.serde_json.specs.Data.{Data, unsigned, number, string, object, member, no_members}
 use Rattle.serde_json.specs.Read.{read}
-use Rattle.rga_lines.specs.LineFault.TheVariants.{Kind}
+use Rattle.rga_lines.specs.declared.fault.LineFault.TheVariants.{Kind}
 use Rattle.rga_lines.specs.Table.{any_line_at, value_line}
 use Rattle.rga_lines.proofs.ReadingLemmas.{accepted}
 use Rattle.rga_brief.specs.Claims.{claim_of}

@@ -2,7 +2,7 @@
 //! theorem.
 ghost use Rattle.std.specs.Prelude.{◌≡◌, ◌↔◌, ◌≤◌, ◌++◌, ℕ, List, Some, Ok, Err};
 ghost use Rattle.rga_ops.specs.Content.{Content, content_of, known_count, IsWithin};
-ghost use Rattle.rga_lines.specs.LineFault.TheVariants.{Kind};
+ghost use Rattle.rga_lines.specs.declared.fault.LineFault.TheVariants.{Kind};
 ghost use Rattle.rga_lines.specs.Table.{any_line_at};
 ghost use Rattle.rga_exchange.specs.Log.{log_outcome};
 ghost use Rattle.rga_exchange.specs.Sending.{StandsFor};

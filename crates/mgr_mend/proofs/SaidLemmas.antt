@@ -1,7 +1,7 @@
 -- What the line of a run stands for.
 use Rattle.std.proofs.Common.{◌≡◌, ℕ, List, Ok, sym, ap, ◌∙◌}
 use Rattle.rga_ops.specs.declared.op.Op.{Op}
-use Rattle.rga_lines.specs.Line.TheVariants.{Run}
+use Rattle.rga_lines.specs.declared.line.Line.TheVariants.{Run}
 use Rattle.rga_lines.specs.Log.{SaysRun, operations_at}
 use Rattle.rga_lines.proofs.StandLemmas.{stands, stands_for}
 

@@ -8,7 +8,7 @@ use Rattle.rga_ops.specs.Identifier.{is_id}
 use Rattle.rga_ops.specs.declared.op.Op.{Op}
 use Rattle.rga_ops.specs.declared.op.Op.TheVariants.{Insert, Delete}
 use Rattle.rga_lines.specs.Log.{operations_at}
-use Rattle.rga_lines.specs.LineFault.{LineFault}
+use Rattle.rga_lines.specs.declared.fault.LineFault.{LineFault}
 use Rattle.rga_lines.specs.Spelling.{line}
 use Rattle.rga_lines.specs.Stream.{newline, lines_of, rest_of}
 use Rattle.rga_exchange.specs.Sending.{log_text}

@@ -8,7 +8,7 @@ use Rattle.std.proofs.lemmas.List.Folds.{list_any-append}
 use Rattle.rga_ops.specs.Content.{Content}
 use Rattle.rga_ops.specs.declared.op.Op.{Op}
 use Rattle.rga_lines.specs.Log.{operations_at, operations_of, then_operations}
-use Rattle.rga_lines.specs.LineFault.{LineFault}
+use Rattle.rga_lines.specs.declared.fault.LineFault.{LineFault}
 use Rattle.rga_lines.specs.Stream.{HasNoNewline}
 use Rattle.rga_lines.proofs.StreamLemmas.{FirstLine, lines-none, rest-none, lines-line, rest-line}
 use Rattle.mgr_merge.specs.Taking.{all_lines, are_any, is_tied}

@@ -3,7 +3,7 @@ ghost use Rattle.std.specs.Prelude.{◌≡◌, ◌==◌, ◌||◌, ◌∷◌, []
 ghost use Rattle.std.specs.List.{list_any};
 ghost use Rattle.rga_lines.specs.Log.{operations_at, operations_of};
 ghost use Rattle.rga_lines.specs.Stream.{newline};
-ghost use Rattle.rga_lines.specs.LineFault.{LineFault as Fault};
+ghost use Rattle.rga_lines.specs.declared.fault.LineFault.{LineFault as Fault};
 ghost use Rattle.mgr_show.specs.Joined.{is_far};
 ghost use Rattle.mgr_merge.specs.Taking.{all_lines, are_any, are_untied, is_apart, is_known, is_tied};
 

@@ -5,9 +5,9 @@ use Rattle.std.specs.Str.{IsUtf8, is_utf8}
 use Rattle.std.proofs.lemmas.Bool.{lt-ltb, le-ltb}
 use Rattle.std.proofs.lemmas.Str.{is_utf8-from_IsUtf8, IsUtf8-from_is_utf8}
 use Rattle.rga_lines.specs.Table.{any_line_at}
-use Rattle.rga_lines.specs.LineConstants.{MAX_LINE}
-use Rattle.rga_lines.specs.LineFault.{LineFault}
-use Rattle.rga_lines.specs.LineFault.TheVariants as fault
+use Rattle.rga_lines.specs.declared.line.TheConstants.{MAX_LINE}
+use Rattle.rga_lines.specs.declared.fault.LineFault.{LineFault}
+use Rattle.rga_lines.specs.declared.fault.LineFault.TheVariants as fault
 use Rattle.rga_brief.specs.declared.claim.Claim.{Claim}
 use Rattle.rga_brief.specs.Claims.{claim_in}
 use Rattle.rga_brief.specs.Lines.{claim_said, claim_or_end, claim_line_at}

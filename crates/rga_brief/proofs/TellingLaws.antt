@@ -33,7 +33,7 @@ use Rattle.rga_ops.specs.Content.{Content}
 use Rattle.rga_exchange.specs.Counting.{Calls, Writes, WritesFront}
 use Rattle.rga_lines.specs.Spelling.{end_line}
 use Rattle.rga_lines.specs.Stream.{HasNoNewline, lines_of, rest_of}
-use Rattle.rga_lines.specs.LineConstants.{MAX_LINE}
+use Rattle.rga_lines.specs.declared.line.TheConstants.{MAX_LINE}
 use Rattle.rga_lines.proofs.NewlineLemmas.{end_has_none}
 use Rattle.rga_lines.proofs.ReadBack.{IsUtf8-decimal, read_tokens, end_back}
 use Rattle.rga_lines.proofs.SpellingLemmas.{end_data, compact_end}

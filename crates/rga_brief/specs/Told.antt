@@ -4,9 +4,9 @@ use Rattle.rga_ops.specs.Content.{Content}
 use Rattle.rga_exchange.specs.Counting.{Calls, Writes}
 use Rattle.rga_lines.specs.Spelling.{end_line}
 use Rattle.rga_lines.specs.Stream.{bytes_of_lines, lines_of, rest_of}
-use Rattle.rga_lines.specs.LineConstants.{MAX_LINE}
-use Rattle.rga_lines.specs.LineFault.{LineFault}
-use Rattle.rga_lines.specs.LineFault.TheVariants as line_fault
+use Rattle.rga_lines.specs.declared.line.TheConstants.{MAX_LINE}
+use Rattle.rga_lines.specs.declared.fault.LineFault.{LineFault}
+use Rattle.rga_lines.specs.declared.fault.LineFault.TheVariants as line_fault
 use Rattle.rga_exchange.specs.declared.fault.ReceiveFault.{ReceiveFault}
 use Rattle.rga_exchange.specs.declared.fault.ReceiveFault.TheVariants as fault
 use Rattle.rga_brief.specs.Summary.{Summary, IsSummary}

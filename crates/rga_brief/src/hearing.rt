@@ -2,8 +2,8 @@
 ghost use Rattle.std.specs.Prelude.{◌≡◌, ◌≢◌, ◌+◌, ◌≤◌, ◌++◌, ◌∷◌, ℕ, List, [], length, false, Ok, Err, Some, None, OnOk, IfErr};
 ghost use Rattle.rga_exchange.specs.Counting.{CountsAs, OnBytes};
 ghost use Rattle.rga_lines.specs.Stream.{lines_of};
-ghost use Rattle.rga_lines.specs.LineFault.{LineFault as FaultOfLine};
-ghost use Rattle.rga_lines.specs.LineConstants.{MAX_LINE};
+ghost use Rattle.rga_lines.specs.declared.fault.LineFault.{LineFault as FaultOfLine};
+ghost use Rattle.rga_lines.specs.declared.line.TheConstants.{MAX_LINE};
 ghost use Rattle.rga_exchange.specs.declared.fault.ReceiveFault.TheVariants.{Memory, Read as ReadFailed, Line as FaultyLine};
 ghost use Rattle.rga_brief.specs.declared.claim.Claim.{Claim as ClaimName};
 ghost use Rattle.rga_brief.specs.Heard.{ReadsToBlock};

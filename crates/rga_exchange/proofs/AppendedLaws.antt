@@ -12,7 +12,7 @@ use Rattle.rga_ops.proofs.OperationLaws.{Contains-first, Contains-later, content
 use Rattle.rga_ops.proofs.OperationsLaws.{operations_hold}
 use Rattle.rga_ops.proofs.AgreeLaws.{agree_swap, agree_nothing}
 use Rattle.rga_ops.proofs.ListAnswerLaws.{joinable_append}
-use Rattle.rga_lines.specs.LineConstants.{MAX_LINE}
+use Rattle.rga_lines.specs.declared.line.TheConstants.{MAX_LINE}
 use Rattle.rga_lines.specs.Log.{operations_at, then_operations, operations_of, is_head, behind_head, stream_operations, log_operations, IsOperation}
 use Rattle.rga_lines.specs.Spelling.{line, head_line, end_line}
 use Rattle.rga_lines.specs.Stream.{newline, lines_of, rest_of, HasNoNewline, bytes_of_lines}

@@ -10,8 +10,8 @@ use Rattle.rga_ops.specs.ListAnswer.{AreWellFormed, IsJoinable}
 use Rattle.rga_ops.specs.declared.op.Op.{Op}
 use Rattle.rga_ops.proofs.OperationLaws.{Contains-first, content_of-append}
 use Rattle.rga_ops.proofs.ListAnswerLaws.{joinable_append}
-use Rattle.rga_lines.specs.LineConstants.{MAX_LINE}
-use Rattle.rga_lines.specs.LineFault.{LineFault}
+use Rattle.rga_lines.specs.declared.line.TheConstants.{MAX_LINE}
+use Rattle.rga_lines.specs.declared.fault.LineFault.{LineFault}
 use Rattle.rga_lines.specs.Log.{operations_at, then_operations, operations_of, log_operations, IsOperation}
 use Rattle.rga_lines.specs.Spelling.{line, IsWritable}
 use Rattle.rga_lines.specs.Stream.{newline, lines_of, rest_of, bytes_of_lines, HasNoNewline}

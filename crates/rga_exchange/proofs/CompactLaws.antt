@@ -17,9 +17,9 @@ use Rattle.rga_ops.specs.declared.op.Op.TheVariants.{Insert, Delete}
 use Rattle.rga_ops.proofs.AnswerLaws.{well_formed_insertion}
 use Rattle.rga_ops.proofs.OperationLaws.{Contains-first, Contains-later, Contains-cases, Contains-nil, Contains-append, content_inserted, content_deleted, same_operations_same_content}
 use Rattle.rga_ops.proofs.OperationsLaws.{content_of-operations, operations_agree, operations_hold}
-use Rattle.rga_lines.specs.LineConstants.{MAX_LINE}
-use Rattle.rga_lines.specs.RunConstants.{MAX_RUN}
-use Rattle.rga_lines.specs.DeletionRun.{DeletionRun}
+use Rattle.rga_lines.specs.declared.line.TheConstants.{MAX_LINE}
+use Rattle.rga_lines.specs.declared.run.TheConstants.{MAX_RUN}
+use Rattle.rga_lines.specs.declared.deletion_run.DeletionRun.{DeletionRun}
 use Rattle.rga_lines.specs.Runs.{Stretch, stretch, next, run_operations, stretch_operations, deletions_from, run_deletions, IsDeletionRun}
 use Rattle.rga_lines.specs.Spelling.{line, deletion_run_line, IsElement, IsWritableRun}
 use Rattle.rga_lines.specs.Stream.{lines_of, rest_of, HasNoNewline}

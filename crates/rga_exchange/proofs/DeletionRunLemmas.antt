@@ -3,8 +3,8 @@ use Rattle.std.proofs.Common.{◌≡◌, ℕ, Bool, true, false, ◌||◌, List,
 use Rattle.std.specs.Prelude.{IfSome}
 use Rattle.std.specs.Io.KnownBytes.{Consumes, IsAtEnd}
 use Rattle.std.proofs.Math.Bool.{or-false, or-true, or_assoc}
-use Rattle.rga_lines.specs.DeletionRun.{DeletionRun}
-use Rattle.rga_lines.specs.Line.TheVariants.{Deletions}
+use Rattle.rga_lines.specs.declared.deletion_run.DeletionRun.{DeletionRun}
+use Rattle.rga_lines.specs.declared.line.Line.TheVariants.{Deletions}
 use Rattle.rga_lines.specs.Stream.{Splitting, lines_of, rest_of}
 use Rattle.rga_lines.specs.Table.{AnyReading, any_line_at}
 use Rattle.rga_lines.proofs.SplitterLemmas.{GivesLine, rest_is_all}

@@ -17,9 +17,9 @@ use Rattle.rga_ops.specs.declared.op.Op.TheVariants.{Insert, Delete}
 use Rattle.rga_ops.proofs.IdentifierLaws.{is_id-itself}
 use Rattle.rga_ops.proofs.OperationLaws.{Contains-first, Contains-later, Contains-cases, Contains-nil, Contains-append, content_inserted, content_deleted, inserted-iff, deleted-iff}
 use Rattle.rga_ops.proofs.SortedLaws.{all_zip}
-use Rattle.rga_lines.specs.RunConstants.{MAX_RUN}
-use Rattle.rga_lines.specs.Line.TheVariants.{One, Run, Deletions, Head, Last}
-use Rattle.rga_lines.specs.LineFault.{LineFault}
+use Rattle.rga_lines.specs.declared.run.TheConstants.{MAX_RUN}
+use Rattle.rga_lines.specs.declared.line.Line.TheVariants.{One, Run, Deletions, Head, Last}
+use Rattle.rga_lines.specs.declared.fault.LineFault.{LineFault}
 use Rattle.rga_lines.specs.Runs.{next, run_operations, deletions_from, IsRun, IsDeletionRun}
 use Rattle.rga_lines.specs.Table.{AnyReading, any_line_at}
 use Rattle.rga_lines.specs.Log.{operations_in, operations_of, operations_at, then_operations, IsOperation}

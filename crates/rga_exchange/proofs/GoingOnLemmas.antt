@@ -16,7 +16,7 @@ use Rattle.rga_ops.proofs.IdentifierLaws.{is_id-is}
 use Rattle.rga_lines.specs.Runs.{next}
 use Rattle.rga_lines.specs.Runs.{IsRun}
 use Rattle.rga_lines.specs.Spelling.{IsElement}
-use Rattle.rga_lines.specs.RunConstants.{MAX_RUN}
+use Rattle.rga_lines.specs.declared.run.TheConstants.{MAX_RUN}
 use Rattle.rga_lines.proofs.ReadBack.{within as in_bounds}
 use Rattle.rga_exchange.specs.Compacting.{character_below, next_character, going_on, run_of, is_next_deleted, deletions_behind}
 

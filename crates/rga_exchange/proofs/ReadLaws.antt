@@ -9,7 +9,7 @@ use Rattle.rga_ops.specs.declared.op.Op.{Op}
 use Rattle.rga_exchange.specs.Counting.{Calls, OnBytes}
 use Rattle.rga_lines.specs.Log.{operations_of, IsOperation}
 use Rattle.rga_lines.specs.Stream.{lines_of, rest_of}
-use Rattle.rga_lines.specs.LineConstants.{MAX_LINE}
+use Rattle.rga_lines.specs.declared.line.TheConstants.{MAX_LINE}
 use Rattle.rga_lines.proofs.SplitterLemmas.{rest_is_all}
 use Rattle.rga_exchange.specs.declared.block.TheConstants.{BLOCK}
 use Rattle.rga_exchange.specs.declared.fault.LogFault.{LogFault}

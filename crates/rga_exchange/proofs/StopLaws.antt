@@ -12,13 +12,13 @@ use Rattle.rga_ops.proofs.TakenLaws.{took, refused}
 use Rattle.rga_ops.proofs.KnownLaws.{taken_list_within}
 use Rattle.rga_lines.specs.Runs.{stretch_operations, run_deletions}
 use Rattle.rga_lines.specs.Table.{AnyReading, any_line_at}
-use Rattle.rga_lines.specs.LineConstants.{MAX_LINE}
+use Rattle.rga_lines.specs.declared.line.TheConstants.{MAX_LINE}
 use Rattle.rga_lines.specs.Stream.{lines_of, rest_of}
 use Rattle.rga_lines.specs.Log.{operations_of, operations_at, then_operations, IsOperation}
-use Rattle.rga_lines.specs.Line.{Line}
-use Rattle.rga_lines.specs.Line.TheVariants.{One, Run, Deletions, Head, Last}
-use Rattle.rga_lines.specs.LineFault.{LineFault}
-use Rattle.rga_lines.specs.LineFault.TheVariants as line_fault
+use Rattle.rga_lines.specs.declared.line.Line.{Line}
+use Rattle.rga_lines.specs.declared.line.Line.TheVariants.{One, Run, Deletions, Head, Last}
+use Rattle.rga_lines.specs.declared.fault.LineFault.{LineFault}
+use Rattle.rga_lines.specs.declared.fault.LineFault.TheVariants as line_fault
 use Rattle.rga_lines.proofs.ReadingLemmas.{too_long}
 use Rattle.rga_exchange.specs.declared.fault.LogFault.TheVariants as fault
 use Rattle.rga_exchange.specs.declared.taking.Form.{Form}

@@ -11,14 +11,14 @@ use Rattle.rga_ops.specs.declared.refusal.Refusal.{Refusal}
 use Rattle.rga_ops.proofs.TakenLaws.{took, refused, taken_list_is, one_by_one-append}
 use Rattle.rga_ops.proofs.ListAnswerLaws.{list_one_by_one, one_by_one_list}
 use Rattle.rga_lines.specs.Runs.{Stretch, stretch_operations, run_deletions}
-use Rattle.rga_lines.specs.DeletionRun.{DeletionRun}
+use Rattle.rga_lines.specs.declared.deletion_run.DeletionRun.{DeletionRun}
 use Rattle.rga_lines.specs.Table.{AnyReading, any_line_at}
-use Rattle.rga_lines.specs.LineConstants.{MAX_LINE}
+use Rattle.rga_lines.specs.declared.line.TheConstants.{MAX_LINE}
 use Rattle.rga_lines.specs.Stream.{lines_of, rest_of, BeginsLong, Splitting}
 use Rattle.rga_lines.specs.Log.{SaysRun, operations_of, operations_at, then_operations, IsOperation}
-use Rattle.rga_lines.specs.Line.TheVariants.{One, Run, Deletions, Head, Last}
-use Rattle.rga_lines.specs.LineFault.{LineFault}
-use Rattle.rga_lines.specs.LineFault.TheVariants as line_fault
+use Rattle.rga_lines.specs.declared.line.Line.TheVariants.{One, Run, Deletions, Head, Last}
+use Rattle.rga_lines.specs.declared.fault.LineFault.{LineFault}
+use Rattle.rga_lines.specs.declared.fault.LineFault.TheVariants as line_fault
 use Rattle.rga_lines.proofs.ReadingLemmas.{too_long}
 use Rattle.rga_lines.proofs.StandLemmas.{stands, stands_for, stands_for_none}
 use Rattle.rga_lines.proofs.SplitterLemmas.{GivesLine}

@@ -9,8 +9,8 @@ use Rattle.rga_ops.specs.Content.{Element, Content}
 use Rattle.rga_ops.specs.Operations.{rising}
 use Rattle.rga_ops.specs.declared.id.TheConstants.Id.{MAX_COUNTER}
 use Rattle.rga_ops.specs.declared.op.Op.TheVariants.{Delete}
-use Rattle.rga_lines.specs.RunConstants.{MAX_RUN}
-use Rattle.rga_lines.specs.DeletionRun.{DeletionRun}
+use Rattle.rga_lines.specs.declared.run.TheConstants.{MAX_RUN}
+use Rattle.rga_lines.specs.declared.deletion_run.DeletionRun.{DeletionRun}
 use Rattle.rga_lines.specs.Runs.{Stretch, stretch, next, deletion_run}
 use Rattle.rga_lines.specs.Spelling.{line, deletion_run_line}
 use Rattle.rga_lines.specs.Stream.{bytes_of_lines}

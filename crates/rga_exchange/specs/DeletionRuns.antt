@@ -1,7 +1,7 @@
 -- Whether a log has runs of deletions.
 use Rattle.std.specs.Prelude.{ℕ, Bool, true, false, List, [], ◌∷◌, ◌++◌, Ok, Err}
 use Rattle.std.specs.List.{list_any}
-use Rattle.rga_lines.specs.Line.TheVariants.{One, Run, Deletions, Head, Last}
+use Rattle.rga_lines.specs.declared.line.Line.TheVariants.{One, Run, Deletions, Head, Last}
 use Rattle.rga_lines.specs.Stream.{lines_of, rest_of}
 use Rattle.rga_lines.specs.Table.{AnyReading, any_line_at}
 

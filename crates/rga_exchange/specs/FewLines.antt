@@ -6,7 +6,7 @@ use Rattle.rga_ops.specs.Operations.{insertion_of}
 use Rattle.rga_ops.specs.declared.op.Op.{Op}
 use Rattle.rga_ops.specs.declared.op.Op.TheVariants.{Delete}
 use Rattle.rga_lines.specs.Log.{operations_at}
-use Rattle.rga_lines.specs.LineFault.{LineFault}
+use Rattle.rga_lines.specs.declared.fault.LineFault.{LineFault}
 use Rattle.rga_exchange.specs.Compacting.{run_beginnings, most_deletions, deletion_beginnings}
 
 -- the first operations of the lines to which a content is compacted

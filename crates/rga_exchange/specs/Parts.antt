@@ -6,8 +6,8 @@ use Rattle.rga_exchange.specs.Counting.{Calls, IsReadToEnd}
 use Rattle.rga_lines.specs.Log.{operations_of}
 use Rattle.rga_lines.specs.Stream.{Splitting, lines_of, rest_of}
 use Rattle.rga_lines.specs.Table.{any_line_at}
-use Rattle.rga_lines.specs.LineConstants.{MAX_LINE}
-use Rattle.rga_lines.specs.LineFault.TheVariants as line_fault
+use Rattle.rga_lines.specs.declared.line.TheConstants.{MAX_LINE}
+use Rattle.rga_lines.specs.declared.fault.LineFault.TheVariants as line_fault
 use Rattle.rga_exchange.specs.Receiving.{EndsWithLastRead}
 use Rattle.rga_exchange.specs.Taking.{may_be_head, body_behind, body, Stop, AllTaken, AtEnd, AtFault, progress, after_line, lines_taken, bytes_taken, stream_taken, Intake, TakesNone}
 use Rattle.rga_exchange.specs.declared.taking.Form.{Form}

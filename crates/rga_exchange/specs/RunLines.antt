@@ -4,7 +4,7 @@ use Rattle.std.specs.Option.{option_map_or}
 use Rattle.rga_ops.specs.Identifier.{Identifier, is_id}
 use Rattle.rga_ops.specs.declared.op.Op.{Op}
 use Rattle.rga_ops.specs.declared.op.Op.TheVariants.{Insert, Delete}
-use Rattle.rga_lines.specs.RunConstants.{MAX_RUN}
+use Rattle.rga_lines.specs.declared.run.TheConstants.{MAX_RUN}
 use Rattle.rga_lines.specs.Runs.{Stretch, stretch, next}
 use Rattle.rga_lines.specs.Spelling.{line, run_line}
 use Rattle.rga_lines.specs.Stream.{bytes_of_lines}

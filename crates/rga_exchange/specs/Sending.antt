@@ -5,7 +5,7 @@ use Rattle.rga_ops.specs.Content.{Content, join, content_of, IsAgreed}
 use Rattle.rga_ops.specs.ListAnswer.{AreWellFormed, IsJoinable}
 use Rattle.rga_ops.specs.Operations.{operations}
 use Rattle.rga_ops.specs.declared.op.Op.{Op}
-use Rattle.rga_lines.specs.LineConstants.{MAX_LINE}
+use Rattle.rga_lines.specs.declared.line.TheConstants.{MAX_LINE}
 use Rattle.rga_exchange.specs.Counting.{Calls, Writes, WritesFront}
 use Rattle.rga_lines.specs.Log.{log_operations, IsOperation}
 use Rattle.rga_lines.specs.Spelling.{line, head_line, end_line, IsWritable}

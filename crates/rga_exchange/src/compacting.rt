@@ -6,7 +6,7 @@ ghost use Rattle.rga_ops.specs.Content.{element};
 ghost use Rattle.rga_ops.specs.Identifier.{is_in_range};
 ghost use Rattle.rga_ops.specs.declared.op.Op.TheVariants.{Insert, Delete};
 ghost use Rattle.rga_exchange.specs.Counting.{CountsAs, Writes, WritesFront, WritesAllBut};
-ghost use Rattle.rga_lines.specs.RunConstants.{MAX_RUN};
+ghost use Rattle.rga_lines.specs.declared.run.TheConstants.{MAX_RUN};
 ghost use Rattle.rga_lines.specs.Runs.{IsRun, next};
 ghost use Rattle.rga_lines.specs.Spelling.{IsWritable};
 ghost use Rattle.rga_lines.specs.Stream.{bytes_of_lines, rest_of};
@@ -385,7 +385,7 @@ impl Model for RunEnds {
 
 impl RunEnds {
     ghost use Rattle.std.specs.Prelude.{◌≡◌, ◌≤◌, ℕ, slice_index, IfOk};
-    ghost use Rattle.rga_lines.specs.RunConstants.{MAX_RUN};
+    ghost use Rattle.rga_lines.specs.declared.run.TheConstants.{MAX_RUN};
     ghost use Rattle.rga_exchange.specs.Turns.{covers, ends_with};
 
     /// No run yet.

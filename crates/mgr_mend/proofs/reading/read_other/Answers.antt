@@ -3,7 +3,7 @@ use Rattle.std.specs.Prelude.{OnOk, IfOk}
 use Rattle.rga_ops.specs.declared.op.Op.{Op}
 use Rattle.rga_lines.specs.Runs.{stretch_operations, run_deletions}
 use Rattle.rga_lines.specs.Table.{any_line_at}
-use Rattle.rga_lines.specs.Line.TheVariants.{Run, Deletions}
+use Rattle.rga_lines.specs.declared.line.Line.TheVariants.{Run, Deletions}
 use Rattle.rga_lines.proofs.ReadingLemmas.{any_run, any_deletions}
 use Rattle.rga_lines.proofs.StandLemmas.{stands}
 use Rattle.mgr_mend.proofs.reading.read_other.Goals as goal

@@ -1,5 +1,5 @@
 use Rattle.std.proofs.Common.{rules, Ok, sym, ap, ◌∙◌}
-use Rattle.rga_lines.specs.Line.TheVariants.{One, Run, Deletions, Head}
+use Rattle.rga_lines.specs.declared.line.Line.TheVariants.{One, Run, Deletions, Head}
 use Rattle.rga_lines.proofs.ReadingLemmas.{any_run, any_deletions}
 use Rattle.rga_lines.proofs.StandLemmas.{stands, stands_for}
 use Rattle.mgr_merge.proofs.guards.read_operations.Goals as goal

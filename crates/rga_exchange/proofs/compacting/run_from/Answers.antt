@@ -1,5 +1,5 @@
 use Rattle.std.proofs.Common.{◌≡◌, ◌∷◌, [], ◌++◌, ◌∙◌, List, ℕ, ap, sym, subst, lit<, arith}
-use Rattle.rga_lines.specs.RunConstants.{MAX_RUN}
+use Rattle.rga_lines.specs.declared.run.TheConstants.{MAX_RUN}
 use Rattle.rga_lines.specs.Runs.{IsRun, stretch}
 use Rattle.rga_exchange.specs.Compacting.{run_of}
 use Rattle.rga_ops.specs.Content.{element, content_of}

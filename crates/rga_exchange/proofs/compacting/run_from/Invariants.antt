@@ -1,6 +1,6 @@
 use Rattle.std.proofs.Common.{◌-◌, length}
 use Rattle.rga_ops.specs.Content.{content_of}
-use Rattle.rga_lines.specs.RunConstants.{MAX_RUN}
+use Rattle.rga_lines.specs.declared.run.TheConstants.{MAX_RUN}
 use Rattle.rga_exchange.proofs.GoingOnLemmas.{IsBegun}
 use Rattle.rga_exchange.proofs.compacting.run_from.Given as goal
 

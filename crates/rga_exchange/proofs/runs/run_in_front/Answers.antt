@@ -1,5 +1,5 @@
 use Rattle.std.proofs.Common.{rules, ◌≡◌, ◌-◌, ◌∷◌, [], List, ℕ, length, None, ap, lit<, arith}
-use Rattle.rga_lines.specs.RunConstants.{MAX_RUN}
+use Rattle.rga_lines.specs.declared.run.TheConstants.{MAX_RUN}
 use Rattle.rga_lines.specs.Runs.{stretch}
 use Rattle.rga_exchange.specs.RunLines.{going_behind, front_characters}
 use Rattle.rga_exchange.proofs.RunLineLaws.{front_first, front_next, front_full, front_last, front_ends}

@@ -1,5 +1,5 @@
 use Rattle.std.proofs.Common.{◌-◌, length}
-use Rattle.rga_lines.specs.RunConstants.{MAX_RUN}
+use Rattle.rga_lines.specs.declared.run.TheConstants.{MAX_RUN}
 use Rattle.rga_exchange.proofs.RunLineLaws.{IsFrontBegun}
 use Rattle.rga_exchange.proofs.runs.run_in_front.Given as goal
 

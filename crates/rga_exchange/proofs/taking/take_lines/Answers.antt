@@ -1,7 +1,7 @@
 use Rattle.std.proofs.Common.{rules, Fits, w64, ◌∙◌, ◌+◌, ◌++◌, drop, refl, ap, arith}
 use Rattle.std.proofs.lemmas.Result.{err_from_is_err_and}
 use Rattle.rga_lines.specs.Stream.{Splitting, lines_of, rest_of, splitting_with}
-use Rattle.rga_lines.specs.LineFault.TheVariants as line_fault
+use Rattle.rga_lines.specs.declared.fault.LineFault.TheVariants as line_fault
 use Rattle.rga_lines.proofs.SplitterLemmas.{GivesLine, passes_line, gives_up}
 use Rattle.rga_exchange.proofs.DeletionRunLemmas.{line_told}
 use Rattle.rga_exchange.proofs.TakingLaws.{takes_after, begins_long, up_to_nothing, up_to_line, up_to_chain, end_stops, fault_stops}
