@@ -1,8 +1,7 @@
 //! Records of insertions of which each is the parent of the next, all at once.
-ghost use Rattle.std.specs.Prelude.{◌≡◌, ◌≤◌, [], Some, false, length, vec_capacity, OnOk, OnErr, IfErr};
-ghost use Rattle.rga_ops.specs.Content.{element};
+ghost use Rattle.std.specs.Prelude.{◌≡◌, ◌≤◌, [], length, vec_capacity, OnOk, OnErr, IfErr};
 ghost use Rattle.rga_records.specs.Chains.{grown, latest_of, AreNewer, AreRows};
-ghost use Rattle.rga_records.specs.Records.{content_of_records, element_of_record, AreOrdered};
+ghost use Rattle.rga_records.specs.Records.{content_of_records, AreOrdered};
 
 use crate::entries::{short_index, short_name};
 use rga_ops::{Id, Refusal};
@@ -45,18 +44,10 @@ fn add_rows(parent: Id, near: Near, chain: &[Entry], rows: &mut Vec<(Id, Record)
     let mut index = near.index;
     for entry in chain {
         index = index.saturating_add(1);
-        let record = inserted(last, entry.ch, block, short_index(index));
+        let record = Record::inserted(last, entry.ch, block, short_index(index), false);
         rows.push_reserved((entry.id, record));
         last = entry.id;
     }
-}
-
-/// The record of an element that is not deleted.
-fn inserted(parent: Id, ch: char, block: u32, index: u8) -> Record
-    ensures element { element_of_record result ≡ Some (element parent ch) }
-    ensures unmarked { result.deleted ≡ false }
-{
-    Record::inserted(parent, ch, block, index, false)
 }
 
 /// The counter of the last element of a chain; another where there is none.

@@ -97,7 +97,7 @@ fn link_entry(links: &mut Links, above: Option<usize>, entry: &(Id, Record)) -> 
 {
     let record = entry.1;
     let Some(ch) = record.ch else {
-        push_link(&mut links.next, WAITS)?;
+        push_one(&mut links.next, WAITS)?;
         push_one(&mut links.shown, HIDDEN)?;
         return Ok(());
     };
@@ -125,7 +125,7 @@ fn link(next: &mut Vec<usize>, above: Option<usize>) -> Result<(), Refusal>
 {
     match above {
         Some(above) => link_behind(next, above),
-        None => push_link(next, WAITS),
+        None => push_one(next, WAITS),
     }
 }
 
@@ -139,7 +139,7 @@ fn link_behind(next: &mut Vec<usize>, above: usize) -> Result<(), Refusal>
     if behind != WAITS {
         relink(next, above);
     }
-    push_link(next, behind)
+    push_one(next, behind)
 }
 
 /// The link of a node, if there is such a node, leads to the one that comes in next.
@@ -150,15 +150,6 @@ fn relink(next: &mut Vec<usize>, above: usize)
     if above < node {
         next[above] = node;
     }
-}
-
-/// One more link.
-fn push_link(next: &mut Vec<usize>, link: usize) -> Result<(), Refusal>
-    ensures ok { OnOk result (next.new.items ≡ next.old.items ++ link ∷ []) }
-    ensures room { OnOk result (length next.old.items < WAITS) }
-    ensures memory { IfErr result (λ e. e ≡ Refusal.Memory) }
-{
-    push_one(next, link)
 }
 
 /// One more at the end of a list. Where there is room for it, this is short enough to be inlined.

@@ -13,10 +13,10 @@ no_character v none = subst (λ o. SomeIff (cond v.deleted None o) (IsScalar HID
 pub returns-in_default-clause-ok : goal.returns-in_default-clause-ok
 returns-in_default-clause-ok c = λ es s l node.
     let none : c.args.entry.now.1.ch ≡ None = ap (λ (r : Record). r.ch) (sym c.record.view_is) ∙ c.in_default.is in
-    links_as (es ++ c.args.entry.now ∷ []) (c.args.links.now.shown.items ++ HIDDEN ∷ []) c.push_one.new.list.items
-    (c.args.links.now.next.items ++ WAITS ∷ []) c.push_link.new.next.items
+    links_as (es ++ c.args.entry.now ∷ []) (c.args.links.now.shown.items ++ HIDDEN ∷ []) c.push_one-in_default.new.list.items
+    (c.args.links.now.next.items ++ WAITS ∷ []) c.push_one.new.list.items
+    c.in_ok-push_one-2.ensures.ok
     c.in_ok-push_one.ensures.ok
-    c.in_ok-push_link.ensures.ok
     (links_same es c.args.links.now.shown.items c.args.links.now.next.items l c.args.entry.now HIDDEN (no_character c.args.entry.now.1 none) s (ap is_some none))
 
 pub returns-clause-ok : goal.returns-clause-ok
@@ -27,6 +27,6 @@ returns-clause-ok c = λ es s l node.
     (subst (λ o. SomeIff (cond c.record.inside.deleted None o) (IsScalar c.code_of.result) c.code_of.result) (sym some) c.code_of.ensures) in
     links_as (es ++ c.args.entry.now ∷ []) (c.args.links.now.shown.items ++ c.code_of.result ∷ []) c.push_one-2.new.list.items
     (with_link c.args.above c.args.links.now.next.items) c.link.new.next.items
-    c.in_ok-push_one-2.ensures.ok
+    c.in_ok-push_one-3.ensures.ok
     c.in_ok-link.ensures.ok
     (links_more es c.args.links.now.shown.items c.args.links.now.next.items l c.args.entry.now c.code_of.result code s c.args.above (ap is_some some) node c.in_ok-link.ensures.room)
