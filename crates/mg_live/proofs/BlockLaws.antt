@@ -1,5 +1,5 @@
 -- A session stands after the end of a block, and what is told is in the log.
-use Rattle.std.proofs.Common.{◌≡◌, inl, inr, ◌∙◌, ◌++◌, ◌&&◌, ℕ, Bool, true, false, List, [], length, Option, Some, None, refl, sym, ap, subst, nat_eq}
+use Rattle.std.proofs.Common.{arith, ◌≡◌, inl, inr, ◌∙◌, ◌++◌, ◌&&◌, ℕ, Bool, true, false, List, [], length, Option, Some, None, refl, sym, ap, subst, nat_eq}
 use Rattle.std.specs.Prelude.{encode_utf8_all, if◌then◌else◌}
 use Rattle.std.specs.List.{Contains}
 use Rattle.std.specs.Str.{all_scalars}
@@ -140,8 +140,7 @@ told_stands t fresh a b tells stands =
     by false shown = shown
 
 write_numbers : (writing : Option Writing) (a b : Moment) → Writes writing a b → KeepsNumbers a.editor.work b.editor.work
-write_numbers None a b is = same_numbers a.editor.work b.editor.work (ap (λ (m : Moment). m.editor.work) is)
-write_numbers (Some writing) a b (swept, is) = record { replica = ap (λ (m : Moment). m.editor.work.replica) is; limit = ap (λ (m : Moment). m.editor.work.limit) is }
+write_numbers writing a b writes = grind arith
 
 tell_buffers : (go fresh : Bool) (a b : Moment) → StepIf go (Tells fresh) a b
     → (b.editor.work.buffers ≡ a.editor.work.buffers) × (b.live.name ≡ a.live.name) × (b.calls ≡ a.calls) × KeepsNumbers a.editor.work b.editor.work

@@ -1,5 +1,5 @@
 -- What is made and not told stays safe.
-use Rattle.std.proofs.Common.{arith, ◌≡◌, ◌∙◌, ◌<◌, ◌++◌, ℕ, Bool, true, false, List, [], length, take, drop, Option, Some, None, refl, sym, ap, subst, append-nil}
+use Rattle.std.proofs.Common.{arith, ◌≡◌, ◌∙◌, ◌<◌, ◌++◌, ℕ, Bool, true, false, List, length, take, drop, Option, Some, None, refl, sym, subst, append-nil}
 use Rattle.std.specs.Prelude.{encode_utf8_all, nat_eq}
 use Rattle.std.specs.List.{Contains}
 use Rattle.std.proofs.lemmas.Bool.{eqb-true}
@@ -22,17 +22,8 @@ use Rattle.mg_live.proofs.StageLaws.{safe_more}
 among : (n : ℕ) (ops : List Op) (op : Op) → Contains (drop n ops) op → Contains ops op
 among n ops op has = subst (λ l. Contains l op) (take-append-drop n ops) (Contains-append_right (take n ops) (drop n ops) op has)
 
--- what the load of a buffer made that was not open, and is
-abbrev opened_now : Editor → Option ℕ → List Op
-opened_now e (Some i) = unsaved_at i e
-opened_now e None = []
-
-abbrev opened_from : List ℕ → Editor → Option ℕ → List Op
-opened_from name e (Some k) = []
-opened_from name e None = opened_now e (live_index name e)
-
 opened_is : (name : List ℕ) (old e : Editor) (i : ℕ) → live_index name old ≡ None → live_index name e ≡ Some i → opened_operations name old e ≡ unsaved_at i e
-opened_is name old e i was now = ap (opened_from name e) was ∙ ap (opened_now e) now
+opened_is name old e i was now = grind arith
 
 module _ (name : List ℕ) (s : Held) (e : Editor) (own : HaveOwnNames e.work.buffers) (named : AreNamed e.work.buffers) (logged : AreLogged e.work.buffers s) where
   abbrev IsSafe : List Op → Type 0

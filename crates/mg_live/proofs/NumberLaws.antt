@@ -1,11 +1,11 @@
 -- The replica and the limit of buffers that are opened stay, whatever a session takes and writes.
-use Rattle.std.proofs.Common.{◌≡◌, inl, inr, ◌∙◌, ℕ, Bool, true, false, List, length, Option, Some, None, Result, Ok, Err, refl, ap}
+use Rattle.std.proofs.Common.{arith, ◌≡◌, inl, inr, ◌∙◌, ℕ, Bool, true, false, List, length, Option, Some, None, Result, Ok, Err, refl, ap}
 use Rattle.std.specs.Prelude.{encode_utf8_all, if◌then◌else◌}
 use Rattle.std.specs.Option.{option_map_or}
 use Rattle.rga_exchange.specs.declared.log.LogEnd.{LogEnd}
 use Rattle.mg_plain.specs.declared.command.Command.{Command}
 use Rattle.mg_buffer.specs.Faults.{FaultVerdict, run_answer, undo_answer}
-use Rattle.mg_buffer.specs.OpenState.{OpenState, is_changed}
+use Rattle.mg_buffer.specs.OpenState.{OpenState}
 use Rattle.mg_buffer.specs.Ran.{Ran}
 use Rattle.mg_buffer.specs.Sight.{Notes, command_call}
 use Rattle.mg_buffer.specs.State.{State}
@@ -20,9 +20,8 @@ use Rattle.mg_minibuffer.specs.declared.ending.Reaction.TheVariants.{Ends, Repla
 use Rattle.mg_minibuffer.specs.declared.ending.Request.{Request}
 use Rattle.mg_minibuffer.specs.declared.ending.Request.TheVariants as request
 use Rattle.mg_minibuffer.specs.declared.message.Message.TheVariants as message
-use Rattle.mg_workspace.specs.Actions.{ActionOutcome, ActionVerdict, Done, current_state, gone_to, refusal_outcome, removal_outcome, removed}
+use Rattle.mg_workspace.specs.Actions.{ActionOutcome, ActionVerdict, Done, current_state, gone_to, refusal_outcome, removal_outcome}
 use Rattle.mg_workspace.specs.AtIndex.{ActsAt, RunsAt, state_at}
-use Rattle.mg_workspace.specs.Buffers.{buffer_at}
 use Rattle.mg_workspace.specs.Names.{asked, buffer_named, next_round}
 use Rattle.mg_workspace.specs.Opening.{is_full}
 use Rattle.mg_workspace.specs.Workspaces.{Workspace}
@@ -71,20 +70,11 @@ run_numbers i command n w v r did =
 
 switch_numbers : (w v : Workspace) (r : ActionVerdict) (to : Option ℕ) → (v, r) ≡ option_map_or (λ i. (gone_to i w, Ok tt)) to (refusal_outcome cause.NoSuchBuffer w)
     → KeepsNumbers w v
-switch_numbers w v r None is = of_outcome w v w r _ is refl refl
-switch_numbers w v r (Some i) is = of_outcome w v (gone_to i w) r (Ok tt) is refl refl
+switch_numbers w v r to is = grind arith
 
 kill_numbers : (w v : Workspace) (r : ActionVerdict) (gone : Option ℕ)
     → (v, r) ≡ option_map_or (λ i. removal_outcome i w) gone (refusal_outcome cause.NoSuchBuffer w) → KeepsNumbers w v
-kill_numbers w v r None is = of_outcome w v w r _ is refl refl
-kill_numbers w v r (Some i) is = by (is_changed (buffer_at i w.buffers)) _ is
-  where
-    by : (changed only : Bool)
-        → (v, r) ≡ (if changed then refusal_outcome cause.BufferIsChanged w else (if only then refusal_outcome cause.OnlyOneBuffer w else (removed i w, Ok tt)))
-        → KeepsNumbers w v
-    by true only is = of_outcome w v w r _ is refl refl
-    by false true is = of_outcome w v w r _ is refl refl
-    by false false is = of_outcome w v (removed i w) r (Ok tt) is refl refl
+kill_numbers w v r gone is = grind arith
 
 action_numbers : (action : Action) (w v : Workspace) (r : ActionVerdict) → Done action w (v, r) → KeepsNumbers w v
 action_numbers Nothing w v r is = of_outcome w v w r (Ok tt) is refl refl
@@ -118,8 +108,7 @@ pub paste_numbers : (put : List ℕ) (old new : Editor) (r : PasteAnswer) → Pa
 paste_numbers put old new r it = behind_a_paste KeepsNumbers one_numbers numbers_on put old new r it
 
 load_numbers : (w v : Workspace) (o : Result (OpenState × LogEnd) LoadFault) → v ≡ (open_outcome o w).0 → KeepsNumbers w v
-load_numbers w v (Ok l) is = record { replica = ap (λ (x : Workspace). x.replica) is; limit = ap (λ (x : Workspace). x.limit) is }
-load_numbers w v (Err fault) is = same_numbers w v is
+load_numbers w v o is = grind arith
 
 loads_numbers : (name : List ℕ) (calls more : Option (List Call)) (r : Opening) (w v : Workspace) → Loads name calls more r w v → KeepsNumbers w v
 loads_numbers name calls more r w v (inl (is, answer, adds)) = same_numbers w v is

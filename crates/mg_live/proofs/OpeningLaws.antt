@@ -1,5 +1,5 @@
 -- What a live session opens with.
-use Rattle.std.proofs.Common.{◌≡◌, ◌<◌, arith, ℕ, [], append-nil, Some, None, Result, Ok, Err, length, is_ok, refl, sym, ap, subst, true≢false}
+use Rattle.std.proofs.Common.{◌≡◌, ◌<◌, arith, ℕ, [], append-nil, Result, Ok, Err, length, is_ok, refl, sym, ap, subst, true≢false}
 use Rattle.mg_files.specs.Calls.{Adds}
 use Rattle.mg_files.specs.Files.{Files}
 use Rattle.mg_files.specs.Loading.{load_outcome}
@@ -12,8 +12,7 @@ use Rattle.mg_screen.specs.Settings.{Values}
 
 -- a port that was not called
 pub adds_nothing : (calls : ToldCalls) → Adds calls calls []
-adds_nothing None = tt
-adds_nothing (Some told) = ap Some (sym (append-nil told))
+adds_nothing calls = grind (arith, append-nil)
 
 abbrev count_of : Result Editor LoadFault → ℕ
 count_of (Ok e) = length e.work.buffers.all

@@ -39,7 +39,6 @@ use Rattle.mg_plain.specs.declared.outcome.Notice.TheVariants.{EndOfBuffer}
 use Rattle.mg_events.specs.declared.report.Report.{Report}
 use Rattle.mg_events.specs.declared.report.Report.TheVariants as report
 use Rattle.mg_session.specs.declared.course.Course.{Course}
-use Rattle.mg_session.specs.declared.course.Course.TheVariants.{On}
 use Rattle.mg_workspace.specs.Actions.{ActionVerdict}
 use Rattle.mg_workspace.specs.AtIndex.{RunsAt, state_at, with_state_at}
 use Rattle.mg_workspace.specs.Buffers.{buffer_at, no_buffer}
@@ -147,12 +146,10 @@ told_as : (live next : Live) → next ≡ live → SameTold live next
 told_as live next is = record { name = ap (λ (l : Live). l.name) is; changes = ap (λ (l : Live). l.changes) is }
 
 pub refused_told : (fault : ReportFault) (before : Course) (live next : Live) (after : Course) → RefusesReport fault before live next after → SameTold live next
-refused_told fault before live next after (inl (is, same)) = record { name = ap (λ (l : Live). l.name) is; changes = ap (λ (l : Live). l.changes) is }
-refused_told fault before live next after (inr (is, same)) = told_as live next is
+refused_told fault before live next after so = grind arith
 
 follows_told : (verdict : Verdict) (live next : Live) (after : Course) → Follows verdict live next after → SameTold live next
-follows_told (Ok noted) live next after (is, same) = told_as live next is
-follows_told (Err fault) live next after so = refused_told fault On live next after so
+follows_told verdict live next after so = grind arith
 
 pub is_told_so : (live next : Live) (e : Editor) → SameTold live next → IsTold live e → IsTold next e
 is_told_so live next e same told c i has at =
@@ -175,9 +172,7 @@ state_there : (i : ℕ) (w : Workspace) (b : State) → i < length w.buffers.all
 state_there i w b within = ap (λ (o : OpenState). o.buffer) (get_or-set_same w.buffers.all i (record (buffer_at i w.buffers) { buffer = b }) no_buffer within)
 
 still : (reach : Reach) (told : List ℕ) (now : Content) → told ≡ text now → MayReach reach told now
-still Anywhere told now is = tt
-still (Element id) told now is = inl is
-still (Between lo hi) told now is = inl is
+still reach told now is = grind arith
 
 -- ---- operations of others, and splices, by what came of them
 
@@ -295,13 +290,10 @@ module _ (live : Live) (e : Editor) (told : IsTold live e) where
   module _ (lo hi : ℕ) (put : List ℕ) where
     planned : (test : Bool) (s : Situation) (splices : List Splice) (plan : Effect) → (if test then planned_as (edit_effect s splices) else not_planned) ≡ planned_as plan
         → (test ≡ true) × (plan.splices ≡ splices)
-    planned true s splices plan is = let same : edit_effect s splices ≡ plan = cc in (refl, ap (λ (x : Effect). x.splices) (sym same))
-    planned false s splices plan is = absurd cc
+    planned test s splices plan is = grind arith
 
     after_one : (t now : List ℕ) (a b : Bool) → now ≡ text_after t (if a && b then [] else one lo hi put ∷ []) → lo ≤ hi → hi ≤ length t → MayBeSpliced lo hi t now
-    after_one t now true true is up le = inl (sym is)
-    after_one t now true false is up le = inr (put, up, le, is)
-    after_one t now false b is up le = inr (put, up, le, is)
+    after_one t now a b is up le = grind arith
 
     ran_so : (b d : State) (old new : Notes) (fill : ℕ) → Ran (command_call (ReplaceRange lo hi put) 1 fill) b old d new → MayBeSpliced lo hi (text b.content) (text d.content)
     ran_so b d old new fill ran =

@@ -1,5 +1,5 @@
 -- A session stands after a report.
-use Rattle.std.proofs.Common.{◌≡◌, inl, inr, ◌∙◌, ◌<◌, ℕ, Bool, true, List, [], ◌∷◌, length, Some, Result, Ok, Err, MatchResult, refl, sym, ap, subst}
+use Rattle.std.proofs.Common.{arith, ◌≡◌, inl, inr, ◌∙◌, ◌<◌, ℕ, Bool, true, List, [], ◌∷◌, length, Some, Result, Ok, Err, MatchResult, refl, sym, ap, subst}
 use Rattle.std.specs.Prelude.{encode_utf8_all}
 use Rattle.std.specs.List.{Contains}
 use Rattle.std.specs.Str.{all_scalars}
@@ -53,12 +53,10 @@ untold_as : (live next : Live) → next ≡ live → KeepsUntold live next
 untold_as live next is = record { untold = ap (λ (l : Live). l.telling.untold) is; name = ap (λ (l : Live). l.name) is }
 
 pub refused_keeps : (fault : ReportFault) (before : Course) (live next : Live) (after : Course) → RefusesReport fault before live next after → KeepsUntold live next
-refused_keeps fault before live next after (inl (is, same)) = record { untold = ap (λ (l : Live). l.telling.untold) is; name = ap (λ (l : Live). l.name) is }
-refused_keeps fault before live next after (inr (is, same)) = untold_as live next is
+refused_keeps fault before live next after so = grind arith
 
 follows_keep : (verdict : Verdict) (live next : Live) (after : Course) → Follows verdict live next after → KeepsUntold live next
-follows_keep (Ok noted) live next after (is, same) = untold_as live next is
-follows_keep (Err fault) live next after so = refused_keeps fault On live next after so
+follows_keep verdict live next after so = grind arith
 
 abbrev PastedSo : Editor → Live → Editor → Live → Verdict → Result (Unit {0}) PasteFault → Type 0
 PastedSo e live f next verdict a = MatchResult a

@@ -1,5 +1,5 @@
 -- What a live session is answered by tells of its devices.
-use Rattle.std.proofs.Common.{arith, ◌≡◌, ℕ, ◌&&◌, not, Bool, true, false, List, [], ◌∷◌, Option, Some, None, Result, Ok, Err, rules, refl, sym, ap, subst, ◌∙◌, ◌⊎◌}
+use Rattle.std.proofs.Common.{arith, ◌≡◌, ℕ, ◌&&◌, not, Bool, true, false, List, [], ◌∷◌, Option, Some, None, Result, rules, refl, sym, ap, subst, ◌∙◌, ◌⊎◌}
 use Rattle.std.proofs.lemmas.Bool.{and_parts}
 use Rattle.std.specs.Bool.{MatchBool}
 use Rattle.std.specs.Result.{MatchResult}
@@ -41,19 +41,16 @@ either_calm : {A B : Type 0} (before after : Course) → is_calm before ≡ true
 either_calm before after calm so = grind arith
 
 follows_calm : (verdict : Verdict) (live next : Live) (after : Course) → Follows verdict live next after → is_calm after ≡ true
-follows_calm (Ok noted) live next after (left, same) = ap is_calm same ∙ memory_calm noted On refl
-follows_calm (Err fault) live next after so = either_calm On after refl so
+follows_calm verdict live next after so = grind arith
 
 line_calm : (e f : Editor) (live next : Live) (after : Course) (r : Result Report LineFault)
     → MatchResult r (λ said. TakesReport said e live f next after) (λ fault. (f ≡ e) × RefusesReport (Line fault) On live next after)
     → is_calm after ≡ true
-line_calm e f live next after (Ok said) (verdict, between, taken, follows) = follows_calm verdict between next after follows
-line_calm e f live next after (Err fault) (same, so) = either_calm On after refl so
+line_calm e f live next after r so = grind (arith, follows_calm)
 
 cuts_calm : (begun : Bool) (before : Course) (live next : Live) (after : Course) → is_calm before ≡ true → CutsIf begun before live next after
     → is_calm after ≡ true
-cuts_calm true before live next after calm so = either_calm before after calm so
-cuts_calm false before live next after calm (left, same) = ap is_calm same ∙ calm
+cuts_calm is_begun before live next after calm so = grind arith
 
 all_cuts_calm : (within : Bool) (live next : Live) (after : Course) → Cuts within live next after → is_calm after ≡ true
 all_cuts_calm within live next after c =

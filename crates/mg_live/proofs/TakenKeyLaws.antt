@@ -1,5 +1,5 @@
 -- A key that was taken, by what the code did.
-use Rattle.std.proofs.Common.{◌≡◌, ◌∙◌, ℕ, Bool, List, Option, Some, None, Ok, Err, is_some, refl, sym, ap, subst}
+use Rattle.std.proofs.Common.{arith, ◌≡◌, ◌∙◌, ℕ, Bool, List, Option, Some, None, is_some, sym, ap, subst}
 use Rattle.std.specs.Prelude.{IfSome}
 use Rattle.mg_minibuffer.specs.declared.ending.Request.{Request}
 use Rattle.mg_session.specs.Keys.{request_of, said}
@@ -20,8 +20,7 @@ use Rattle.mg_live.specs.Tallies.{with_key}
 use Rattle.mg_live.proofs.MeetingLaws.{have_met}
 
 pub said_work : (r : PressAnswer) (e : Editor) → (said r e).work ≡ e.work
-said_work (Ok asked) e = refl
-said_work (Err fault) e = refl
+said_work r e = grind arith
 
 pub carried_so : (calls more : ToldCalls) (asked wanted : Request) (old from new : Editor) (r : CarryAnswer) → asked ≡ wanted → old ≡ from
     → Carried asked calls more old new r → Carried wanted calls more from new r

@@ -65,8 +65,7 @@ pub record Stays (live next : Live) (e f : Editor) : Type 0 where
   pub contents : (k : ℕ) → (state_at k f.work).content ≡ (state_at k e.work).content
 
 told_so : (changes : Option Changes) (t : List ℕ) → told_text changes ≡ Some t → (c : Changes) × (changes ≡ Some c) × (c.text ≡ t)
-told_so None t is = absurd (none-some t is)
-told_so (Some c) t is = (c, refl, same_Some c.text t is)
+told_so changes t is = grind arith
 
 pub told_stays : (live next : Live) (e f : Editor) → Stays live next e f → IsTold live e → IsTold next f
 told_stays live next e f stays told c i has at =
@@ -265,8 +264,7 @@ written_steps (Some writing) a b (sweeps, left) =
     }
 
 reported_told : (changes : Option Changes) → told_text (option_map (λ (c : Changes). record c { list = [] }) changes) ≡ told_text changes
-reported_told None = refl
-reported_told (Some c) = refl
+reported_told changes = grind arith
 
 reported_steps : (a : Moment) → Steps a (record a { live = reported a.live })
 reported_steps a = record {
