@@ -99,18 +99,6 @@ impl<S: Teller> Editor<S> {
             self.talk.tell(Message::TooManyBuffers);
             return Ok(());
         }
-        self.open(name, port)
-    }
-
-    /// The buffer of a name is opened, or not, which is said.
-    fn open<P: Port>(&mut self, name: &[char], port: &mut P) -> Result<(), CarryFault>
-        requires { length self.old.work.buffers.all < most_buffers }
-        ensures opened { let name = encode_utf8_all name.now in
-            telling.TellsOutcome (finding.Loads name (P.calls port.old) (P.calls port.new))
-            finding.opening_outcome self.old self.new result }
-        ensures device { CountsFaults (telling.port_outcome result)
-            (P.failures port.old) (P.failures port.new) }
-    {
         let answer = self.load(name, port);
         self.conclude(opening_outcome(answer))
     }

@@ -23,17 +23,6 @@ pub(crate) fn port_failure(fault: PortFault) -> Failure
     }
 }
 
-fn peer_failure(fault: ReceiveFault) -> Failure
-    ensures { result ≡ spec.peer_failure fault }
-{
-    match fault {
-        ReceiveFault::Line(line, fault) => Failure::Line(line, fault),
-        ReceiveFault::Refused(line, refusal) => Failure::Refused(line, refusal),
-        ReceiveFault::Cut | ReceiveFault::Count | ReceiveFault::Read => Failure::Device,
-        ReceiveFault::Memory => Failure::Memory,
-    }
-}
-
 fn exchange_failure(fault: ExchangeFault) -> Failure
     ensures { result ≡ spec.exchange_failure fault }
 {
@@ -43,7 +32,14 @@ fn exchange_failure(fault: ExchangeFault) -> Failure
         ExchangeFault::Link(LinkFault::Memory) => Failure::Memory,
         ExchangeFault::Send(SendFault::Write) => Failure::Device,
         ExchangeFault::Send(SendFault::Memory) => Failure::Memory,
-        ExchangeFault::Receive(fault) => peer_failure(fault),
+        ExchangeFault::Receive(ReceiveFault::Line(line, fault)) => Failure::Line(line, fault),
+        ExchangeFault::Receive(ReceiveFault::Refused(line, refusal)) => {
+            Failure::Refused(line, refusal)
+        }
+        ExchangeFault::Receive(ReceiveFault::Cut | ReceiveFault::Count | ReceiveFault::Read) => {
+            Failure::Device
+        }
+        ExchangeFault::Receive(ReceiveFault::Memory) => Failure::Memory,
     }
 }
 

@@ -4,7 +4,7 @@ ghost use Rattle.mg_screen.specs.Cursor as cursors;
 ghost use Rattle.mg_screen.specs.Frame.{screen_rows};
 ghost use Rattle.mg_screen.specs.Layout.{FillsRows};
 ghost use Rattle.mg_screen.specs.Written.{SpellRows};
-ghost use Rattle.mg_screen.specs.Size.{most_rows, least_columns};
+ghost use Rattle.mg_screen.specs.Size.{most_rows};
 ghost use Rattle.mg_editor.specs.Frames as spec;
 
 use crate::editor::Editor;
@@ -17,19 +17,6 @@ use rga_store::TextStore;
 pub struct Frame {
     pub rows: Vec<String>,
     pub cursor: Position,
-}
-
-/// The cursor at point, in the window at an index, which shows it.
-fn window_cursor(columns: usize, screen: &Screen<'_>, index: usize) -> Position
-    requires rows_to { screen_rows screen.now ≤ most_rows }
-    requires columns_from { least_columns ≤ columns }
-    requires shown { IsSome (cursors.cursor columns screen.now index) }
-    ensures { cursors.cursor columns screen.now index ≡ Some result }
-{
-    match cursor(columns, screen, index) {
-        Some(position) => position,
-        None => unreachable!(),
-    }
 }
 
 impl<S: TextStore> Editor<S> {
@@ -56,7 +43,10 @@ impl<S: TextStore> Editor<S> {
         if self.talk.has_cursor() {
             return echo_cursor(columns, screen);
         }
-        window_cursor(columns, screen, self.work.window())
+        let Some(position) = cursor(columns, screen, self.work.window()) else {
+            unreachable!()
+        };
+        position
     }
 
     /// The frame, once the windows are placed.

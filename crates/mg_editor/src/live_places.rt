@@ -29,12 +29,8 @@ fn element_cell<S: TextStore>(
     requires columns_to { columns ≤ most_columns }
     ensures { result ≡ spec.element_cell columns screen.now buffer.now.content window element }
 {
-    let Some(place) = buffer.place_of(element) else {
-        return None;
-    };
-    let Some(cell) = cell_of_place(columns, screen, window, place) else {
-        return None;
-    };
+    let place = buffer.place_of(element)?;
+    let cell = cell_of_place(columns, screen, window, place)?;
     Some(PlaceStatus {
         element,
         row: cell.row,
@@ -109,27 +105,7 @@ fn push_cells_over<S: TextStore>(
     push_cells(work.columns(), screen, window, buffer, elements, cells)
 }
 
-/// The cells of elements in each window that shows the buffer at an index.
-fn cells_of_windows<S: TextStore>(
-    alloc: Global,
-    work: &Workspace<S>,
-    screen: &Screen<'_>,
-    index: usize,
-    elements: &[Id],
-) -> Result<Vec<PlaceStatus>, AllocError>
-    requires rows_to { screen_rows screen.now ≤ most_rows }
-    requires index { index < length work.now.buffers.all }
-    ensures { IfOk result (λ cells. cells.items
-        ≡ spec.place_cells_in screen.now (Some index) elements.now work.now) }
-{
-    let mut cells = Vec::new(alloc);
-    for window in 0..work.heights().len() {
-        push_cells_over(work, screen, window, index, elements, &mut cells)?;
-    }
-    Ok(cells)
-}
-
-/// The cells of elements of the live buffer, if there is one.
+/// The cells of elements of the live buffer, if there is one, in each window that shows it.
 pub(crate) fn place_cells<S: TextStore>(
     alloc: Global,
     work: &Workspace<S>,
@@ -142,8 +118,12 @@ pub(crate) fn place_cells<S: TextStore>(
     ensures { IfOk result (λ cells. cells.items
         ≡ spec.place_cells_in screen.now live elements.now work.now) }
 {
-    match live {
-        Some(index) => cells_of_windows(alloc, work, screen, index, elements),
-        None => Ok(Vec::new(alloc)),
+    let mut cells = Vec::new(alloc);
+    let Some(index) = live else {
+        return Ok(cells);
+    };
+    for window in 0..work.heights().len() {
+        push_cells_over(work, screen, window, index, elements, &mut cells)?;
     }
+    Ok(cells)
 }

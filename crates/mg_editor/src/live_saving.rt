@@ -24,13 +24,6 @@ pub enum Writing {
     LogAndText(Option<usize>),
 }
 
-/// Whether something was made in a buffer, and its log does not have all of it.
-fn is_log_due<S: TextStore>(opened: &VisitedBuffer<S>) -> bool
-    ensures { result ≡ spec.is_log_due opened.now }
-{
-    opened.has_made() && !opened.buffer.unsaved().is_empty()
-}
-
 /// Whether the buffer at an index took something from reports.
 fn is_live(live: Option<usize>, index: usize) -> bool
     ensures { result ≡ spec.is_live live index }
@@ -41,20 +34,15 @@ fn is_live(live: Option<usize>, index: usize) -> bool
     }
 }
 
-/// Whether there is something to save of a buffer that was touched, or took something from reports.
-fn is_save_due<S: TextStore>(live: Option<usize>, index: usize, opened: &VisitedBuffer<S>) -> bool
-    ensures { result ≡ spec.is_save_due live index opened.now }
-{
-    opened.is_changed() && (opened.is_touched() || is_live(live, index))
-}
-
 /// Whether the buffer at an index is to be written so.
 fn is_due<S: TextStore>(writing: Writing, index: usize, opened: &VisitedBuffer<S>) -> bool
     ensures { result ≡ spec.is_due writing index opened.now }
 {
     match writing {
-        Writing::Log => is_log_due(opened),
-        Writing::LogAndText(live) => is_save_due(live, index, opened),
+        Writing::Log => opened.has_made() && !opened.buffer.unsaved().is_empty(),
+        Writing::LogAndText(live) => {
+            opened.is_changed() && (opened.is_touched() || is_live(live, index))
+        }
     }
 }
 

@@ -3,7 +3,7 @@ ghost use Rattle.std.specs.Prelude.{◌≡◌, ◌≤◌, ◌<◌, Some, IfOk, O
 ghost use Rattle.std.specs.Option.{ForSome};
 ghost use Rattle.mg_screen.specs.Frame.{screen_rows};
 ghost use Rattle.mg_screen.specs.Sideways as sideways;
-ghost use Rattle.mg_screen.specs.Size.{most_rows, least_columns};
+ghost use Rattle.mg_screen.specs.Size.{most_rows};
 ghost use Rattle.mg_screen.specs.Written.{SpellRows};
 ghost use Rattle.mg_editor.specs.Frames.{placed_editor};
 ghost use Rattle.mg_editor.specs.LiveShowing as spec;
@@ -25,19 +25,6 @@ pub struct LiveFrame {
     pub places: Vec<PlaceStatus>,
 }
 
-/// The cursor at point, in the window at an index, which shows it.
-fn shown_cursor(columns: usize, screen: &Screen<'_>, index: usize) -> Position
-    requires rows_to { screen_rows screen.now ≤ most_rows }
-    requires columns_from { least_columns ≤ columns }
-    requires shown { IsSome (sideways.cursor_at_point columns screen.now index) }
-    ensures { sideways.cursor_at_point columns screen.now index ≡ Some result }
-{
-    match cursor_at_point(columns, screen, index) {
-        Some(position) => position,
-        None => unreachable!(),
-    }
-}
-
 impl<S: TextStore> Editor<S> {
     /// The cursor of the screen.
     fn live_cursor_in(&self, screen: &Screen<'_>) -> Position
@@ -50,7 +37,10 @@ impl<S: TextStore> Editor<S> {
         if self.talk.has_cursor() {
             return echo_cursor(columns, screen);
         }
-        shown_cursor(columns, screen, self.work.window())
+        let Some(position) = cursor_at_point(columns, screen, self.work.window()) else {
+            unreachable!()
+        };
+        position
     }
 
     /// The frame, once the windows are placed.

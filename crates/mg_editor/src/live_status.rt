@@ -1,6 +1,6 @@
 //! What a status of a live session says: of the dialogue, of buffers and of windows.
-ghost use Rattle.std.specs.Prelude.{◌≡◌, ◌<◌, [], ◌∷◌, ◌++◌, Some, length, map, position, slice_get};
-ghost use Rattle.std.specs.Prelude.{IfOk, OnOk, IfErr, IfSome, string_bytes};
+ghost use Rattle.std.specs.Prelude.{◌≡◌, ◌<◌, Some, length, map, position, slice_get};
+ghost use Rattle.std.specs.Prelude.{IfOk, IfErr, IfSome, string_bytes};
 ghost use Rattle.rga_ops.specs.Content.{clock_of};
 ghost use Rattle.rga_ops.specs.Identifier.{is_id};
 ghost use Rattle.rga_ops.specs.Order.{text};
@@ -21,17 +21,6 @@ use rga_ops::Id;
 use rga_store::{TextStore, position_of};
 use std::alloc::{AllocError, Global};
 
-/// What an open prompt asks.
-fn asked_by(prompt: &Prompt) -> Asking
-    ensures { result ≡ spec.mode_status (Some prompt.now) }
-{
-    match prompt {
-        Prompt::Line { .. } | Prompt::Replacement { .. } | Prompt::Quitting => Asking::Prompt,
-        Prompt::Searching(_) => Asking::Search,
-        Prompt::Replacing { .. } => Asking::Query,
-    }
-}
-
 /// The window at an index from the top.
 fn window_status<'a, S: TextStore>(work: &'a Workspace<S>, window: usize) -> WindowStatus<'a>
     requires { window < length work.now.windows.windows }
@@ -44,16 +33,6 @@ fn window_status<'a, S: TextStore>(work: &'a Workspace<S>, window: usize) -> Win
     }
 }
 
-fn push_status<'a>(
-    statuses: &mut Vec<WindowStatus<'a>>,
-    status: WindowStatus<'a>,
-) -> Result<(), AllocError>
-    ensures { OnOk result (statuses.new.items ≡ statuses.old.items ++ status.entry ∷ []) }
-{
-    statuses.push(status)?;
-    Ok(())
-}
-
 fn window_statuses<'a, S: TextStore>(
     alloc: Global,
     work: &'a Workspace<S>,
@@ -62,7 +41,7 @@ fn window_statuses<'a, S: TextStore>(
 {
     let mut statuses = Vec::new(alloc);
     for window in 0..work.heights().len() {
-        push_status(&mut statuses, window_status(work, window))?;
+        statuses.push(window_status(work, window))?;
     }
     Ok(statuses)
 }
@@ -98,7 +77,11 @@ impl<S: TextStore> Editor<S> {
     {
         match self.talk.prompt() {
             None => Asking::Plain,
-            Some(prompt) => asked_by(prompt),
+            Some(Prompt::Line { .. } | Prompt::Replacement { .. } | Prompt::Quitting) => {
+                Asking::Prompt
+            }
+            Some(Prompt::Searching(_)) => Asking::Search,
+            Some(Prompt::Replacing { .. }) => Asking::Query,
         }
     }
 
@@ -149,15 +132,9 @@ impl<S: TextStore> Editor<S> {
             IfSome result (λ status. spec.IsPointStatus buffer status) }
     {
         let buffer = &self.work.current().buffer;
-        let Some(line) = buffer.line() else {
-            return None;
-        };
-        let Some(text) = buffer.text() else {
-            return None;
-        };
-        let Some(place) = buffer.place() else {
-            return None;
-        };
+        let line = buffer.line()?;
+        let text = buffer.text()?;
+        let place = buffer.place()?;
         Some(PointStatus {
             line,
             column: column_of(text, place),

@@ -18,7 +18,6 @@ use mg_minibuffer::{Ending, Message, Next, Reaction, Request, Search, next_match
 use mg_plain::{Chars, Command, Notice};
 use mg_workspace::{ActionFault, Cause};
 use rga_store::TextStore;
-use std::alloc::{AllocError, Global};
 
 impl<S: TextStore> Editor<S> {
     /// A step where no prompt is open.
@@ -121,16 +120,11 @@ impl<S: TextStore> Editor<S> {
                 put,
                 count,
             } => self.replace(pattern.as_slice(), put.as_slice(), count),
-            Reaction::Accepts => Ok(self.accept()),
+            Reaction::Accepts => {
+                self.talk.accept_search();
+                Ok(Request::Idle)
+            }
         }
-    }
-
-    /// An open search is accepted.
-    fn accept(&mut self) -> Request
-        ensures { spec.FollowsReaction Reaction.Accepts self.old self.new result }
-    {
-        self.talk.accept_search();
-        Request::Idle
     }
 
     /// Replaces the match at point, and looks for the next one.
@@ -152,10 +146,13 @@ impl<S: TextStore> Editor<S> {
         ensures memory { result ≡ Err ActionFault.Memory → self.new.work ≡ self.old.work }
         ensures talk { self.new.talk ≡ self.old.talk }
     {
-        match replacement(self.alloc, pattern, put) {
-            Ok(command) => self.work.run(&command, 1),
-            Err(_) => Err(ActionFault::Memory),
-        }
+        let Ok(pattern) = Chars::from_slice(self.alloc, pattern) else {
+            return Err(ActionFault::Memory);
+        };
+        let Ok(put) = Chars::from_slice(self.alloc, put) else {
+            return Err(ActionFault::Memory);
+        };
+        self.work.run(&Command::ReplaceOne { pattern, put }, 1)
     }
 
     /// Looks for the next match. Where that finds no memory, query-replace ends.
@@ -282,14 +279,4 @@ impl<S: TextStore> Editor<S> {
             step => self.take_step(step),
         }
     }
-}
-
-/// The command that replaces the match at point.
-fn replacement(alloc: Global, pattern: &[char], put: &[char]) -> Result<Command, AllocError>
-    ensures { IfOk result (λ command. command ≡ Command.ReplaceOne pattern.now put.now) }
-{
-    Ok(Command::ReplaceOne {
-        pattern: Chars::from_slice(alloc, pattern)?,
-        put: Chars::from_slice(alloc, put)?,
-    })
 }

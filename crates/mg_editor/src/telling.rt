@@ -38,43 +38,22 @@ fn message_of_port(fault: PortFault) -> Message
     }
 }
 
-/// What is said of a log that is not read. Only a line, or what it says, can be at fault.
-fn message_of_log(fault: ReceiveFault) -> Message
-    ensures { result ≡ spec.message_of_log fault }
-{
-    match fault {
-        ReceiveFault::Line(line, fault) => Message::BadLine(line, fault),
-        ReceiveFault::Refused(line, refusal) => Message::RefusedLine(line, refusal),
-        ReceiveFault::Cut | ReceiveFault::Count | ReceiveFault::Read | ReceiveFault::Memory => {
-            Message::FileFault
-        }
-    }
-}
-
-/// What is said of a buffer that is not loaded. Replica and limit of an editor are within theirs, so
-/// of a text only `Full` is refused.
+/// What is said of a buffer that is not loaded. Of a log only a line, or what it says, can be at
+/// fault. Replica and limit of an editor are within theirs, so of a text only `Full` is refused.
 fn message_of_load(fault: LoadFault) -> Message
     ensures { result ≡ spec.message_of_load fault }
 {
     match fault {
-        LoadFault::Log(fault) => message_of_log(fault),
+        LoadFault::Log(ReceiveFault::Line(line, fault)) => Message::BadLine(line, fault),
+        LoadFault::Log(ReceiveFault::Refused(line, refusal)) => {
+            Message::RefusedLine(line, refusal)
+        }
+        LoadFault::Log(
+            ReceiveFault::Cut | ReceiveFault::Count | ReceiveFault::Read | ReceiveFault::Memory,
+        ) => Message::FileFault,
         LoadFault::NotText => Message::NotText,
         LoadFault::Store(_) => Message::BufferFull,
         LoadFault::Memory => Message::Refused(Notice::Memory),
-    }
-}
-
-/// What is said of a peer that was not heard to its end.
-fn message_of_peer(fault: ReceiveFault) -> Message
-    ensures { result ≡ spec.message_of_peer fault }
-{
-    match fault {
-        ReceiveFault::Line(line, fault) => Message::BadLine(line, fault),
-        ReceiveFault::Refused(line, refusal) => Message::RefusedLine(line, refusal),
-        ReceiveFault::Cut => Message::Cut,
-        ReceiveFault::Count => Message::WrongCount,
-        ReceiveFault::Read => Message::SocketFault,
-        ReceiveFault::Memory => Message::Refused(Notice::Memory),
     }
 }
 
@@ -89,7 +68,14 @@ fn message_of_exchange(fault: ExchangeFault) -> Message
         ExchangeFault::Link(LinkFault::Memory) => Message::Refused(Notice::Memory),
         ExchangeFault::Send(SendFault::Write) => Message::SocketFault,
         ExchangeFault::Send(SendFault::Memory) => Message::Refused(Notice::Memory),
-        ExchangeFault::Receive(fault) => message_of_peer(fault),
+        ExchangeFault::Receive(ReceiveFault::Line(line, fault)) => Message::BadLine(line, fault),
+        ExchangeFault::Receive(ReceiveFault::Refused(line, refusal)) => {
+            Message::RefusedLine(line, refusal)
+        }
+        ExchangeFault::Receive(ReceiveFault::Cut) => Message::Cut,
+        ExchangeFault::Receive(ReceiveFault::Count) => Message::WrongCount,
+        ExchangeFault::Receive(ReceiveFault::Read) => Message::SocketFault,
+        ExchangeFault::Receive(ReceiveFault::Memory) => Message::Refused(Notice::Memory),
     }
 }
 
@@ -114,15 +100,6 @@ fn outcome_message(outcome: &Result<Message, CarryFault>) -> Message
     }
 }
 
-fn outcome_answer(outcome: Result<Message, CarryFault>) -> Result<(), CarryFault>
-    ensures { result ≡ spec.outcome_answer outcome }
-{
-    match outcome {
-        Ok(_) => Ok(()),
-        Err(fault) => Err(fault),
-    }
-}
-
 impl<S: TextStore> Editor<S> {
     /// Says what came of a request, and answers it.
     pub(crate) fn conclude(
@@ -134,6 +111,7 @@ impl<S: TextStore> Editor<S> {
         ensures answer { result ≡ spec.outcome_answer outcome }
     {
         self.talk.tell(outcome_message(&outcome));
-        outcome_answer(outcome)
+        outcome?;
+        Ok(())
     }
 }

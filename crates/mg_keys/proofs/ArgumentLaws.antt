@@ -1,6 +1,6 @@
 -- What C-u and digits write.
 use Rattle.std.proofs.Common.{◌≡◌, ◌≢◌, ◌⊎◌, inl, inr, ℕ, zero, suc, ◌+◌, ◌-◌, ◌*◌, ◌^◌, ◌<◌, ◌≤◌, min, lit≤, Bool, true, false, nat_eq, nat_le, ◌&&◌, if◌then◌else◌, Option, Some, None, List, [], ◌∷◌, ◌++◌, refl, sym, ap, ◌∙◌, arith, pow-suc, mul_assoc, mul_comm, mul-one}
-use Rattle.std.proofs.lemmas.Bool.Decides.{nat_tests}
+use Rattle.std.proofs.lemmas.Bool.{le-leb, leb-true, ne_eqb}
 use Rattle.std.proofs.lemmas.Str.{digit_value_digit}
 use Rattle.std.proofs.lemmas.Str.Parse.{digit_from_value}
 use Rattle.std.specs.Char.{digit_value}
@@ -14,15 +14,6 @@ use Rattle.mg_keys.specs.Meaning.{Meaning, meaning_of_keys, plain_meaning}
 
 -- ---- one byte
 
-is_other : (a b : ℕ) → a ≢ b → nat_eq a b ≡ false
-is_other a b h = grind (arith, nat_tests)
-
-from_test : (a b : ℕ) → nat_le a b ≡ true → a ≤ b
-from_test a b h = grind (arith, nat_tests)
-
-to_test : (a b : ℕ) → a ≤ b → nat_le a b ≡ true
-to_test a b h = grind (arith, nat_tests)
-
 no_digit_byte : (b : ℕ) → 10 ≤ digit_value b → is_digit_byte b ≡ false
 no_digit_byte b h = at (nat_le 48 b) (nat_le b 57) refl refl
   where
@@ -33,16 +24,16 @@ no_digit_byte b h = at (nat_le 48 b) (nat_le b 57) refl refl
     at false y low high = refl
     at true false low high = refl
     at true true low high =
-        let above : 48 ≤ b = from_test 48 b low in
-        let below : b ≤ 57 = from_test b 57 high in
+        let above : 48 ≤ b = leb-true 48 b low in
+        let below : b ≤ 57 = leb-true b 57 high in
         let is : digit_value b + 48 ≡ b = digit_value_digit b (above, below) in
         absurd (too_large (digit_value b) b is below h)
 
 digit_goes_on : (a : Argument) (d : ℕ) → digit_value d < 10 → with_byte a d ≡ with_digit a (digit_value d)
 digit_goes_on a d h =
     let range = digit_from_value d h in
-    let other : nat_eq d 21 ≡ false = is_other d 21 (λ e. absurd (no_universal d e range.0)) in
-    let digit : is_digit_byte d ≡ true = both (nat_le 48 d) (nat_le d 57) (to_test 48 d range.0) (to_test d 57 range.1) in
+    let other : nat_eq d 21 ≡ false = ne_eqb d 21 (λ e. absurd (no_universal d e range.0)) in
+    let digit : is_digit_byte d ≡ true = both (nat_le 48 d) (nat_le d 57) (le-leb 48 d range.0) (le-leb d 57 range.1) in
     let off : d - 48 ≡ digit_value d = less (digit_value d) d (digit_value_digit d range) in
     let f : Bool → Option Argument = λ x. if x then Some (four_times a) else (if is_digit_byte d then with_digit a (d - 48) else None) in
     let g : Bool → Option Argument = λ x. if x then with_digit a (d - 48) else None in
@@ -64,7 +55,7 @@ nothing_with : (a : Argument) (b : ℕ) → EndsArgument b → with_byte a b ≡
 nothing_with a b h =
     let f : Bool → Option Argument = λ x. if x then Some (four_times a) else (if is_digit_byte b then with_digit a (b - 48) else None) in
     let g : Bool → Option Argument = λ x. if x then with_digit a (b - 48) else None in
-    let first : with_byte a b ≡ f false = ap f (is_other b 21 h.no_universal) in
+    let first : with_byte a b ≡ f false = ap f (ne_eqb b 21 h.no_universal) in
     let second : f false ≡ None = ap g (no_digit_byte b h.no_digit) in
     first ∙ second
 
@@ -72,7 +63,7 @@ nothing_with a b h =
 nothing_without : (b : ℕ) → b ≢ 21 → with_byte Absent b ≡ None
 nothing_without b h =
     let f : Bool → Option Argument = λ x. if x then Some (Multiplied 4) else (if is_digit_byte b then None else None) in
-    let first : with_byte Absent b ≡ f false = ap f (is_other b 21 h) in
+    let first : with_byte Absent b ≡ f false = ap f (ne_eqb b 21 h) in
     first ∙ either (is_digit_byte b) None
   where
     either : (x : Bool) (n : Option Argument) → (if x then n else n) ≡ n

@@ -1,5 +1,6 @@
 -- A byte from 128 on stands in no key sequence, and begins a character.
-use Rattle.std.proofs.Common.{◌≡◌, ℕ, ◌<◌, ◌≤◌, List, [], ◌∷◌, Bool, true, false, nat_eq, nat_lt, nat_le, Option, Some, None, if◌then◌else◌, ◌&&◌, refl, ap, ◌∙◌, arith}
+use Rattle.std.proofs.Common.{◌≡◌, ℕ, ◌<◌, ◌≤◌, List, [], ◌∷◌, Bool, true, false, nat_eq, nat_lt, Option, Some, None, if◌then◌else◌, ◌&&◌, refl, ap, ◌∙◌, arith}
+use Rattle.std.proofs.lemmas.Bool.{and_parts, le-leb, lt-leb, ltb-true}
 use Rattle.std.proofs.lemmas.Bool.Decides.{nat_tests}
 use Rattle.std.specs.List.{list_any}
 use Rattle.mg_keys.specs.declared.command.KeyCommand.{KeyCommand}
@@ -17,15 +18,6 @@ ne a b h = grind (arith, nat_tests)
 en : (a b : ℕ) → a < b → nat_eq b a ≡ false
 en a b h = grind (arith, nat_tests)
 
-le_no : (a b : ℕ) → a < b → nat_le b a ≡ false
-le_no a b h = grind (arith, nat_tests)
-
-le_yes : (a b : ℕ) → a ≤ b → nat_le a b ≡ true
-le_yes a b h = grind (arith, nat_tests)
-
-lt_yes : (a b : ℕ) → nat_lt a b ≡ true → a < b
-lt_yes a b h = grind (arith, nat_tests)
-
 and_false : (x : Bool) → (x && false) ≡ false
 and_false true = refl
 and_false false = refl
@@ -39,49 +31,41 @@ all_low : List Row → Bool
 all_low [] = true
 all_low (r ∷ rs) = low r.keys && all_low rs
 
-and_left : (x y : Bool) → (x && y) ≡ true → x ≡ true
-and_left true y h = refl
-and_left false y h = h
-
-and_right : (x y : Bool) → (x && y) ≡ true → y ≡ true
-and_right true y h = h
-and_right false y h = absurd cc
-
 same_low : (keys : List ℕ) (b : ℕ) (rest : List ℕ) → 128 ≤ b → low keys ≡ true → same_keys keys (b ∷ rest) ≡ false
 unfolding low
 same_low [] b rest h l = refl
-same_low (k ∷ ks) b rest h l = let small = lt_yes k 128 l in rw (ne k b (omega arith)) refl
+same_low (k ∷ ks) b rest h l = let small = ltb-true k 128 l in rw (ne k b (omega arith)) refl
 
 begins_low : (keys : List ℕ) (b : ℕ) (rest : List ℕ) → 128 ≤ b → low keys ≡ true → begins (b ∷ rest) keys ≡ false
 unfolding low
 begins_low [] b rest h l = refl
-begins_low (k ∷ ks) b rest h l = let small = lt_yes k 128 l in rw (en k b (omega arith)) (and_false (begins rest ks))
+begins_low (k ∷ ks) b rest h l = let small = ltb-true k 128 l in rw (en k b (omega arith)) (and_false (begins rest ks))
 
 none_named : (rs : List Row) (b : ℕ) (rest : List ℕ) → 128 ≤ b → all_low rs ≡ true → first_with rs (b ∷ rest) ≡ None
 unfolding all_low
 none_named [] b rest h l = refl
 none_named (r ∷ rs) b rest h l =
-    rw (same_low r.keys b rest h (and_left (low r.keys) (all_low rs) l)) (none_named rs b rest h (and_right (low r.keys) (all_low rs) l))
+    rw (same_low r.keys b rest h (and_parts (low r.keys) (all_low rs) l).0) (none_named rs b rest h (and_parts (low r.keys) (all_low rs) l).1)
 
 none_begun : (rs : List Row) (b : ℕ) (rest : List ℕ) → 128 ≤ b → all_low rs ≡ true → list_any (λ r. begins (b ∷ rest) r.keys) rs ≡ false
 unfolding all_low
 none_begun [] b rest h l = refl
 none_begun (r ∷ rs) b rest h l =
-    rw (begins_low r.keys b rest h (and_left (low r.keys) (all_low rs) l)) (none_begun rs b rest h (and_right (low r.keys) (all_low rs) l))
+    rw (begins_low r.keys b rest h (and_parts (low r.keys) (all_low rs) l).0) (none_begun rs b rest h (and_parts (low r.keys) (all_low rs) l).1)
 
 rows_low : all_low rows ≡ true
 unfolding all_low low
 rows_low = refl
 
 no_argument : (a : Argument) (b : ℕ) → 128 ≤ b → with_byte a b ≡ None
-no_argument a b h = rw (en 21 b (omega arith)) (rw (le_yes 48 b (omega arith)) (rw (le_no 57 b (omega arith)) refl))
+no_argument a b h = rw (en 21 b (omega arith)) (rw (le-leb 48 b (omega arith)) (rw (lt-leb b 57 (omega arith)) refl))
 
 not_cancel : (b : ℕ) (rest : List ℕ) → 128 ≤ b → is_cancel (b ∷ rest) ≡ false
 not_cancel b rest h = rw (ne 7 b (omega arith)) (rw (ne 27 b (omega arith)) (rw (ne 24 b (omega arith)) refl))
 
 inserted_high : (b : ℕ) (rest : List ℕ) → 128 ≤ b → inserted_character (b ∷ rest) ≡ multibyte_character b rest
 inserted_high b rest h =
-    rw (en 17 b (omega arith)) (rw (en 9 b (omega arith)) (rw (le_yes 32 b (omega arith)) (rw (le_no 126 b (omega arith)) (rw (le_yes 128 b h) refl))))
+    rw (en 17 b (omega arith)) (rw (en 9 b (omega arith)) (rw (le-leb 32 b (omega arith)) (rw (lt-leb b 126 (omega arith)) (rw (le-leb 128 b h) refl))))
 
 high_keys : (n b : ℕ) (rest : List ℕ) → 128 ≤ b → meaning_of_keys n (b ∷ rest) ≡ insertion_meaning n (multibyte_character b rest)
 high_keys n b rest h =

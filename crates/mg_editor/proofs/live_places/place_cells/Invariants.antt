@@ -3,7 +3,7 @@ use Rattle.std.specs.List.{flat_map, range_with_len}
 use Rattle.mg_editor.specs.LiveShowing.{cells_over, window_cells}
 use Rattle.mg_workspace.specs.AtIndex.{state_at}
 use Rattle.mg_workspace.specs.Viewports.{shown_buffers}
-use Rattle.mg_editor.proofs.live_places.cells_of_windows.Given as goal
+use Rattle.mg_editor.proofs.live_places.place_cells.Given as goal
 
 abbrev pub invariant-loop-window : goal.invariant-loop-window
 invariant-loop-window g l =
