@@ -20,8 +20,8 @@ use Rattle.mgr_show.specs.declared.fault.JoinFault.{JoinFault}
 use Rattle.mgr_show.specs.declared.fault.JoinFault.TheVariants as join
 use Rattle.mgr_show.specs.declared.fault.ShowFault.{ShowFault}
 use Rattle.mgr_show.specs.declared.fault.ShowFault.TheVariants as show
-use Rattle.mgr_claims.specs.declared.fault.MissingFault.{MissingFault}
-use Rattle.mgr_claims.specs.declared.fault.MissingFault.TheVariants as missing
+use Rattle.mgr_show.specs.declared.fault.MissingFault.{MissingFault}
+use Rattle.mgr_show.specs.declared.fault.MissingFault.TheVariants as missing
 use Rattle.mgr_merge.specs.declared.fault.MergeFault.{MergeFault}
 use Rattle.mgr_merge.specs.declared.fault.MergeFault.TheVariants as merge
 use Rattle.mgr_merge.specs.declared.merged.Torn.{Torn}

@@ -26,11 +26,10 @@ use Rattle.mgr_args.specs.declared.job.Job.TheVariants.{Show, Edit, Compact, Joi
 use Rattle.mgr_port.specs.Logs.{Standing, SameElsewhere, StaysSame, left}
 use Rattle.mgr_mend.specs.CompactionEnds.{EndsWell, EndsEarly, failures_after_compaction}
 use Rattle.mgr_show.specs.Shown.{IsOfInput, ShowsLog, BeginsToShow, log_content, shown_bytes}
-use Rattle.mgr_claims.specs.Claims.{BeginsToTell, TellsClaims}
-use Rattle.mgr_claims.specs.Missing.{BeginsMissing, IsOfClaims, IsOfLog as IsOfSource, OnBoth, WritesMissing, claims_heard, log_held, reads_failed as missing_reads_failed}
-use Rattle.mgr_claims.specs.Notes.{log_source}
-use Rattle.mgr_claims.specs.declared.fault.MissingFault.{MissingFault}
-use Rattle.mgr_claims.specs.declared.fault.MissingFault.TheVariants as missing
+use Rattle.mgr_show.specs.Claims.{BeginsToTell, TellsClaims}
+use Rattle.mgr_show.specs.Missing.{BeginsMissing, IsOfClaims, IsOfLog as IsOfSource, OnBoth, WritesMissing, claims_heard, log_held, reads_failed as missing_reads_failed}
+use Rattle.mgr_show.specs.declared.fault.MissingFault.{MissingFault}
+use Rattle.mgr_show.specs.declared.fault.MissingFault.TheVariants as missing
 use Rattle.mgr_mend.specs.Ends.{MendsInPart, mended_standing}
 use Rattle.mgr_mend.specs.Mending.{left_out_of, mended, refused_of}
 use Rattle.mgr_mend.specs.declared.mended.LeftOut.{LeftOut}
@@ -38,12 +37,12 @@ use Rattle.mgr_merge.specs.Merging.{BeginsToPut, BeginsToWrite, FindsNoNote, IsO
 use Rattle.mgr_merge.specs.declared.merged.Merged.{Merged}
 use Rattle.mgr_merge.specs.declared.fault.MergeFault.{MergeFault}
 use Rattle.mgr_merge.specs.declared.fault.MergeFault.TheVariants as merge
-use Rattle.mgr_look.specs.Authors.{authors_bytes}
-use Rattle.mgr_look.specs.Notes.{BeginsToWriteAbout, WritesAbout, read_of}
-use Rattle.mgr_look.specs.Numbers.{FailedReads}
-use Rattle.mgr_look.specs.Told.{BeginsToWriteNumbers, LooksAtText, WritesNumbers}
+use Rattle.mgr_show.specs.Authors.{authors_bytes}
+use Rattle.mgr_show.specs.About.{BeginsToWriteAbout, WritesAbout, read_of}
+use Rattle.mgr_show.specs.Numbers.{FailedReads}
+use Rattle.mgr_show.specs.Told.{BeginsToWriteNumbers, LooksAtText, WritesNumbers}
 use Rattle.mgr_show.specs.Joined.{BeginsToJoin, IsOfLog, Joins, NamesOneOf, OnLogs, join_of, reads_failed}
-use Rattle.mgr_show.specs.Note.{IsReadable, front_of, log_name, note_of}
+use Rattle.mgr_show.specs.Note.{IsReadable, front_of, log_name, log_source, note_of}
 use Rattle.mgr_show.specs.Sources.{failures_after}
 use Rattle.mgr_show.specs.declared.fault.JoinFault.{JoinFault}
 use Rattle.mgr_show.specs.declared.fault.JoinFault.TheVariants as join

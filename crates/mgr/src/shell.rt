@@ -6,8 +6,7 @@ ghost use Rattle.mg_session.specs.Running.{devices};
 ghost use Rattle.mg_session.specs.declared.fault.SessionFault.TheVariants as session;
 ghost use Rattle.mgr.specs.Report.{join_message, join_status, merge_message, merge_status, missing_message};
 ghost use Rattle.mgr.specs.Report.{missing_status, named_text, report_text, show_status, source_message, torn_message};
-ghost use Rattle.mgr_claims.specs.Notes.{log_source};
-ghost use Rattle.mgr_show.specs.Note.{log_name};
+ghost use Rattle.mgr_show.specs.Note.{log_name, log_source};
 ghost use Rattle.mgr.specs.Telling.{TellsMore, line, torn_telling};
 ghost use Rattle.mgr.specs.Status as status;
 ghost use Rattle.mgr.specs.Peers as spec;
@@ -22,12 +21,13 @@ use mg_live::run_live;
 use mg_screen::Settings;
 use mg_session::{SessionFault, run_keys};
 use mgr_args::{Job, JobFault, Merging, Note, Shown, job_of, job_status, words};
-use mgr_claims::{MissingFault, write_claims, write_missing};
-use mgr_look::{write_authors, write_numbers};
 use mgr_mend::{LeftOut, compact_note, mend_note};
 use mgr_merge::{MergeFault, Torn, merge_logs, put_note};
 use mgr_port::{FilePort, Logs};
-use mgr_show::{JoinFault, ShowFault, Sources, join_logs, show_note, show_ops, write_text};
+use mgr_show::{
+    JoinFault, MissingFault, ShowFault, Sources, join_logs, show_note, show_ops, write_authors,
+    write_claims, write_missing, write_numbers, write_text,
+};
 use rga_exchange::Counted;
 use rga_flat::FlatStore;
 use std::alloc::Global;
@@ -576,7 +576,7 @@ fn told_of_note<T: Tell>(errors: &mut T, name: &str, fault: &ShowFault) -> u8
 }
 
 /// The same, where `-` is read as it is.
-#[tactic(auto, unfolding(mgr_claims::specs::Notes::log_source))]
+#[tactic(auto, unfolding(mgr_show::specs::Note::log_source))]
 fn told_of_source<T: Tell>(errors: &mut T, name: &str, fault: &ShowFault) -> u8
     ensures status { result ≡ show_status fault.now }
     ensures told { TellsMore (T.told errors.old) (T.told errors.new)

@@ -7,3 +7,14 @@ pub mod JoinedLaws
 pub mod NoteLaws
 pub mod JoinWordsLaws
 pub mod FirstLinesLaws
+pub mod AuthorLaws
+pub mod PieceLaws
+pub mod LineLaws
+pub mod BesideLaws
+pub mod ToldLaws
+pub mod TallyLaws
+pub mod ClaimsLaws
+pub mod HeadLaws
+pub mod HeadLineLaws
+pub mod MissingLaws
+pub mod TakenLaws

@@ -5,3 +5,12 @@ pub mod Sources
 pub mod Stored
 pub mod Joined
 pub mod Note
+pub mod Authors
+pub mod About
+pub mod Meant
+pub mod Tallies
+pub mod Counts
+pub mod Numbers
+pub mod Told
+pub mod Claims
+pub mod Missing

@@ -1,5 +1,6 @@
 -- The log of a note, and what `show_note` shows of it.
 use Rattle.std.specs.Prelude.{◌≡◌, ℕ, ◌-◌, ◌==◌, if◌then◌else◌, List, [], ◌∷◌, ◌++◌, Option, Some, None, Result, Ok, Err, codes}
+use Rattle.std.specs.Str.{bytes_eq}
 use Rattle.rga_ops.specs.Content.{Content, nothing, IsAgreed}
 use Rattle.rga_lines.specs.Log.{log_operations}
 use Rattle.rga_lines.specs.Stream.{newline}
@@ -13,6 +14,10 @@ use Rattle.mgr_show.specs.Shown.{log_content}
 -- the log of a note with this name
 abbrev pub log_name : List ℕ → List ℕ
 log_name name = name ++ codes ".ops"
+
+-- the name under which the log of a note is read: `-` is taken as it is
+unfoldable pub log_source : List ℕ → List ℕ
+log_source name = if bytes_eq name (codes "-") then name else log_name name
 
 -- the first n lines, each with its newline; all bytes, if there are no more lines
 abbrev pub first_lines : ℕ → List ℕ → List ℕ

@@ -1,10 +1,11 @@
-//! Why `mgr show` ends without the text, or `mgr compact` and `mgr join` without the log.
+//! Why commands that read logs end without what they are to write.
 ghost use Rattle.std.specs.Prelude.{◌≡◌};
 ghost use Rattle.mgr_show.specs.Log.{show_fault};
 ghost use Rattle.mgr_show.specs.Compacted.{send_fault};
 ghost use Rattle.mgr_show.specs.Joined.{at_log, join_fault};
+ghost use Rattle.mgr_show.specs.Missing as missing;
 
-use rga_exchange::{LogFault, SendFault};
+use rga_exchange::{LogFault, ReceiveFault, SendFault};
 use rga_lines::LineFault;
 use rga_ops::Refusal;
 
@@ -82,6 +83,55 @@ impl From<SendFault> for JoinFault {
         match fault {
             SendFault::Write => JoinFault::Write,
             SendFault::Memory => JoinFault::Memory,
+        }
+    }
+}
+
+/// Why `mgr missing` ends without all operations that are missing.
+#[derive(Clone, Copy, PartialEq, Eq)]
+pub enum MissingFault {
+    /// The claims do not begin with their head.
+    Head,
+    /// The claims are refused or can't be read: `Line`, which has the number of the claim from 1,
+    /// `Count`, `Cut` or `Read`.
+    Claims(ReceiveFault),
+    /// The log of the note is refused or can't be read: never `Torn`, `Write` or `Memory`.
+    Log(ShowFault),
+    /// The device of the output failed.
+    Write,
+    /// A growth of memory was refused.
+    Memory,
+}
+
+impl MissingFault {
+    /// The fault of claims that are read: memory is not theirs.
+    pub(crate) fn at_claims(fault: ShowFault) -> MissingFault
+        ensures { result ≡ missing.at_claims fault }
+    {
+        match fault {
+            ShowFault::Memory => MissingFault::Memory,
+            _ => MissingFault::Claims(ReceiveFault::Read),
+        }
+    }
+
+    /// The fault of the log of the note: memory is no log's.
+    pub(crate) fn at_log(fault: ShowFault) -> MissingFault
+        ensures { result ≡ missing.at_log fault }
+    {
+        match fault {
+            ShowFault::Memory => MissingFault::Memory,
+            other => MissingFault::Log(other),
+        }
+    }
+}
+
+impl From<SendFault> for MissingFault {
+    ghost from_gives = { λ fault e. e ≡ missing.send_fault fault };
+
+    fn from(fault: SendFault) -> MissingFault {
+        match fault {
+            SendFault::Write => MissingFault::Write,
+            SendFault::Memory => MissingFault::Memory,
         }
     }
 }

@@ -83,6 +83,9 @@ fn is_far(records: &Records) -> bool
 
 /// Takes the operations of the logs of the names. `deletion_runs` becomes true if one of them has a
 /// run of deletions.
+///
+/// `Log` with `Read`, `Line`, `Refused` or `Torn` is the first fault in the order of the names, and
+/// there in that of the lines. `Memory`.
 pub fn take_logs<S: Sources, T: Taker>(
     alloc: Global,
     sources: &mut S,

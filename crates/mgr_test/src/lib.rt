@@ -2,7 +2,7 @@
 //! lines that are lent, runs at stores that are nearly full, writes in blocks, plans that no key
 //! leads to, cursors that no window shows, frames and texts that are not flushed, saves over a port
 //! that refuses, files over a disk that fails, stores and logs that are compacted, notes that are
-//! mended, and logs that are read by their names.
+//! mended, and logs that are read by their names, with what is counted in them.
 #![tactic(auto)]
 
 #[cfg(test)]
@@ -19,6 +19,8 @@ mod joins;
 mod lines;
 #[cfg(test)]
 mod mendings;
+#[cfg(test)]
+mod notes;
 #[cfg(test)]
 mod plans;
 #[cfg(test)]

@@ -1,5 +1,0 @@
-use Rattle.mgr_claims.proofs.TakenLaws.{missing_as_whole, whole_as_missing}
-use Rattle.mgr_claims.proofs.laws.what_is_missing_is_taken_as_the_whole_log_is.Goals as goal
-
-pub returns : goal.returns
-returns c = record { taken = missing_as_whole; whole = whole_as_missing }

@@ -1,3 +1,0 @@
-pub mod Notes
-pub mod Claims
-pub mod Missing

@@ -1,8 +1,0 @@
-use Rattle.mgr_look.proofs.PieceLaws.{are_pieces, no_others}
-use Rattle.mgr_look.proofs.laws.pieces_are_the_longest.Goals as goal
-
-pub returns-clause-pieces : goal.returns-clause-pieces
-returns-clause-pieces c = are_pieces
-
-pub returns-clause-no_others : goal.returns-clause-no_others
-returns-clause-no_others c = no_others

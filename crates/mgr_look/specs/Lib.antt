@@ -1,7 +1,0 @@
-pub mod Authors
-pub mod Notes
-pub mod Meant
-pub mod Tallies
-pub mod Counts
-pub mod Numbers
-pub mod Told

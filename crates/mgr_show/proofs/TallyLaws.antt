@@ -1,0 +1,166 @@
+-- How much each replica wrote.
+use Rattle.std.proofs.Common.{◌≡◌, ℕ, ◌==◌, Bool, true, false, cond, nat_lt, max, ◌+◌, ◌≤◌, suc, ◌-◌, List, [], ◌∷◌, ◌++◌, map, filter, length, refl, sym, ap, ◌∙◌, arith, subst}
+use Rattle.std.specs.Prelude.{Option, Some, None, IfSome}
+use Rattle.std.specs.List.{All}
+use Rattle.std.specs.FinMap as finite_map
+use Rattle.std.specs.FinSet as finite_set
+use Rattle.std.proofs.lemmas.List.{length-append}
+use Rattle.rga_ops.specs.Identifier.{Identifier}
+use Rattle.rga_ops.specs.Content.{Element, Content, greatest}
+use Rattle.rga_ops.specs.Operations.{insertion_of, insertions, deletions, operations, rising}
+use Rattle.rga_ops.specs.declared.op.Op.{Op}
+use Rattle.rga_ops.specs.declared.op.Op.TheVariants.{Insert, Delete}
+use Rattle.std.specs.Ordering.{nat_cmp, match_ordering, is_eq}
+use Rattle.std.specs.declared.cmp.Ordering.TheVariants.{Less, Equal, Greater}
+use Rattle.std.proofs.lemmas.Bool.Decides.{nat_tests}
+use Rattle.std.specs.Map.{keys_of, values_of}
+use Rattle.std.specs.BTreeMap.{insert_entry, is_at}
+use Rattle.std.specs.BTreeSet.{insert_key}
+use Rattle.std.specs.declared.cmp.Ordering.{Ordering}
+use Rattle.std.proofs.lemmas.List.Elements.{All-weaker}
+use Rattle.std.proofs.lemmas.Map.Views.{All-values-insert_entry, IfSome-lookup_from_All}
+use Rattle.mgr_show.specs.Tallies.{tally, and_character, and_tallies, tally_of, is_insertion}
+use Rattle.mgr_show.specs.Meant.{counters_of, summary, IsRising}
+use Rattle.mgr_show.specs.declared.tallies.Tally.{Tally}
+use Rattle.mgr_show.proofs.AuthorLaws.{same_replica}
+use Rattle.mgr_show.proofs.LineLaws.{inserted_rises}
+
+-- no replica has more characters than there were operations
+abbrev IsWithin : ℕ → ℕ → Tally → Type 0
+IsWithin n rest t = t.characters + rest ≤ n
+
+pub few_after : (n rest : ℕ) (es : List (ℕ × Tally)) (replica counter : ℕ) → suc rest ≤ n → All (IsWithin n (suc rest)) (values_of es) → All (IsWithin n rest) (values_of (insert_entry nat_cmp es replica (and_character counter (tally_of replica es))))
+few_after n rest es replica counter room h =
+    All-values-insert_entry nat_cmp replica (and_character counter (tally_of replica es)) (IsWithin n rest) es
+    (All-weaker (IsWithin n (suc rest)) (IsWithin n rest) (λ t within. omega (arith, within)) (values_of es) h)
+    (found (tally_of replica es) (IfSome-lookup_from_All (IsWithin n (suc rest)) (is_at (nat_cmp replica)) es h))
+  where
+    found : (o : Option Tally) → IfSome o (IsWithin n (suc rest)) → IsWithin n rest (and_character counter o)
+    found None within = omega (arith, room)
+    found (Some t) within = omega (arith, within)
+
+-- ---- insertions among operations
+
+all_insertions : (es : List (Identifier × Element)) (ids : List Identifier) → filter is_insertion (map insertion_of es ++ map Delete ids) ≡ map insertion_of es
+all_insertions [] [] = refl
+all_insertions [] (id ∷ ids) = all_insertions [] ids
+all_insertions (e ∷ es) ids = ap (λ ops. insertion_of e ∷ ops) (all_insertions es ids)
+
+pub insertions_counted : (c : Content) → length (filter is_insertion (operations c)) ≡ length (insertions c)
+insertions_counted c = ap length (all_insertions (finite_map.entries c.inserted) (rising (finite_set.items c.deleted)))
+
+pub others_are_deletions : (c : Content) (n : ℕ) → n ≡ length (insertions c) → length (operations c) - n ≡ length (deletions c)
+others_are_deletions c n is =
+    let all : length (operations c) ≡ length (insertions c) + length (deletions c) = length-append (insertions c) (deletions c) in
+    omega (arith, all, is)
+
+-- ---- what is told of a replica
+
+at_is : (n k : ℕ) → is_at (nat_cmp n) k ≡ (k == n)
+at_is n k = elim (nat_lt n k) as (λ b. nat_lt n k ≡ b → is_eq (cond b Less (cond (n == k) Equal Greater)) ≡ (k == n)) [
+  | true ↦ λ t. grind (arith, nat_tests, t)
+  | false ↦ λ t. elim (n == k) as (λ b. (n == k) ≡ b → is_eq (cond b Equal Greater) ≡ (k == n)) [
+    | true ↦ λ s. grind (arith, nat_tests, s)
+    | false ↦ λ s. grind (arith, nat_tests, s)
+  ] refl
+] refl
+
+-- the look-up by the plain test
+found : ℕ → List (ℕ × Tally) → Option Tally
+found n [] = None
+found n (e ∷ es) = cond (e.0 == n) (Some e.1) (found n es)
+
+found_is : (n : ℕ) (es : List (ℕ × Tally)) → tally_of n es ≡ found n es
+unfolding found
+found_is n [] = refl
+found_is n (e ∷ es) = λ k. cond (at_is n e.0 k) (Some e.1) (found_is n es k)
+
+found_put : (n r : ℕ) (v : Tally) (es : List (ℕ × Tally)) → found n (insert_entry nat_cmp es r v) ≡ cond (r == n) (Some v) (found n es)
+unfolding found
+found_put n r v [] = refl
+found_put n r v (e ∷ es) = elim (nat_lt r e.0) as (λ b. found n (match_ordering (cond b Less (cond (r == e.0) Equal Greater)) ((r, v) ∷ e ∷ es) ((e.0, v) ∷ es) (e ∷ insert_entry nat_cmp es r v)) ≡ cond (r == n) (Some v) (found n (e ∷ es))) [
+  | true ↦ refl
+  | false ↦ elim (r == e.0) as (λ b. (r == e.0) ≡ b → found n (match_ordering (cond b Equal Greater) ((r, v) ∷ e ∷ es) ((e.0, v) ∷ es) (e ∷ insert_entry nat_cmp es r v)) ≡ cond (r == n) (Some v) (found n (e ∷ es))) [
+    | true ↦ λ t. replaced (e.0 == n) ∙ ap (λ m. cond (m == n) (Some v) (cond (e.0 == n) (Some e.1) (found n es))) (sym (same_replica r e.0 t))
+    | false ↦ λ t. ap (cond (e.0 == n) (Some e.1)) (found_put n r v es) ∙ passed t
+  ] refl
+]
+  where
+    replaced : (b : Bool) → cond b (Some v) (found n es) ≡ cond b (Some v) (cond b (Some e.1) (found n es))
+    replaced true = refl
+    replaced false = refl
+
+    passed : (r == e.0) ≡ false → cond (e.0 == n) (Some e.1) (cond (r == n) (Some v) (found n es)) ≡ cond (r == n) (Some v) (cond (e.0 == n) (Some e.1) (found n es))
+    passed t = elim (e.0 == n) as (λ b. (e.0 == n) ≡ b → cond b (Some e.1) (cond (r == n) (Some v) (found n es)) ≡ cond (r == n) (Some v) (cond b (Some e.1) (found n es))) [
+      | true ↦ λ s.
+          let no : (r == n) ≡ false = ap (λ m. r == m) (sym (same_replica e.0 n s)) ∙ t in
+          sym (ap (λ b. cond b (Some v) (Some e.1)) no)
+      | false ↦ λ s. refl
+    ] refl
+
+-- characters more, by their counters
+abbrev counted : Option Tally → List ℕ → Option Tally
+counted o [] = o
+counted o (k ∷ ks) = counted (Some (and_character k o)) ks
+
+abbrev of_replica : ℕ → Identifier → Bool
+of_replica n id = id.replica == n
+
+abbrev counters : ℕ → List Identifier → List ℕ
+counters n ids = map (λ (id : Identifier). id.counter) (filter (of_replica n) ids)
+
+deletions_tell_nothing : (es : List (ℕ × Tally)) (ids : List Identifier) → and_tallies es (map Delete ids) ≡ es
+deletions_tell_nothing es [] = refl
+deletions_tell_nothing es (id ∷ ids) = deletions_tell_nothing es ids
+
+told : (n : ℕ) (es : List (ℕ × Tally)) (xs : List (Identifier × Element)) (ids : List Identifier) → found n (and_tallies es (map insertion_of xs ++ map Delete ids)) ≡ counted (found n es) (counters n (map (λ x. x.0) xs))
+told n es [] ids = ap (found n) (deletions_tell_nothing es ids)
+told n es (x ∷ xs) ids =
+    told n (insert_entry nat_cmp es x.0.replica (and_character x.0.counter (tally_of x.0.replica es))) xs ids
+    ∙ ap (λ o. counted o (counters n (map (λ x. x.0) xs))) (found_put n x.0.replica (and_character x.0.counter (tally_of x.0.replica es)) es)
+    ∙ elim (x.0.replica == n) as (λ b. (x.0.replica == n) ≡ b → counted (cond b (Some (and_character x.0.counter (tally_of x.0.replica es))) (found n es)) (counters n (map (λ x. x.0) xs))
+    ≡ counted (found n es) (map (λ (id : Identifier). id.counter) (cond b (x.0 ∷ filter (of_replica n) (map (λ x. x.0) xs)) (filter (of_replica n) (map (λ x. x.0) xs))))) [
+      | true ↦ λ t. ap (λ o. counted (Some (and_character x.0.counter o)) (counters n (map (λ x. x.0) xs))) (ap (λ m. tally_of m es) (same_replica x.0.replica n t) ∙ found_is n es)
+      | false ↦ λ t. refl
+    ] refl
+
+-- so many characters more, and the greatest counter of all
+counted_on : (a m : ℕ) (ks : List ℕ) → counted (Some (tally a m)) ks ≡ Some (tally (a + length ks) (max m (greatest ks)))
+counted_on a m [] = λ k. Some (tally ((let none : a ≡ a + 0 = omega arith in none) k) ((let none : m ≡ max m 0 = omega arith in none) k))
+counted_on a m (x ∷ ks) =
+    let more : (a + 1) + length ks ≡ a + suc (length ks) = omega arith in
+    let most : max (max m x) (greatest ks) ≡ max m (max x (greatest ks)) = omega arith in
+    counted_on (a + 1) (max m x) ks ∙ (λ k. Some (tally (more k) (most k)))
+
+summed : (ks : List ℕ) → counted None ks ≡ summary ks
+summed [] = refl
+summed (k ∷ ks) = counted_on 1 k ks ∙ (let one : 1 + length ks ≡ suc (length ks) = omega arith in ap (λ n. Some (tally n (max k (greatest ks)))) one)
+
+pub told_by_insertions : (c : Content) (n : ℕ) → tally_of n (and_tallies [] (operations c)) ≡ summary (counters_of n c)
+unfolding found
+told_by_insertions c n =
+    found_is n (and_tallies [] (operations c))
+    ∙ told n [] (finite_map.entries c.inserted) (rising (finite_set.items c.deleted))
+    ∙ summed (counters_of n c)
+
+-- ---- the replicas rise
+
+keys_put : (r : ℕ) (v : Tally) (es : List (ℕ × Tally)) → keys_of (insert_entry nat_cmp es r v) ≡ insert_key nat_cmp (keys_of es) r
+keys_put r v [] = refl
+keys_put r v (e ∷ es) = by (nat_cmp r e.0) (keys_put r v es)
+  where
+    by : (o : Ordering) → keys_of (insert_entry nat_cmp es r v) ≡ insert_key nat_cmp (keys_of es) r
+        → keys_of (match_ordering o ((r, v) ∷ e ∷ es) ((e.0, v) ∷ es) (e ∷ insert_entry nat_cmp es r v)) ≡ match_ordering o (r ∷ e.0 ∷ keys_of es) (e.0 ∷ keys_of es) (e.0 ∷ insert_key nat_cmp (keys_of es) r)
+    by Less rest = refl
+    by Equal rest = refl
+    by Greater rest = ap (λ ks. e.0 ∷ ks) rest
+
+and_replicas_rise : (es : List (ℕ × Tally)) (ops : List Op) → IsRising (keys_of es) → IsRising (keys_of (and_tallies es ops))
+and_replicas_rise es [] h = h
+and_replicas_rise es (Insert id parent ch ∷ ops) h =
+    and_replicas_rise (insert_entry nat_cmp es id.replica (and_character id.counter (tally_of id.replica es))) ops
+    (subst IsRising (sym (keys_put id.replica (and_character id.counter (tally_of id.replica es)) es)) (inserted_rises id.replica (keys_of es) h))
+and_replicas_rise es (Delete id ∷ ops) h = and_replicas_rise es ops h
+
+pub replicas_rise : (c : Content) → IsRising (keys_of (and_tallies [] (operations c)))
+replicas_rise c = and_replicas_rise [] (operations c) tt

@@ -1,0 +1,138 @@
+//! The operations that claims lack.
+ghost use Rattle.std.specs.Prelude.{◌≡◌, ◌≢◌, ◌⊎◌, ℕ, List, true, Ok, Err, IfOk, IfErr, IfSome};
+ghost use Rattle.std.specs.Prelude.{OnOk, OnErr};
+ghost use Rattle.rga_exchange.specs.Counting.{CountsAs, WritesNothing};
+ghost use Rattle.mgr_show.specs.Stored.{IsRead};
+ghost use Rattle.mgr_show.specs.Missing.{claims_heard, log_held, reads_failed, OnBoth};
+ghost use Rattle.mgr_show.specs.Missing.{IsOfClaims, IsOfLog, WritesMissing, BeginsMissing};
+ghost use Rattle.mgr_show.specs.Note.{log_source};
+
+use crate::fault::{MissingFault, ShowFault};
+use crate::head::after_head;
+use crate::sources::Sources;
+use crate::stored::{StoredLog, read_note};
+use rga_brief::{Summary, hear_summary, missing};
+use rga_exchange::{Counted, ReceiveFault, append_log};
+use rga_flat::FlatStore;
+use rga_store::TextStore;
+use std::alloc::Global;
+use std::io::Write;
+
+/// Reads claims, as `write_claims` writes them, and then the log of a note. Writes the operations
+/// of the note that the claims lack: the lines of a log, with no head and no end. Answers how many
+/// there are. What stands after the end line of the claims is dropped.
+///
+/// `Head` comes if the claims do not begin with their head. `Claims` comes if they are refused,
+/// have no end, or can't be read. `Log` comes then, as the faults of `write_claims`. Nothing is
+/// written before the claims and the log were taken whole.
+pub fn write_missing<S: Sources, W: Write>(
+    alloc: Global,
+    sources: &mut S,
+    name: &str,
+    claims: &str,
+    writer: &mut Counted<W>,
+) -> Result<u64, MissingFault>
+    ensures written { IfOk result (λ number. OnBoth (S.contents sources.old claims.now)
+        (S.contents sources.old (log_source name.now)) (λ heard log.
+        WritesMissing W.contents writer.old writer.new heard log number)) }
+
+    ensures claims { IfErr result (λ e. IsOfClaims e →
+        IfSome (S.contents sources.old claims.now) (λ bytes. claims_heard bytes ≡ Err e)) }
+    ensures log { IfErr result (λ e. IsOfLog e →
+        IfSome (S.contents sources.old (log_source name.now)) (λ bytes.
+        log_held bytes ≡ Err e)) }
+    ensures whole { (number : ℕ) → result ≢ Err (MissingFault.Log (ShowFault.Torn number)) }
+    ensures unwritten { IfErr result (λ e. e ≢ MissingFault.Write → e ≢ MissingFault.Memory
+        → writer.new ≡ writer.old) }
+    ensures nothing { IfErr result (λ e. e ≢ MissingFault.Write
+        → WritesNothing W.contents writer.old writer.new) }
+    // Whatever fails, nothing was written or a beginning of the lines.
+    ensures begun { OnErr result (OnBoth (S.contents sources.old claims.now)
+        (S.contents sources.old (log_source name.now)) (λ heard log.
+        WritesNothing W.contents writer.old writer.new
+        ⊎ BeginsMissing W.contents writer.old writer.new heard log)) }
+    ensures flushed { OnOk result (writer.new.flushed ≡ true) }
+
+    ensures same { (other : List ℕ) → S.contents sources.new other ≡ S.contents sources.old other }
+    ensures reads { S.failures sources.new ≡ reads_failed result (S.failures sources.old) }
+    ensures writes { CountsAs MissingFault.Write result writer.old writer.new }
+{
+    let peer = read_claims(alloc, sources, claims)?;
+    let log = read_held(alloc, sources, name)?;
+    let _known = log.store.known();
+    let Ok(ops) = missing(alloc, &log.store, &peer) else {
+        return Err(MissingFault::Memory);
+    };
+    let number = append_log(alloc, &ops, writer)?;
+    Ok(number)
+}
+
+/// The log of a note, as `read_note` says.
+fn read_held<S: Sources>(
+    alloc: Global,
+    sources: &mut S,
+    name: &str,
+) -> Result<StoredLog<FlatStore>, MissingFault>
+    ensures read { IfOk result (λ log. IfSome (S.contents sources.old (log_source name.now))
+        (λ bytes. IsRead bytes log.store.content log.read)) }
+    ensures refused { IfErr result (λ e. IsOfLog e →
+        IfSome (S.contents sources.old (log_source name.now)) (λ bytes.
+        log_held bytes ≡ Err e)) }
+    ensures of_log { IfErr result (λ e. ¬ (IsOfClaims e)) }
+    ensures whole { (number : ℕ) → result ≢ Err (MissingFault.Log (ShowFault.Torn number)) }
+    ensures no_write { result ≢ Err MissingFault.Write }
+    ensures same { (other : List ℕ) → S.contents sources.new other ≡ S.contents sources.old other }
+    ensures reads { S.failures sources.new ≡ reads_failed result (S.failures sources.old) }
+{
+    match read_note(alloc, sources, name) {
+        Ok(log) => Ok(log),
+        Err(fault) => Err(MissingFault::at_log(fault)),
+    }
+}
+
+/// What the claims of a name say.
+fn read_claims<S: Sources>(
+    alloc: Global,
+    sources: &mut S,
+    claims: &str,
+) -> Result<Summary, MissingFault>
+    ensures ok { IfOk result (λ peer. IfSome (S.contents sources.old claims.now)
+        (λ bytes. claims_heard bytes ≡ Ok peer)) }
+    ensures refused { IfErr result (λ e. IsOfClaims e →
+        IfSome (S.contents sources.old claims.now) (λ bytes. claims_heard bytes ≡ Err e)) }
+    ensures of_claims { IfErr result (λ e. ¬ (IsOfLog e)) }
+    ensures whole { (number : ℕ) → result ≢ Err (MissingFault.Log (ShowFault.Torn number)) }
+    ensures no_write { result ≢ Err MissingFault.Write }
+    ensures same { (other : List ℕ) → S.contents sources.new other ≡ S.contents sources.old other }
+    ensures reads { S.failures sources.new ≡ reads_failed result (S.failures sources.old) }
+{
+    match sources.read(alloc, claims) {
+        Ok(bytes) => hear_claims(alloc, bytes.as_slice()),
+        Err(fault) => Err(MissingFault::at_claims(fault)),
+    }
+}
+
+/// What claims say after their head, up to the line that counts them.
+fn hear_claims(alloc: Global, bytes: &[u8]) -> Result<Summary, MissingFault>
+    ensures ok { IfOk result (λ peer. claims_heard bytes.now ≡ Ok peer) }
+    ensures fault { IfErr result (λ e. (e ≡ MissingFault.Memory)
+        ⊎ (IsOfClaims e × (claims_heard bytes.now ≡ Err e))) }
+{
+    let Some(lines) = after_head(bytes) else {
+        return Err(MissingFault::Head);
+    };
+    match hear_summary(alloc, &mut Counted::new(lines)) {
+        Ok(peer) => Ok(peer),
+        // No machine has the bytes on which a reader of them would spend its calls.
+        Err(ReceiveFault::Read) => Err(MissingFault::Memory),
+        Err(ReceiveFault::Memory) => Err(MissingFault::Memory),
+        Err(ReceiveFault::Line(number, fault)) => {
+            Err(MissingFault::Claims(ReceiveFault::Line(number, fault)))
+        }
+        Err(ReceiveFault::Cut) => Err(MissingFault::Claims(ReceiveFault::Cut)),
+        Err(ReceiveFault::Count) => Err(MissingFault::Claims(ReceiveFault::Count)),
+        Err(ReceiveFault::Refused(number, refusal)) => {
+            Err(MissingFault::Claims(ReceiveFault::Refused(number, refusal)))
+        }
+    }
+}
