@@ -22,9 +22,9 @@ use Rattle.mgr_show.specs.declared.fault.ShowFault.{ShowFault}
 use Rattle.mgr_show.specs.declared.fault.ShowFault.TheVariants as show
 use Rattle.mgr_show.specs.declared.fault.MissingFault.{MissingFault}
 use Rattle.mgr_show.specs.declared.fault.MissingFault.TheVariants as missing
-use Rattle.mgr_merge.specs.declared.fault.MergeFault.{MergeFault}
-use Rattle.mgr_merge.specs.declared.fault.MergeFault.TheVariants as merge
-use Rattle.mgr_merge.specs.declared.merged.Torn.{Torn}
+use Rattle.mgr_mend.specs.declared.fault.MergeFault.{MergeFault}
+use Rattle.mgr_mend.specs.declared.fault.MergeFault.TheVariants as merge
+use Rattle.mgr_mend.specs.declared.merged.Torn.{Torn}
 use Rattle.mgr.specs.declared.report.Message.{Message}
 use Rattle.mgr.specs.declared.report.Message.TheVariants as message
 

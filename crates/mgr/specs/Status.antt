@@ -33,10 +33,10 @@ use Rattle.mgr_show.specs.declared.fault.MissingFault.TheVariants as missing
 use Rattle.mgr_mend.specs.Ends.{MendsInPart, mended_standing}
 use Rattle.mgr_mend.specs.Mending.{left_out_of, mended, refused_of}
 use Rattle.mgr_mend.specs.declared.mended.LeftOut.{LeftOut}
-use Rattle.mgr_merge.specs.Merging.{BeginsToPut, BeginsToWrite, FindsNoNote, IsOfLogs, IsOfNote, LeavesText, Merges, OnlyLoads, PutsNote, RefusesLogs, calls_failed, reads_failed as merge_reads_failed}
-use Rattle.mgr_merge.specs.declared.merged.Merged.{Merged}
-use Rattle.mgr_merge.specs.declared.fault.MergeFault.{MergeFault}
-use Rattle.mgr_merge.specs.declared.fault.MergeFault.TheVariants as merge
+use Rattle.mgr_mend.specs.Merging.{BeginsToPut, BeginsToWrite, FindsNoNote, IsOfLogs, IsOfNote, LeavesText, Merges, OnlyLoads, PutsNote, RefusesLogs, calls_failed, reads_failed as merge_reads_failed}
+use Rattle.mgr_mend.specs.declared.merged.Merged.{Merged}
+use Rattle.mgr_mend.specs.declared.fault.MergeFault.{MergeFault}
+use Rattle.mgr_mend.specs.declared.fault.MergeFault.TheVariants as merge
 use Rattle.mgr_show.specs.Authors.{authors_bytes}
 use Rattle.mgr_show.specs.About.{BeginsToWriteAbout, WritesAbout, read_of}
 use Rattle.mgr_show.specs.Numbers.{FailedReads}

@@ -2,7 +2,7 @@
 use Rattle.std.specs.Prelude.{◌≡◌, List, [], ◌∷◌, ◌++◌, ℕ, Option, Some, Result, Ok, Err, IfSome, map}
 use Rattle.mgr_args.specs.declared.job.JobFault.{JobFault}
 use Rattle.mgr_show.specs.declared.fault.MissingFault.{MissingFault}
-use Rattle.mgr_merge.specs.declared.merged.Torn.{Torn}
+use Rattle.mgr_mend.specs.declared.merged.Torn.{Torn}
 use Rattle.mgr_show.specs.declared.fault.JoinFault.{JoinFault}
 use Rattle.mgr_show.specs.declared.fault.ShowFault.{ShowFault}
 use Rattle.mg_session.specs.declared.fault.SessionFault.{SessionFault}

@@ -21,8 +21,7 @@ use mg_live::run_live;
 use mg_screen::Settings;
 use mg_session::{SessionFault, run_keys};
 use mgr_args::{Job, JobFault, Merging, Note, Shown, job_of, job_status, words};
-use mgr_mend::{LeftOut, compact_note, mend_note};
-use mgr_merge::{MergeFault, Torn, merge_logs, put_note};
+use mgr_mend::{LeftOut, MergeFault, Torn, compact_note, mend_note, merge_logs, put_note};
 use mgr_port::{FilePort, Logs};
 use mgr_show::{
     JoinFault, MissingFault, ShowFault, Sources, join_logs, show_note, show_ops, write_authors,

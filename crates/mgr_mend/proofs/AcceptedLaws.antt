@@ -15,7 +15,7 @@ use Rattle.rga_lines.proofs.StandLemmas.{nothing_stands}
 use Rattle.rga_lines.proofs.StreamLemmas.{is_cut}
 use Rattle.mgr_mend.specs.Mending.{Said, operations_said, line_operations, all_lines, whole_operations, is_less_line, beats, is_beaten, unbeaten, have_beaten, fate, mended_as, refused_as, mended_part, refused_part, mended_line, refused_line, mended, refused_of, is_faulty, is_beaten_line, one_if, fate_count, is_torn, left_out_of, nothing_left_out}
 use Rattle.mgr_mend.specs.declared.fate.Fate.{Fate}
-use Rattle.mgr_mend.specs.declared.fate.Fate.TheVariants.{Kept, Beaten, Faulty}
+use Rattle.mgr_mend.specs.declared.fate.Fate.TheVariants.{Kept}
 use Rattle.mgr_mend.proofs.BeatsLemmas.{beats-itself, none_of}
 
 -- ---- operations that agree
@@ -52,11 +52,6 @@ kept_operation : (all : List Op) (line : List ℕ) → IsOperation line → IsUn
 kept_operation all line (ops, e) none =
     let unbeaten_ops : have_beaten all ops ≡ false = none_of (is_beaten all) ops (subst (λ (s : Said). IsUnbeaten all (operations_said s)) e none) in
     ap (fate all) e ∙ rw unbeaten_ops refl
-
-kept_unless : (f : Fate) → is_faulty f ≡ false → is_beaten_line f ≡ false → f ≡ Kept
-kept_unless Kept a b = refl
-kept_unless Beaten a b = absurd (true≢false b)
-kept_unless Faulty a b = absurd (true≢false a)
 
 -- all are kept, and the rest is, or there is none
 pub record AllKept (all : List Op) (lines : List (List ℕ)) (rest : List ℕ) : Type 0 where

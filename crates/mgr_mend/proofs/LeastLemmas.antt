@@ -9,7 +9,6 @@ use Rattle.rga_ops.specs.Operation.{checked, id_of}
 use Rattle.rga_ops.specs.declared.op.Op.{Op}
 use Rattle.rga_ops.specs.declared.op.Op.TheVariants.{Insert, Delete}
 use Rattle.rga_ops.proofs.IdentifierLaws.{is_id-is, is_id-itself}
-use Rattle.rga_ops.proofs.OperationLaws.{Contains-nil}
 use Rattle.rga_lines.specs.Spelling.{IsWritable}
 use Rattle.mgr_mend.specs.Mending.{beats, is_beaten}
 use Rattle.mgr_mend.specs.Parts.{inserts, AreWritableIfSound, IsLeast, HasLeast}
@@ -66,9 +65,6 @@ least-less ops x y id inserted e (there, was, none) =
 -- ---- the map
 
 module _ {S : Type 0} where
-  pub least-none : (m : IndexMap Identifier Op S) → ((id : Identifier) → get is_id m id ≡ None) → HasLeast [] m
-  least-none m none id = rw (none id) (λ op there. absurd (Contains-nil op there))
-
   -- the insertion gets an entry, where the one that it has is beaten or there is none
   pub least-insert : (ops : List Op) (m n : IndexMap Identifier Op S) (x : Op) (id : Identifier) → inserts id x ≡ true → IsLeast (ops ++ x ∷ []) id (Some x)
       → ((other : Identifier) → get is_id n other ≡ (if is_id id other then Some x else get is_id m other))
@@ -91,9 +87,6 @@ module _ {S : Type 0} where
     | inl p ↦ subst (λ (i : Identifier). IsLeast (ops ++ x ∷ []) i (get is_id m i)) (sym (inserts-id id x p)) least
     | inr p ↦ least-other ops x id (get is_id m id) p (has id)
   ]
-
-  pub least-deletion : (ops : List Op) (m : IndexMap Identifier Op S) (id : Identifier) → HasLeast ops m → HasLeast (ops ++ Delete id ∷ []) m
-  least-deletion ops m id has other = least-other ops (Delete id) other (get is_id m other) refl (has other)
 
 -- ---- what the least insertion says
 

@@ -7,3 +7,7 @@ pub mod MendedLemmas
 pub mod AcceptedLaws
 pub mod StayingLaws
 pub mod NoteLaws
+pub mod GuardLemmas
+pub mod TakingLemmas
+pub mod MergeLemmas
+pub mod HeldLaws

@@ -82,9 +82,6 @@ first_left bytes rest n counts own count first left is =
       later_own = ap (drop (unwrap_or count 0)) told ∙ drop_at (map j (line_operations line)) (map j (flat_map line_operations later)) (unwrap_or count 0) long;
     }
 
-pub left_after_first : (bytes line behind : List ℕ) (count : Option ℕ) (counts : List (Option ℕ)) (own : List Judged) → IsFirstLeft bytes line behind count counts own → IsLeft bytes behind (drop 1 counts) (drop (unwrap_or count 0) own)
-left_after_first bytes line behind count counts own first = record { counted = first.later_counts; told = first.later_own }
-
 -- the fate that a line's own operations tell
 pub fate_told : (bytes line : List ℕ) (count : Option ℕ) (own : List Judged) → count ≡ count_said (operations_at line) → own ≡ map (judged (whole_operations bytes)) (line_operations line)
     → judged_fate count own ≡ fate (whole_operations bytes) (operations_at line)

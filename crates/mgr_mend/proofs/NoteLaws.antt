@@ -1,10 +1,8 @@
 -- What is told of a note that is mended.
-use Rattle.std.proofs.Common.{◌≡◌, ◌⊎◌, inl, inr, ◌∙◌, ℕ, Bool, true, false, List, [], ◌∷◌, length, ◌==◌, Option, Some, None, Result, Ok, Err, refl, sym, ap, subst}
+use Rattle.std.proofs.Common.{◌≡◌, ◌⊎◌, inl, inr, ◌∙◌, ℕ, true, false, List, [], ◌∷◌, length, ◌==◌, Option, Some, None, Result, Ok, Err, refl, ap, subst}
 use Rattle.std.specs.Prelude.{IfSome, OnOk, OnErr}
 use Rattle.std.specs.Option.{option_map}
 use Rattle.std.specs.Io.KnownBytes.{Appends}
-use Rattle.std.proofs.lemmas.Bool.{eqb-true}
-use Rattle.std.proofs.lemmas.List.{nil_from_length}
 use Rattle.std.proofs.lemmas.Option.{IfSome_then}
 use Rattle.rga_exchange.specs.Counting.{Calls, Writes}
 use Rattle.mg_files.specs.declared.port.PortFault.{PortFault}
@@ -48,15 +46,6 @@ made_of P f g None opened bytes log refused same whole one two holds = tt
 made_of P f g (Some s) opened bytes log refused same whole one two holds =
     let here : P log refused s = subst (λ o. IfSome o (P log refused)) same holds in
     subst (λ l. P l (g s.log) s) (one ∙ ap f whole) (subst (λ l. P log l s) (two ∙ ap g whole) here)
-
--- with nothing refused what stood there stands there
-pub nothing_refused : (g : List ℕ → List ℕ) (standing found : Option Standing) (bytes refused : List ℕ)
-    → found ≡ standing → IfSome standing (λ s. bytes ≡ s.log) → refused ≡ g bytes → (length refused == 0) ≡ true
-    → IfSome standing (λ s. found ≡ Some (mended_standing (g s.log) s))
-nothing_refused g None found bytes refused same whole is none = tt
-nothing_refused g (Some s) found bytes refused same whole is none =
-    let empty : refused ≡ [] = nil_from_length refused (eqb-true (length refused) 0 none) in
-    same ∙ ap (λ (l : List ℕ). Some (mended_standing l s)) (sym empty ∙ is ∙ ap g whole)
 
 renamed_for : (refused : List ℕ) (s : Standing) → (length refused == 0) ≡ false → renamed whole_steps (mended s.log) ≡ mended_standing refused s
 renamed_for [] s e = let no : true ≡ false = e in absurd cc

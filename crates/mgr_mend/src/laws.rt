@@ -9,8 +9,10 @@ ghost use Rattle.mgr_mend.specs.Mending.{whole_operations, IsBeaten, unbeaten, m
 ghost use Rattle.mgr_mend.specs.Mending.{left_out_of, nothing_left_out, StaysWhole, IsLeftOut};
 
 mod compaction;
+mod merging;
 
 pub use compaction::a_note_keeps_its_content_whenever_the_machine_stops;
+pub use merging::a_merge_holds_the_join;
 
 /// A log that has only operations, no two of which are insertions of one identifier that differ,
 /// stays as it is, and nothing of it is left out.

@@ -42,7 +42,7 @@ pub struct Mended {
 /// after the last newline. Each other line is left out, and a rest that is none was cut off. Of
 /// insertions of one identifier that differ that one stays whose line, as `write_line` writes it,
 /// is the least, byte by byte. A line with one that does not stay is left out; in its place stand
-/// the lines of its other operations, each with its newline. Out of memory is the only refusal.
+/// the lines of its other operations, each with its newline. `AllocError` alone.
 pub fn mend_log(alloc: Global, bytes: &[u8]) -> Result<Mended, AllocError>
     ensures log { IfOk result (λ m. m.log.items ≡ spec.mended bytes.now) }
     ensures refused { IfOk result (λ m. m.refused.items ≡ spec.refused_of bytes.now) }

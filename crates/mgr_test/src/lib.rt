@@ -18,6 +18,8 @@ mod joins;
 #[cfg(test)]
 mod lines;
 #[cfg(test)]
+mod mended;
+#[cfg(test)]
 mod mendings;
 #[cfg(test)]
 mod notes;

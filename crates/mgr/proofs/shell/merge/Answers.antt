@@ -1,5 +1,5 @@
 use Rattle.std.proofs.Common.{◌≡◌, refl, Ok, Err, None}
-use Rattle.mgr_merge.specs.declared.fault.MergeFault.TheVariants.{TextStays}
+use Rattle.mgr_mend.specs.declared.fault.MergeFault.TheVariants.{TextStays}
 use Rattle.mgr.proofs.shell.merge.Goals as goal
 
 pub returns-in-Err-clause-status : goal.returns-in-Err-clause-status

@@ -1,0 +1,74 @@
+//! Why logs are not merged.
+ghost use Rattle.std.specs.Prelude.{◌≡◌};
+ghost use Rattle.mgr_mend.specs.Merging.{at_log, load_fault, port_fault};
+ghost use Rattle.mgr_mend.specs.declared.fault.MergeFault.TheVariants.{Memory};
+
+use mg_files::{LoadFault, PortFault};
+use mgr_show::ShowFault;
+use std::alloc::AllocError;
+
+/// Why `mgr merge` leaves a note as it was, or, with `File` and `Memory`, may have written a part
+/// of it. Logs are named by their index, from 0.
+#[derive(Clone, Copy, PartialEq, Eq)]
+pub enum MergeFault {
+    /// There is a text under the name, and no log: its characters are in no operation.
+    NoLog,
+    /// What stands under the name is not loaded.
+    Load(LoadFault),
+    /// This log is refused or can't be read.
+    Log(usize, ShowFault),
+    /// This log has operations, the note or a log before it has some, and none of the log's is tied
+    /// to these.
+    Apart(usize),
+    /// An operation of this log is new, and its counter is more than 2^32 above all that the note
+    /// knows.
+    Far(usize),
+    /// Nothing is new, and the text that stands there is neither the note's nor that of a log.
+    TextStays,
+    /// A file of the note could not be read or written, or something else has it open.
+    File,
+    /// A growth of memory was refused.
+    Memory,
+}
+
+impl From<AllocError> for MergeFault {
+    ghost from_gives = { λ _ fault. fault ≡ Memory };
+
+    fn from(_: AllocError) -> MergeFault {
+        MergeFault::Memory
+    }
+}
+
+impl From<PortFault> for MergeFault {
+    ghost from_gives = { λ fault e. e ≡ port_fault fault };
+
+    fn from(fault: PortFault) -> MergeFault {
+        match fault {
+            PortFault::File => MergeFault::File,
+            PortFault::Memory => MergeFault::Memory,
+        }
+    }
+}
+
+impl From<LoadFault> for MergeFault {
+    ghost from_gives = { λ fault e. e ≡ load_fault fault };
+
+    fn from(fault: LoadFault) -> MergeFault {
+        match fault {
+            LoadFault::Memory => MergeFault::Memory,
+            other => MergeFault::Load(other),
+        }
+    }
+}
+
+impl MergeFault {
+    /// The fault of the log with this index: memory is no log's.
+    pub(crate) fn at_log(index: usize, fault: ShowFault) -> MergeFault
+        ensures { result ≡ at_log index fault }
+    {
+        match fault {
+            ShowFault::Memory => MergeFault::Memory,
+            other => MergeFault::Log(index, other),
+        }
+    }
+}

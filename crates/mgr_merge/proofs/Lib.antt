@@ -1,4 +1,0 @@
-pub mod GuardLemmas
-pub mod TakingLemmas
-pub mod MergeLemmas
-pub mod HeldLaws

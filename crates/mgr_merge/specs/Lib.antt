@@ -1,4 +1,0 @@
-pub mod Beside
-pub mod Taking
-pub mod Merging
-pub mod MergedHeld
