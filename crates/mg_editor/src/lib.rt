@@ -5,7 +5,7 @@
 //! file, no socket and no terminal in sight: what is asked of the files and of peers is answered as
 //! a `Request`, which `carry` takes to any port. The crate stands on mg_workspace for buffers and
 //! windows, on mg_minibuffer for keys, prompts, messages and what steps lead to, on mg_files for
-//! ports, on mg_sync for peers, and is generic over any `TextStore`. The layer above may rest on
+//! ports and peers, and is generic over any `TextStore`. The layer above may rest on
 //! `Pressed`: which step the keys gave, and what that left of the buffers, the windows, the prompt,
 //! the message and the keys. A press that answers `Memory` changed nothing but that a key sequence
 //! begun is forgotten; where the search behind a replacement finds none, the replacement stays and

@@ -1,1 +1,3 @@
+mod MeetingLaws
+mod JoinedLaws
 pub mod LoadedLaws

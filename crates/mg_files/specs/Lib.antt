@@ -1,3 +1,7 @@
+pub mod Talking
+pub mod Asking
+pub mod Meeting
+pub mod Linking
 pub mod Calls
 pub mod Links
 pub mod Files

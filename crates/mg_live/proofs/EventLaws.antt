@@ -14,7 +14,7 @@ use Rattle.mg_events.specs.Reading.{Told, key, report, refused}
 use Rattle.mg_minibuffer.specs.declared.ending.Request.TheVariants.{Find}
 use Rattle.mg_session.specs.Keys.{request_of, said}
 use Rattle.mg_session.specs.declared.course.Course.TheVariants.{On}
-use Rattle.mg_sync.specs.Asking.{Role}
+use Rattle.mg_files.specs.Asking.{Role}
 use Rattle.mg_workspace.specs.Buffers.{Buffers}
 use Rattle.mg_workspace.specs.Workspaces.{Workspace}
 use Rattle.mg_editor.specs.Editors.{Editor}

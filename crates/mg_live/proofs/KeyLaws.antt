@@ -8,7 +8,7 @@ use Rattle.mg_files.specs.Calls.{Call}
 use Rattle.mg_held.specs.Held.{Held, MayLead}
 use Rattle.mg_minibuffer.specs.declared.ending.Request.TheVariants.{Find}
 use Rattle.mg_session.specs.Keys.{request_of, said}
-use Rattle.mg_sync.specs.Asking.{Role}
+use Rattle.mg_files.specs.Asking.{Role}
 use Rattle.mg_workspace.specs.Workspaces.{Workspace}
 use Rattle.mg_editor.specs.Carrying.{Carried}
 use Rattle.mg_editor.specs.Editors.{Editor}
