@@ -11,7 +11,7 @@
 //! begun is forgotten; where the search behind a replacement finds none, the replacement stays and
 //! query-replace ends. It may rest on `Carried` too: which calls a request makes of a port, and
 //! what that leaves; on the theorems of `laws`; and on those of `held`, which tie presses and
-//! requests to the steps of mg_held. `log_made` and `save_touched` write, of each buffer in turn,
+//! requests to the steps of mg_files. `log_made` and `save_touched` write, of each buffer in turn,
 //! what a live session made: `Sweeps` says what that leaves, and `live_laws` what stays. `frame`
 //! shows the editor's own windows. Any open buffer takes operations of others, and splices that are
 //! undo groups: `taking` and `with_changed` say what that leaves, and where an open search goes

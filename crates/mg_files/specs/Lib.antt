@@ -1,3 +1,7 @@
+pub mod Held
+pub mod Kept
+pub mod Run
+pub mod Writers
 pub mod Talking
 pub mod Asking
 pub mod Meeting

@@ -16,9 +16,14 @@
 //! above may rest on one record of facts for both (`ExchangesOver`): how it ended, which calls were
 //! made of the port up to there, and in which order; what was gained and what stayed, whatever was
 //! answered (`Exchanges`, if nothing is said of links); and what passed over the one link that the
-//! port opened. And `laws` say what follows of links that tell their bytes: two that meet hold one
-//! content, and whatever they tell each other of what they know, each takes a part of what the other
-//! holds.
+//! port opened.
+//!
+//! A port that keeps its files is one whose told calls lead from what it holds at first to what it
+//! holds then (`MayLead`), each load answering what is there. A user may rest on `laws` that between
+//! a load and any later one no word that was held is gone, whatever was refused meanwhile; and that,
+//! over links that tell their bytes, two that meet hold one content, and whatever they tell each
+//! other of what they know, each takes a part of what the other holds. By `writers` writers, each
+//! with its own buffer and files, are sites of a world (rga_world).
 #![tactic(auto)]
 
 mod asking;
@@ -31,6 +36,7 @@ mod port;
 mod saving;
 mod server;
 mod talking;
+pub mod writers;
 
 pub use client::exchange;
 pub use fault::{ExchangeFault, LoadFault};
