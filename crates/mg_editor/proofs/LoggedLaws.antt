@@ -8,7 +8,7 @@ use Rattle.mg_files.specs.Files.{Files}
 use Rattle.mg_files.specs.Held.{Held}
 use Rattle.mg_files.specs.Kept.{IsBuffer, IsLoggedBy, IsWritableWhole}
 use Rattle.mg_files.proofs.OpenSteps.{opened_kept, opened_name}
-use Rattle.mg_files.proofs.RunSteps.{after_run}
+use Rattle.mg_files.proofs.ChangeSteps.{after_run}
 use Rattle.mg_workspace.specs.Workspaces.{Workspace}
 use Rattle.mg_editor.specs.Holding.{AreLogged, GoesOn, IsOpenedBy}
 

@@ -13,7 +13,7 @@ use Rattle.mg_files.specs.declared.fault.LoadFault.{LoadFault}
 use Rattle.mg_files.specs.declared.port.PortFault.{PortFault}
 use Rattle.mg_files.specs.declared.port.PortFault.TheVariants.{File, Memory}
 use Rattle.mg_files.specs.Held.{Held, MayLead}
-use Rattle.mg_files.proofs.RunSteps.{made_are}
+use Rattle.mg_files.proofs.ChangeSteps.{made_are}
 use Rattle.mg_minibuffer.specs.declared.ending.Request.{Request}
 use Rattle.mg_minibuffer.specs.declared.ending.Request.TheVariants as request
 use Rattle.mg_minibuffer.specs.declared.message.Message.TheVariants as message

@@ -1,35 +1,111 @@
--- Logs that are written, beside the buffer that they are of.
-use Rattle.std.proofs.Common.{◌≡◌, ℕ, ◌≤◌, ◌&&◌, Bool, true, false, cond, nat_lt, lit≤, List, [], ◌++◌, length, take, Option, Some, None, Ok, refl, sym, ap, subst, ◌∙◌, le_trans, inl, inr, true≢false}
-use Rattle.std.specs.FinSet as finite_set
-use Rattle.std.proofs.lemmas.Option.{none-some}
-use Rattle.rga_ops.specs.Content.{Content, nothing, join, content_of, known_ids, IsSound, IsWithin}
+-- What a log stands for, through saves and loads.
+use Rattle.std.proofs.Common.{◌≡◌, ℕ, ◌≤◌, List, take, drop, sym, ap, subst, ◌∙◌, ◌&&◌, Bool, true, false, cond, nat_lt, lit≤, [], ◌++◌, length, Option, Some, None, Ok, refl, le_trans, inl, inr, true≢false, ◌||◌, ◌∷◌, Result}
+use Rattle.std.specs.Prelude.{Contains, ◌⊎◌}
+use Rattle.std.proofs.lemmas.List.{take-append-drop}
+use Rattle.std.proofs.lemmas.Option.{same_Some, none-some}
+use Rattle.rga_ops.specs.Content.{Content, element, join, content_of, known_ids, Holds, IsSound, IsWithin, Agree, IsAgreed, nothing}
 use Rattle.rga_ops.specs.ListAnswer.{IsJoinable, AreWellFormed}
-use Rattle.rga_ops.specs.Operations.{operations}
 use Rattle.rga_ops.specs.declared.op.Op.{Op}
-use Rattle.rga_ops.proofs.ContentLaws.{within_itself, within_join, join_nothing, nothing_join, join_assoc}
-use Rattle.rga_ops.proofs.OperationLaws.{content_of-append, Contains-nil}
+use Rattle.rga_ops.specs.declared.op.Op.TheVariants.{Insert, Delete}
+use Rattle.rga_ops.proofs.ContentLaws.{within_itself, within_both, within_join, within_join_second, join_least, join_assoc, join_same, join_nothing, nothing_join}
+use Rattle.rga_ops.proofs.OperationLaws.{inserted-iff, deleted-iff, content_of-append, Contains-nil}
+use Rattle.rga_ops.proofs.TakenLaws.{held_stays}
+use Rattle.rga_ops.proofs.KnownLaws.{known_join, len-le_union}
+use Rattle.rga_ops.proofs.AgreeLaws.{agree_within, agree_joined, agree_swap, agree_nothing, joinable_nothing}
+use Rattle.rga_exchange.specs.Sending.{AreWritable, log_text, StandsFor, GainsFirst}
+use Rattle.mg_files.specs.Kept.{IsWritableWhole, IsLogged, IsThere, OpensSaved, Grows}
+use Rattle.rga_ops.specs.Operations.{operations}
 use Rattle.rga_ops.proofs.OperationsLaws.{content_of-operations, operations_hold, operations_agree}
-use Rattle.rga_ops.proofs.AgreeLaws.{agree_swap, agree_nothing, joinable_nothing}
 use Rattle.rga_ops.proofs.ListAnswerLaws.{joinable_append}
-use Rattle.rga_ops.specs.declared.op.Op.TheVariants.{Insert}
-use Rattle.rga_ops.specs.Content.{IsAgreed}
 use Rattle.rga_lines.specs.Stream.{rest_of}
 use Rattle.rga_lines.specs.Log.{then_operations, log_operations}
 use Rattle.rga_lines.proofs.StandLemmas.{nothing_stands}
 use Rattle.rga_exchange.specs.RunLines.{runs_text}
-use Rattle.rga_exchange.specs.Sending.{log_text, AreWritable, StandsFor, GainsFirst}
 use Rattle.rga_exchange.specs.Log.{log_end}
 use Rattle.rga_exchange.specs.declared.log.LogEnd.{LogEnd}
 use Rattle.rga_exchange.proofs.AppendedLaws.{rest_appended, stands_appended}
 use Rattle.rga_exchange.proofs.BegunLogLaws.{stands_begun}
 use Rattle.rga_exchange.proofs.LogLaws.{log_that_stands}
 use Rattle.rga_exchange.proofs.RunLineLaws.{runs_appended, runs_ended, runs_begun}
-use Rattle.mg_buffer.specs.OpenState.{OpenState}
-use Rattle.mg_files.specs.Saving.{appended_text, most_single, unlogged, written}
-use Rattle.mg_files.specs.Loading.{loaded, of_log, log_loaded}
-use Rattle.mg_files.specs.Held.{log_bytes, BegunLog, EitherLog}
-use Rattle.mg_files.specs.Kept.{IsWritableWhole, IsLogged}
-use Rattle.mg_files.proofs.ContentSteps.{fewer_known, well_formed_all, writable_all, joinable_again, joined_again, joinable_whole, joined_whole}
+use Rattle.mg_buffer.specs.OpenState.{OpenState, has_unsaved, is_changed}
+use Rattle.mg_files.specs.Saving.{appended_text, most_single, unlogged, written, log_call, log_calls, text_call, save_calls, logged, saved}
+use Rattle.mg_files.specs.Loading.{loaded, of_log, log_loaded, either_loaded, files_loaded, opening_answer, opened_and_end}
+use Rattle.mg_files.specs.Held.{log_bytes, BegunLog, EitherLog, Held, MayLeave, MayLead, AnswersLoad}
+use Rattle.mg_files.specs.declared.port.CallKind.TheVariants.{Append, Replace}
+use Rattle.mg_files.specs.declared.port.PortFault.{PortFault}
+use Rattle.mg_files.specs.declared.port.PortFault.TheVariants.{File, Memory}
+use Rattle.mg_files.specs.Calls.{call, refused, refusals, found_call}
+use Rattle.mg_files.specs.Files.{Files, text_bytes}
+use Rattle.std.specs.Result.{result_and}
+use Rattle.mg_files.specs.declared.fault.LoadFault.{LoadFault}
+use Rattle.std.specs.FinSet as finite_set
+
+-- ---- lists of operations within contents
+
+-- a list that agrees holds each of its operations
+pub listed_holds : (ops : List Op) → IsAgreed ops → (op : Op) → Contains ops op → Holds (content_of ops) op
+listed_holds ops agreed (Insert id parent ch) m = (inserted-iff ops agreed id (element parent ch)).1 m
+listed_holds ops agreed (Delete id) m = (deleted-iff ops id).1 m
+
+pub agree_itself : (c : Content) → Agree c c
+agree_itself c id x y f g = same_Some x y (sym f ∙ g)
+
+-- what is within a content adds nothing to it
+pub join_within : (c d : Content) → IsWithin c d → join c d ≡ d
+join_within c d w =
+    within_both (join c d) d (join_least c d d w (within_itself d)) (within_join_second c d (agree_within c d d d w (within_itself d) (agree_itself d)))
+
+-- and knows no more
+pub fewer_known : (c d : Content) → IsWithin c d → finite_set.len (known_ids c) ≤ finite_set.len (known_ids d)
+fewer_known c d w =
+    subst (λ e. finite_set.len (known_ids c) ≤ finite_set.len (known_ids e)) (join_within c d w)
+    (subst (λ s. finite_set.len (known_ids c) ≤ finite_set.len s) (sym (known_join c d)) (len-le_union (known_ids c) (known_ids d)))
+
+-- the first operations of a list are within all
+pub first_within : (n : ℕ) (ops : List Op) → IsWithin (content_of (take n ops)) (content_of ops)
+first_within n ops =
+    subst (λ c. IsWithin (content_of (take n ops)) c)
+    (sym (content_of-append (take n ops) (drop n ops)) ∙ ap content_of (take-append-drop n ops))
+    (within_join (content_of (take n ops)) (content_of (drop n ops)))
+
+-- ---- operations that a content is joined with
+
+pub joined_hold : (c : Content) (ops : List Op) → IsJoinable c ops → (op : Op) → Contains ops op → Holds (join c (content_of ops)) op
+joined_hold c ops joinable op m =
+    held_stays (content_of ops) (join c (content_of ops)) op (within_join_second c (content_of ops) joinable.agree) (listed_holds ops joinable.agreed op m)
+
+pub well_formed_all : (c d : Content) (ops : List Op) → d ≡ join c (content_of ops) → IsJoinable c ops → IsSound d → AreWellFormed ops
+well_formed_all c d ops e joinable sound op m = sound op (subst (λ x. Holds x op) (sym e) (joined_hold c ops joinable op m))
+
+pub writable_all : (c d : Content) (ops : List Op) → d ≡ join c (content_of ops) → IsJoinable c ops → IsWritableWhole d → AreWritable ops
+writable_all c d ops e joinable writable op m = writable op (subst (λ x. Holds x op) (sym e) (joined_hold c ops joinable op m))
+
+-- where the first of the operations are joined, all are still to be joined
+pub joinable_again : (c : Content) (n : ℕ) (ops : List Op) → IsJoinable c ops → IsJoinable (join c (content_of (take n ops))) ops
+joinable_again c n ops joinable = record {
+  agreed = joinable.agreed;
+  agree = agree_joined c (content_of (take n ops)) (content_of ops) joinable.agree
+      (agree_within (content_of (take n ops)) (content_of ops) (content_of ops) (content_of ops) (first_within n ops) (within_itself (content_of ops)) (agree_itself (content_of ops)));
+}
+
+pub joined_again : (c : Content) (n : ℕ) (ops : List Op) → join c (content_of ops) ≡ join (join c (content_of (take n ops))) (content_of ops)
+joined_again c n ops =
+    ap (join c) (sym (join_within (content_of (take n ops)) (content_of ops) (first_within n ops)))
+    ∙ sym (join_assoc c (content_of (take n ops)) (content_of ops))
+
+-- the same where the whole content is what it is joined to
+pub joinable_whole : (c d : Content) (ops : List Op) → d ≡ join c (content_of ops) → IsJoinable c ops → IsJoinable d ops
+joinable_whole c d ops e joinable = record {
+  agreed = joinable.agreed;
+  agree = subst (λ x. Agree x (content_of ops)) (sym e) (agree_joined c (content_of ops) (content_of ops) joinable.agree (agree_itself (content_of ops)));
+}
+
+pub joined_whole : (c d : Content) (ops : List Op) → d ≡ join c (content_of ops) → d ≡ join d (content_of ops)
+joined_whole c d ops e =
+    e ∙ ap (join c) (sym (join_same (content_of ops))) ∙ sym (join_assoc c (content_of ops) (content_of ops))
+    ∙ ap (λ x. join x (content_of ops)) (sym e)
+
+-- ---- logs that are written, beside the buffer that they are of
 
 -- no bytes stand for nothing
 says_none : log_operations [] ≡ []
@@ -206,3 +282,188 @@ log_given held b bytes h =
     let fits : finite_set.len (known_ids (join nothing held)) ≤ b.buffer.limit = subst (λ c. finite_set.len (known_ids c) ≤ b.buffer.limit) (sym (nothing_join held)) (le_trans (fewer_known held b.buffer.content within) h.fits) in
     let read = log_that_stands b.buffer.limit nothing held bytes h.stands (agree_swap held nothing (agree_nothing held)) fits in
     (read.0.end, ap (λ p. of_log bytes (log_end p.1)) read.1 ∙ ap (λ c. Ok (loaded c [] read.0.end)) (sym h.stands.content))
+
+-- ---- what a save leaves of what is held
+
+-- the log under the buffer's name
+abbrev pub own_log : OpenState → Held → Option (List ℕ)
+own_log b s = (s b.buffer.name).log
+
+-- ---- one call
+
+pub log_answered : (held : Content) (b : OpenState) (s t : Held) → IsLogged held b (own_log b s) → MayLeave (log_call b) s t → IsLogged b.buffer.content (written b) (own_log b t)
+log_answered held b s t h m = by b.whole refl m
+  where
+    by : (w : Bool) → b.whole ≡ w → MayLeave (cond w (call Replace b.buffer.name (log_text (operations b.buffer.content))) (call Append b.buffer.name (appended_text b.runs b.buffer.unsaved))) s t → IsLogged b.buffer.content (written b) (own_log b t)
+    by true e m = subst (IsLogged b.buffer.content (written b)) (sym (ap (λ (f : Files). f.log) m.here)) (after_replace held b (own_log b s) h)
+    by false e m = subst (IsLogged b.buffer.content (written b)) (sym (ap (λ (f : Files). f.log) m.here)) (after_append held b (own_log b s) h e)
+
+pub log_refused : (held : Content) (b : OpenState) (s t : Held) → IsLogged held b (own_log b s) → MayLeave (refused (log_call b)) s t → IsFurther held b (own_log b t)
+log_refused held b s t h m = by b.whole refl m
+  where
+    by : (w : Bool) → b.whole ≡ w → MayLeave (refused (cond w (call Replace b.buffer.name (log_text (operations b.buffer.content))) (call Append b.buffer.name (appended_text b.runs b.buffer.unsaved)))) s t → IsFurther held b (own_log b t)
+    by true e m = after_refused_replace held b (own_log b s) (own_log b t) h m.here.0
+    by false e m = after_refused_append held b (own_log b s) (own_log b t) h e m.here.0
+
+pub text_answered : (b : OpenState) (s t : Held) → MayLeave (text_call b) s t → own_log b t ≡ own_log b s
+text_answered b s t m = ap (λ (f : Files). f.log) m.here
+
+pub text_refused : (b : OpenState) (s t : Held) → MayLeave (refused (text_call b)) s t → own_log b t ≡ own_log b s
+text_refused b s t m = m.here
+
+pub nothing_called : (b : OpenState) (s t : Held) → MayLead [] s t → own_log b t ≡ own_log b s
+nothing_called b s t m = ap (λ (f : Files). f.log) (m b.buffer.name)
+
+-- ---- a buffer of which nothing is unsaved
+
+none_unsaved : (b : OpenState) → has_unsaved b ≡ false → b.buffer.unsaved ≡ []
+none_unsaved b e = by b.buffer.unsaved refl
+  where
+    has : List Op → Bool
+    has ops = has_unsaved (record b { buffer = record b.buffer { unsaved = ops } })
+
+    by : (ops : List Op) → b.buffer.unsaved ≡ ops → b.buffer.unsaved ≡ []
+    by [] same = same
+    by (op ∷ ops) same = absurd (true≢false (sym (ap has same) ∙ e))
+
+pub held_is : (held : Content) (b : OpenState) (log : Option (List ℕ)) → IsLogged held b log → has_unsaved b ≡ false → held ≡ b.buffer.content
+held_is held b log h e = sym (h.content ∙ ap (λ ops. join held (content_of ops)) (none_unsaved b e) ∙ join_nothing held)
+
+all_held : (held : Content) (b : OpenState) (log : Option (List ℕ)) → IsLogged held b log → has_unsaved b ≡ false → IsLogged b.buffer.content b log
+all_held held b log h e = subst (λ c. IsLogged c b log) (held_is held b log h e) h
+
+-- the text waits no more
+put : (c : Content) (b : OpenState) (log : Option (List ℕ)) → IsLogged c b log → IsLogged c (record b { text_waits = false }) log
+put c b log h = record {
+  stands = h.stands;
+  absent = h.absent;
+  ended = h.ended;
+  content = h.content;
+  joinable = h.joinable;
+  sound = h.sound;
+  writable = h.writable;
+  fits = h.fits;
+  waits = λ e. absurd (true≢false (sym e));
+}
+
+-- ---- a whole save
+
+pub save_answered : (held : Content) (b : OpenState) (s t : Held) → IsLogged held b (own_log b s) → MayLead (save_calls b) s t → IsLogged b.buffer.content (saved b) (own_log b t)
+save_answered held b s t h m = by (has_unsaved b) b.text_waits refl m
+  where
+    by : (u w : Bool) → has_unsaved b ≡ u → MayLead (cond (u || w) (cond u (log_call b ∷ []) [] ++ text_call b ∷ []) []) s t → IsLogged b.buffer.content (record (cond u (written b) b) { text_waits = false }) (own_log b t)
+    by true w e (r, first, (v, second, last)) =
+        subst (IsLogged b.buffer.content (record (written b) { text_waits = false })) (sym (nothing_called b v t last ∙ text_answered b r v second))
+        (put b.buffer.content (written b) (own_log b r) (log_answered held b s r h first))
+    by false true e (v, second, last) =
+        subst (IsLogged b.buffer.content (record b { text_waits = false })) (sym (nothing_called b v t last ∙ text_answered b s v second))
+        (put b.buffer.content b (own_log b s) (all_held held b (own_log b s) h e))
+    by false false e last =
+        subst (IsLogged b.buffer.content (record b { text_waits = false })) (sym (nothing_called b s t last))
+        (put b.buffer.content b (own_log b s) (all_held held b (own_log b s) h e))
+
+pub save_failed_at_log : (fault : PortFault) (held : Content) (b : OpenState) (s t : Held) → IsLogged held b (own_log b s) → MayLead (refusals fault (log_call b)) s t → IsFurther held b (own_log b t)
+save_failed_at_log File held b s t h (v, first, last) = subst (IsFurther held b) (sym (nothing_called b v t last)) (log_refused held b s v h first)
+save_failed_at_log Memory held b s t h last = subst (IsFurther held b) (sym (nothing_called b s t last)) (stays held b (own_log b s) h)
+
+pub save_failed_at_text : (fault : PortFault) (held : Content) (b : OpenState) (s t : Held) → IsLogged held b (own_log b s) → MayLead (log_calls b ++ refusals fault (text_call b)) s t → IsLogged b.buffer.content (logged b) (own_log b t)
+save_failed_at_text fault held b s t h m = by (has_unsaved b) fault refl m
+  where
+    by : (u : Bool) (fault : PortFault) → has_unsaved b ≡ u → MayLead (cond u (log_call b ∷ []) [] ++ refusals fault (text_call b)) s t → IsLogged b.buffer.content (cond u (written b) b) (own_log b t)
+    by true File e (r, first, (v, second, last)) =
+        subst (IsLogged b.buffer.content (written b)) (sym (nothing_called b v t last ∙ text_refused b r v second)) (log_answered held b s r h first)
+    by true Memory e (r, first, last) =
+        subst (IsLogged b.buffer.content (written b)) (sym (nothing_called b r t last)) (log_answered held b s r h first)
+    by false File e (v, second, last) =
+        subst (IsLogged b.buffer.content b) (sym (nothing_called b v t last ∙ text_refused b s v second)) (all_held held b (own_log b s) h e)
+    by false Memory e last =
+        subst (IsLogged b.buffer.content b) (sym (nothing_called b s t last)) (all_held held b (own_log b s) h e)
+
+-- the text of the buffer is put where anything was changed
+pub text_is_put : (b : OpenState) (s t : Held) → is_changed b ≡ true → MayLead (save_calls b) s t → (t b.buffer.name).text ≡ Some (text_bytes b.buffer.content)
+text_is_put b s t changed m = by (has_unsaved b) b.text_waits changed m
+  where
+    last_text : (r v : Held) → MayLeave (text_call b) r v → MayLead [] v t → (t b.buffer.name).text ≡ Some (text_bytes b.buffer.content)
+    last_text r v m last = ap (λ (f : Files). f.text) (last b.buffer.name ∙ m.here)
+
+    by : (u w : Bool) → (u || w) ≡ true → MayLead (cond (u || w) (cond u (log_call b ∷ []) [] ++ text_call b ∷ []) []) s t → (t b.buffer.name).text ≡ Some (text_bytes b.buffer.content)
+    by true w c (r, first, (v, second, last)) = last_text r v second last
+    by false true c (v, second, last) = last_text s v second last
+    by false false c m = absurd (true≢false (sym c))
+
+-- ---- what is loaded of what is held
+
+abbrev Opening : Type 0
+Opening = Result (Unit {0}) LoadFault
+
+abbrev opens : Opening
+opens = Ok tt
+
+-- files with a log open a buffer with the content that it stands for, nothing of it unsaved
+pub opened_again : (held : Content) (b : OpenState) (f found : Files) → IsLogged held b f.log → IsThere f.log → AnswersLoad f found → opening_answer b.buffer.replica b.buffer.limit ≡ Ok tt
+    → OpensSaved b.buffer.name b.buffer.replica b.buffer.limit found held
+opened_again held b f found h (bytes, there) answers opening =
+    let log : found.log ≡ Some bytes = answers.log ∙ there in
+    let read = log_given held b bytes (subst (IsLogged held b) there h) in
+    let files : files_loaded b.buffer.replica b.buffer.limit found ≡ Ok (loaded held [] read.0) =
+    ap (λ log. either_loaded b.buffer.replica b.buffer.limit log found.text) log ∙ read.1 in
+    record {
+      end = read.0;
+      outcome = (λ k. result_and (opening k) (opened_and_end b.buffer.name b.buffer.replica b.buffer.limit (files k)));
+    }
+
+-- so do those behind a save that answered `Ok`
+pub saved_again : (held : Content) (b : OpenState) (s t u : Held) (found : Files) → IsLogged held b (s b.buffer.name).log → MayLead (save_calls b) s t → IsThere (t b.buffer.name).log
+    → MayLeave (found_call b.buffer.name found) t u → opening_answer b.buffer.replica b.buffer.limit ≡ Ok tt → OpensSaved b.buffer.name b.buffer.replica b.buffer.limit found b.buffer.content
+saved_again held b s t u found h leads there load opening = by (has_unsaved b) refl (save_answered held b s t h leads)
+  where
+    by : (w : Bool) → has_unsaved b ≡ w → IsLogged b.buffer.content (record (cond w (written b) b) { text_waits = false }) (t b.buffer.name).log → OpensSaved b.buffer.name b.buffer.replica b.buffer.limit found b.buffer.content
+    by true e logged = opened_again b.buffer.content (record (written b) { text_waits = false }) (t b.buffer.name) found logged there load.found opening
+    by false e logged = opened_again b.buffer.content (record b { text_waits = false }) (t b.buffer.name) found logged there load.found opening
+
+pub held_within : (held : Content) (b : OpenState) (log : Option (List ℕ)) → IsLogged held b log → IsWithin held b.buffer.content
+held_within held b log h = subst (IsWithin held) (sym h.content) (within_join held (content_of b.buffer.unsaved))
+
+pub grows_at_log : (fault : PortFault) (held : Content) (b : OpenState) (s t : Held) → IsLogged held b (s b.buffer.name).log → MayLead (refusals fault (log_call b)) s t → Grows held b (unlogged b) (t b.buffer.name).log
+grows_at_log fault held b s t h m =
+    let w : IsFurther held b (t b.buffer.name).log = save_failed_at_log fault held b s t h m in
+    record { now = w.now; logged = w.logged; grown = w.grown; within = held_within w.now (unlogged b) (t b.buffer.name).log w.logged }
+
+pub grows_at_text : (fault : PortFault) (held : Content) (b : OpenState) (s t : Held) → IsLogged held b (s b.buffer.name).log → MayLead (log_calls b ++ refusals fault (text_call b)) s t → Grows held b (logged b) (t b.buffer.name).log
+grows_at_text fault held b s t h m = record {
+  now = b.buffer.content;
+  logged = save_failed_at_text fault held b s t h m;
+  grown = held_within held b (s b.buffer.name).log h;
+  within = within_itself b.buffer.content;
+}
+
+-- ---- a text of which no log was made yet
+
+abbrev Outcome : OpenState → Files → Files → Type 0
+Outcome b f g = (g ≡ f) ⊎ IsLogged b.buffer.content (written b) g.log
+
+same_files : (f g : Files) → g.log ≡ f.log → g.text ≡ f.text → g ≡ f
+same_files f g l t = λ k. record { log = l k; text = t k }
+
+either : (held : Content) (b : OpenState) (f g : Files) → IsLogged held b f.log → EitherLog f.log (log_text (operations b.buffer.content)) g.log → g.text ≡ f.text → Outcome b f g
+either held b f g h (inl old) same = inl (same_files f g old same)
+either held b f g h (inr new) same = inr (subst (IsLogged b.buffer.content (written b)) (sym new) (after_replace held b f.log h))
+
+begun : (held : Content) (b : OpenState) (f g : Files) → IsLogged held b f.log → f.log ≡ None → b.whole ≡ false → BegunLog f.log (appended_text b.runs b.buffer.unsaved) g.log → g.text ≡ f.text → Outcome b f g
+begun held b f g h none whole m same = by (subst (λ log. BegunLog log (appended_text b.runs b.buffer.unsaved) g.log) none m)
+  where
+    by : BegunLog None (appended_text b.runs b.buffer.unsaved) g.log → Outcome b f g
+    by (inl old) = inl (same_files f g (old ∙ sym none) same)
+    by (inr new) = inr (subst (IsLogged b.buffer.content (written b)) (ap (λ log. Some (log_bytes log ++ appended_text b.runs b.buffer.unsaved)) none ∙ sym new) (after_append held b f.log h whole))
+
+refused_log : (held : Content) (b : OpenState) (s t : Held) → IsLogged held b (s b.buffer.name).log → (s b.buffer.name).log ≡ None → MayLeave (refused (log_call b)) s t → Outcome b (s b.buffer.name) (t b.buffer.name)
+refused_log held b s t h none m = by b.whole refl m
+  where
+    by : (w : Bool) → b.whole ≡ w → MayLeave (refused (cond w (call Replace b.buffer.name (log_text (operations b.buffer.content))) (call Append b.buffer.name (appended_text b.runs b.buffer.unsaved)))) s t → Outcome b (s b.buffer.name) (t b.buffer.name)
+    by true e m = either held b (s b.buffer.name) (t b.buffer.name) h m.here.0 m.here.1
+    by false e m = begun held b (s b.buffer.name) (t b.buffer.name) h none e m.here.0 m.here.1
+
+-- where the log was not made, the files are as they were; else it has all
+pub text_stays : (fault : PortFault) (held : Content) (b : OpenState) (s t : Held) → IsLogged held b (s b.buffer.name).log → (s b.buffer.name).log ≡ None → MayLead (refusals fault (log_call b)) s t → Outcome b (s b.buffer.name) (t b.buffer.name)
+text_stays File held b s t h none (v, first, last) = subst (Outcome b (s b.buffer.name)) (sym (last b.buffer.name)) (refused_log held b s v h none first)
+text_stays Memory held b s t h none last = inl (last b.buffer.name)

@@ -10,7 +10,7 @@ use Rattle.mg_buffer.specs.OpenState.{OpenState}
 use Rattle.mg_files.specs.Files.{Files}
 use Rattle.mg_files.specs.Held.{Held, log_bytes}
 use Rattle.mg_files.specs.Kept.{IsBuffer, IsLoggedBy}
-use Rattle.mg_files.proofs.LoadSteps.{held_within}
+use Rattle.mg_files.proofs.LogSteps.{held_within}
 use Rattle.mg_files.proofs.OpenSteps.{opened_name}
 use Rattle.mg_workspace.specs.Buffers.{Buffers}
 use Rattle.mg_workspace.specs.Workspaces.{Workspace}

@@ -15,7 +15,7 @@ use Rattle.mg_files.specs.declared.fault.LoadFault.{LoadFault}
 use Rattle.mg_files.specs.Held.{Held, MayLead}
 use Rattle.mg_files.specs.Kept.{IsBuffer, IsLoggedBy}
 use Rattle.mg_files.proofs.OpenSteps.{opened_kept, opened_name}
-use Rattle.mg_files.proofs.RunSteps.{made_are}
+use Rattle.mg_files.proofs.ChangeSteps.{made_are}
 use Rattle.mg_screen.specs.Settings.{Values}
 use Rattle.mg_workspace.specs.Buffers.{no_buffer}
 use Rattle.mg_workspace.specs.Opening.{workspace}

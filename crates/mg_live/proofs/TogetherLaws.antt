@@ -28,7 +28,7 @@ use Rattle.mg_files.specs.Kept.{IsBuffer}
 use Rattle.mg_files.specs.Run.{MayGo}
 use Rattle.mg_files.specs.Writers.{Writer, IsFresh, HaveOwnNumbers, AreReached, IsInALog, all_logged, logged_content, own_files, own_limit, own_replica}
 use Rattle.mg_files.proofs.OpenSteps.{opened_name}
-use Rattle.mg_files.proofs.SharedSteps.{no_list_conflict, one_text}
+use Rattle.mg_files.proofs.WriterSteps.{no_list_conflict, one_text}
 use Rattle.mg_events.specs.Reading.{Told, key, report, refused}
 use Rattle.mg_workspace.specs.Buffers.{Buffers, current_buffer, no_buffer}
 use Rattle.mg_workspace.specs.Workspaces.{Workspace}

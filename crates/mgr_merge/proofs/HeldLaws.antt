@@ -24,7 +24,7 @@ use Rattle.mg_files.specs.Kept.{IsBuffer, IsLogged, IsThere}
 use Rattle.mg_files.specs.Run.{ChangesAlone}
 use Rattle.mg_files.proofs.ChangeSteps.{after_change, taken_joins}
 use Rattle.mg_files.proofs.OpenSteps.{opened_kept, opened_name}
-use Rattle.mg_files.proofs.SaveSteps.{held_is, save_answered, text_is_put}
+use Rattle.mg_files.proofs.LogSteps.{held_is, save_answered, text_is_put}
 use Rattle.mgr_show.specs.Joined.{all_operations}
 use Rattle.mgr_merge.specs.Beside.{Beside}
 use Rattle.mgr_merge.specs.Taking.{logs_taken}

@@ -1,4 +1,4 @@
-use Rattle.mg_files.proofs.JoinSteps.{step_joins}
+use Rattle.mg_files.proofs.ChangeSteps.{step_joins}
 use Rattle.mg_files.proofs.laws.a_step_joins_operations.Goals as goal
 
 pub returns : goal.returns

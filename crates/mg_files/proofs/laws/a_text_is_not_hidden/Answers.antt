@@ -1,4 +1,4 @@
-use Rattle.mg_files.proofs.TextSteps.{text_stays}
+use Rattle.mg_files.proofs.LogSteps.{text_stays}
 use Rattle.mg_files.proofs.laws.a_text_is_not_hidden.Goals as goal
 
 pub returns : goal.returns

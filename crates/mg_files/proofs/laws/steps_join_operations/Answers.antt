@@ -1,4 +1,4 @@
-use Rattle.mg_files.proofs.OwnSteps.{steps_join}
+use Rattle.mg_files.proofs.ChangeSteps.{steps_join}
 use Rattle.mg_files.proofs.laws.steps_join_operations.Goals as goal
 
 pub returns : goal.returns

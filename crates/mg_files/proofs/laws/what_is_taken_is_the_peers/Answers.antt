@@ -1,4 +1,4 @@
-use Rattle.mg_files.proofs.JoinedLaws.{parts}
+use Rattle.mg_files.proofs.MeetingLaws.{parts}
 use Rattle.mg_files.proofs.laws.what_is_taken_is_the_peers.Goals as goal
 
 pub returns : goal.returns

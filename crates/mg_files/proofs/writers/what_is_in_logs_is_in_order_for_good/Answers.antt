@@ -1,6 +1,6 @@
 use Rattle.rga_ops.proofs.GrowLaws.{complete_stays, order_within}
 use Rattle.mg_files.specs.Writers.{all_logged}
-use Rattle.mg_files.proofs.GoodSteps.{all_logged_grows}
+use Rattle.mg_files.proofs.WriterSteps.{all_logged_grows}
 use Rattle.mg_files.proofs.writers.what_is_in_logs_is_in_order_for_good.Goals as goal
 
 pub returns : goal.returns

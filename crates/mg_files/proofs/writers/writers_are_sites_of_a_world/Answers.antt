@@ -1,6 +1,4 @@
-use Rattle.mg_files.proofs.ActSteps.{act_is_events, act_numbers}
-use Rattle.mg_files.proofs.FreshSteps.{fresh_sites, reached_sites}
-use Rattle.mg_files.proofs.GoodSteps.{reached_further}
+use Rattle.mg_files.proofs.WriterSteps.{act_is_events, act_numbers, fresh_sites, reached_sites, reached_further}
 use Rattle.mg_files.proofs.writers.writers_are_sites_of_a_world.Goals as goal
 
 pub returns : goal.returns

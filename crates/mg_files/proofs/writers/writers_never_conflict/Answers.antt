@@ -1,4 +1,4 @@
-use Rattle.mg_files.proofs.SharedSteps.{no_conflict, no_list_conflict}
+use Rattle.mg_files.proofs.WriterSteps.{no_conflict, no_list_conflict}
 use Rattle.mg_files.proofs.writers.writers_never_conflict.Goals as goal
 
 pub returns : goal.returns
