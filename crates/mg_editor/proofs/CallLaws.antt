@@ -13,9 +13,9 @@ use Rattle.mg_files.specs.declared.port.LinkFault.{LinkFault}
 use Rattle.mg_files.specs.declared.port.LinkFault.TheVariants as link
 use Rattle.mg_files.specs.declared.port.PortFault.{PortFault}
 use Rattle.mg_files.specs.declared.port.PortFault.TheVariants.{File, Memory}
-use Rattle.mg_held.specs.Held.{Held, Leaves, MayLeave, MayLead}
-use Rattle.mg_sync.specs.Asking.{Role, Connects, Waits}
-use Rattle.mg_sync.specs.Meeting.{opening}
+use Rattle.mg_files.specs.Held.{Held, Leaves, MayLeave, MayLead}
+use Rattle.mg_files.specs.Asking.{Role, Connects, Waits}
+use Rattle.mg_files.specs.Meeting.{opening}
 
 -- ---- a call, and calls in a row
 

@@ -14,13 +14,13 @@ use Rattle.mg_files.specs.Calls.{Call, Adds, link_call, link_refusals}
 use Rattle.mg_files.specs.Saving.{SavesTo, AtLog, AtText, failed_calls, logged, save_calls, saved, written}
 use Rattle.mg_files.specs.declared.port.CallKind.TheVariants.{Connect, Accept, Finish}
 use Rattle.mg_files.specs.declared.port.PortFault.{PortFault}
-use Rattle.mg_held.specs.Held.{Held, MayLead}
-use Rattle.mg_held.specs.Kept.{IsWritableWhole}
-use Rattle.mg_held.specs.Run.{BufferStep, Saves, Takes, Rests, ChangesAlone, SavesOnce, TakesAll, MayGo, TakesOnly}
-use Rattle.mg_sync.specs.Asking.{Role, Connects, Waits}
-use Rattle.mg_sync.specs.Linking.{Account, PassesOver}
-use Rattle.mg_sync.specs.Talking.{HearsOver}
-use Rattle.mg_sync.specs.Meeting.{Ending, Unsaved, Unopened, Unasked, Unsent, Unended, Met, Came, EndsBehind, Meets, opening}
+use Rattle.mg_files.specs.Held.{Held, MayLead}
+use Rattle.mg_files.specs.Kept.{IsWritableWhole}
+use Rattle.mg_files.specs.Run.{BufferStep, Saves, Takes, Rests, ChangesAlone, SavesOnce, TakesAll, MayGo, TakesOnly}
+use Rattle.mg_files.specs.Asking.{Role, Connects, Waits}
+use Rattle.mg_files.specs.Linking.{Account, PassesOver}
+use Rattle.mg_files.specs.Talking.{HearsOver}
+use Rattle.mg_files.specs.Meeting.{Ending, Unsaved, Unopened, Unasked, Unsent, Unended, Met, Came, EndsBehind, Meets, opening}
 use Rattle.mg_editor.proofs.CallLaws.{AllSpare, all_spared, both_spare, leads_split, saves_spare, failed_spare, opening_spares, unopened_spare, unended_spare}
 
 -- ---- what becomes of a buffer while calls are made, and these operations may be taken

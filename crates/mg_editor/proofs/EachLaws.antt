@@ -7,8 +7,8 @@ use Rattle.std.proofs.lemmas.Option.{same_Some}
 use Rattle.rga_ops.specs.declared.op.Op.{Op}
 use Rattle.mg_buffer.specs.OpenState.{OpenState}
 use Rattle.mg_files.specs.Calls.{Call}
-use Rattle.mg_held.specs.Held.{Held, MayLead}
-use Rattle.mg_held.specs.Run.{MayGo}
+use Rattle.mg_files.specs.Held.{Held, MayLead}
+use Rattle.mg_files.specs.Run.{MayGo}
 use Rattle.mg_workspace.specs.Buffers.{Buffers, current_buffer, no_buffer}
 use Rattle.mg_editor.specs.Holding.{HaveOwnNames, GoesOn}
 use Rattle.mg_editor.proofs.SetLaws.{set_cases}

@@ -21,9 +21,9 @@ use Rattle.mg_buffer.specs.Ran.{Ran, operations_of_splices}
 use Rattle.mg_buffer.specs.Sight.{command_call}
 use Rattle.mg_buffer.specs.State.{State}
 use Rattle.mg_buffer.specs.Undid.{Undid}
-use Rattle.mg_held.specs.Held.{Held}
-use Rattle.mg_held.specs.Kept.{IsWritableWhole}
-use Rattle.mg_held.specs.Run.{BufferStep, Saves, Runs, Undoes, Takes, Rests, ChangesAlone, MayStep, MayGo, TakesOnly}
+use Rattle.mg_files.specs.Held.{Held}
+use Rattle.mg_files.specs.Kept.{IsWritableWhole}
+use Rattle.mg_files.specs.Run.{BufferStep, Saves, Runs, Undoes, Takes, Rests, ChangesAlone, MayStep, MayGo, TakesOnly}
 use Rattle.mg_minibuffer.specs.declared.ending.Action.{Action}
 use Rattle.mg_minibuffer.specs.declared.ending.Action.TheVariants.{Nothing, EndRun, Run, Undo, Arrange, Switch, Kill}
 use Rattle.mg_minibuffer.specs.declared.ending.Ending.{Ending}

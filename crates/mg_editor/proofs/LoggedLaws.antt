@@ -5,10 +5,10 @@ use Rattle.rga_ops.specs.declared.op.Op.{Op}
 use Rattle.mg_buffer.specs.OpenState.{OpenState, with_brief, with_runs}
 use Rattle.mg_buffer.specs.State.{State}
 use Rattle.mg_files.specs.Files.{Files}
-use Rattle.mg_held.specs.Held.{Held}
-use Rattle.mg_held.specs.Kept.{IsBuffer, IsLoggedBy, IsWritableWhole}
-use Rattle.mg_held.proofs.OpenSteps.{opened_kept, opened_name}
-use Rattle.mg_held.proofs.RunSteps.{after_run}
+use Rattle.mg_files.specs.Held.{Held}
+use Rattle.mg_files.specs.Kept.{IsBuffer, IsLoggedBy, IsWritableWhole}
+use Rattle.mg_files.proofs.OpenSteps.{opened_kept, opened_name}
+use Rattle.mg_files.proofs.ChangeSteps.{after_run}
 use Rattle.mg_workspace.specs.Workspaces.{Workspace}
 use Rattle.mg_editor.specs.Holding.{AreLogged, GoesOn, IsOpenedBy}
 

@@ -5,9 +5,9 @@ use Rattle.std.proofs.lemmas.List.Elements.{Contains-get_or}
 use Rattle.rga_ops.specs.declared.op.Op.{Op}
 use Rattle.mg_buffer.specs.OpenState.{OpenState}
 use Rattle.mg_files.specs.Calls.{Call}
-use Rattle.mg_held.specs.Held.{Held, MayLead}
-use Rattle.mg_sync.specs.Asking.{Role}
-use Rattle.mg_sync.specs.Linking.{Account, ExchangesOver}
+use Rattle.mg_files.specs.Held.{Held, MayLead}
+use Rattle.mg_files.specs.Asking.{Role}
+use Rattle.mg_files.specs.Linking.{Account, ExchangesOver}
 use Rattle.mg_workspace.specs.Buffers.{no_buffer}
 use Rattle.mg_workspace.specs.Workspaces.{Workspace, workspace_buffer}
 use Rattle.mg_workspace.specs.declared.failures.Task.TheVariants as task

@@ -8,8 +8,8 @@ use Rattle.mg_plain.specs.declared.command.Command.{Command}
 use Rattle.mg_buffer.specs.OpenState.{OpenState, is_changed}
 use Rattle.mg_buffer.specs.State.{State}
 use Rattle.mg_files.specs.Calls.{Call}
-use Rattle.mg_held.specs.Held.{Held}
-use Rattle.mg_held.specs.Run.{BufferStep, Saves, Runs, Undoes, Takes, Rests, MayStep, MayGo}
+use Rattle.mg_files.specs.Held.{Held}
+use Rattle.mg_files.specs.Run.{BufferStep, Saves, Runs, Undoes, Takes, Rests, MayStep, MayGo}
 use Rattle.mg_minibuffer.specs.declared.ending.Reaction.{Reaction}
 use Rattle.mg_minibuffer.specs.declared.ending.Reaction.TheVariants.{Ends, Replaces, Accepts}
 use Rattle.mg_minibuffer.specs.declared.ending.Request.{Request}

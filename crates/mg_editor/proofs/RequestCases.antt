@@ -7,12 +7,12 @@ use Rattle.mg_buffer.specs.State.{State}
 use Rattle.mg_files.specs.Calls.{Call}
 use Rattle.mg_files.specs.Loading.{load_outcome}
 use Rattle.mg_files.specs.declared.fault.LoadFault.{LoadFault}
-use Rattle.mg_held.proofs.OpenSteps.{opened_name}
+use Rattle.mg_files.proofs.OpenSteps.{opened_name}
 use Rattle.mg_minibuffer.specs.declared.ending.Request.{Request}
 use Rattle.mg_minibuffer.specs.declared.ending.Request.TheVariants as request
 use Rattle.mg_minibuffer.specs.declared.message.Message.TheVariants as message
-use Rattle.mg_sync.specs.Asking.{Role, Connects, Waits}
-use Rattle.mg_sync.specs.Meeting.{Exchanges}
+use Rattle.mg_files.specs.Asking.{Role, Connects, Waits}
+use Rattle.mg_files.specs.Meeting.{Exchanges}
 use Rattle.mg_workspace.specs.Names.{buffer_named}
 use Rattle.mg_workspace.specs.Opening.{is_full}
 use Rattle.mg_workspace.specs.Workspaces.{Workspace, workspace_buffer}

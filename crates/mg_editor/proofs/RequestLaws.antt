@@ -12,12 +12,12 @@ use Rattle.mg_files.specs.Loading.{load_outcome}
 use Rattle.mg_files.specs.declared.fault.LoadFault.{LoadFault}
 use Rattle.mg_files.specs.declared.port.PortFault.{PortFault}
 use Rattle.mg_files.specs.declared.port.PortFault.TheVariants.{File, Memory}
-use Rattle.mg_held.specs.Held.{Held, MayLead}
-use Rattle.mg_held.proofs.RunSteps.{made_are}
+use Rattle.mg_files.specs.Held.{Held, MayLead}
+use Rattle.mg_files.proofs.ChangeSteps.{made_are}
 use Rattle.mg_minibuffer.specs.declared.ending.Request.{Request}
 use Rattle.mg_minibuffer.specs.declared.ending.Request.TheVariants as request
 use Rattle.mg_minibuffer.specs.declared.message.Message.TheVariants as message
-use Rattle.mg_sync.specs.Asking.{Connects, Waits}
+use Rattle.mg_files.specs.Asking.{Connects, Waits}
 use Rattle.mg_workspace.specs.Names.{buffer_named}
 use Rattle.mg_workspace.specs.Opening.{is_full}
 use Rattle.mg_workspace.specs.Workspaces.{Workspace, workspace_buffer}

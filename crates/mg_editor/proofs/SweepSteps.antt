@@ -7,9 +7,9 @@ use Rattle.std.proofs.lemmas.Option.{same_Some, slice_get-get_or}
 use Rattle.mg_buffer.specs.OpenState.{OpenState}
 use Rattle.mg_buffer.specs.State.{State}
 use Rattle.mg_files.specs.Calls.{Call}
-use Rattle.mg_held.specs.Held.{Held, MayLead}
-use Rattle.mg_held.specs.Kept.{IsWritableWhole}
-use Rattle.mg_held.specs.Run.{BufferStep, Rests, ChangesAlone, KeepsOperations, MayGo, TakesOnly}
+use Rattle.mg_files.specs.Held.{Held, MayLead}
+use Rattle.mg_files.specs.Kept.{IsWritableWhole}
+use Rattle.mg_files.specs.Run.{BufferStep, Rests, ChangesAlone, KeepsOperations, MayGo, TakesOnly}
 use Rattle.mg_workspace.specs.Buffers.{Buffers, no_buffer}
 use Rattle.mg_editor.specs.Holding.{AreOpen, HaveOwnNames, GoesOn}
 use Rattle.mg_editor.specs.LiveSaving as live

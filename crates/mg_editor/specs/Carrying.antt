@@ -3,8 +3,8 @@ use Rattle.std.specs.Prelude.{◌≡◌, Bool, true, false, List, Option, Some, 
 use Rattle.mg_files.specs.Calls.{Call}
 use Rattle.mg_files.specs.Saving.{SavesTo}
 use Rattle.mg_files.specs.declared.port.PortFault.{PortFault}
-use Rattle.mg_sync.specs.Asking.{Connects, Waits}
-use Rattle.mg_sync.specs.Meeting.{Exchanges}
+use Rattle.mg_files.specs.Asking.{Connects, Waits}
+use Rattle.mg_files.specs.Meeting.{Exchanges}
 use Rattle.mg_minibuffer.specs.declared.ending.Request.{Request}
 use Rattle.mg_minibuffer.specs.declared.ending.Request.TheVariants.{Idle, Save, Find, Exchange, Serve, Quit}
 use Rattle.mg_minibuffer.specs.declared.message.Message.TheVariants.{Wrote, NoChanges}

@@ -6,8 +6,8 @@ use Rattle.rga_exchange.specs.declared.fault.SendFault.TheVariants as send
 use Rattle.mg_files.specs.declared.port.LinkFault.TheVariants as link
 use Rattle.mg_files.specs.declared.port.PortFault.{PortFault}
 use Rattle.mg_files.specs.declared.port.PortFault.TheVariants as port
-use Rattle.mg_sync.specs.declared.fault.ExchangeFault.{ExchangeFault}
-use Rattle.mg_sync.specs.declared.fault.ExchangeFault.TheVariants as exchange
+use Rattle.mg_files.specs.declared.fault.ExchangeFault.{ExchangeFault}
+use Rattle.mg_files.specs.declared.fault.ExchangeFault.TheVariants as exchange
 use Rattle.mg_workspace.specs.declared.failures.Failure.{Failure}
 use Rattle.mg_workspace.specs.declared.failures.Failure.TheVariants.{Device, Line, Refused, Memory}
 use Rattle.mg_editor.specs.declared.fault.CarryFault.{CarryFault}

@@ -8,9 +8,9 @@ use Rattle.mg_buffer.specs.Groups.{are_revertible}
 use Rattle.mg_buffer.specs.OpenState.{OpenState, with_brief, with_runs}
 use Rattle.mg_files.specs.Files.{Files}
 use Rattle.mg_files.specs.Loading.{load_outcome}
-use Rattle.mg_held.specs.Held.{Held, AnswersLoad}
-use Rattle.mg_held.specs.Kept.{IsWritableWhole, IsLoggedBy}
-use Rattle.mg_held.specs.Run.{BufferStep, MayGo, TakesOnly}
+use Rattle.mg_files.specs.Held.{Held, AnswersLoad}
+use Rattle.mg_files.specs.Kept.{IsWritableWhole, IsLoggedBy}
+use Rattle.mg_files.specs.Run.{BufferStep, MayGo, TakesOnly}
 use Rattle.mg_workspace.specs.Buffers.{Buffers, buffer_at}
 use Rattle.mg_workspace.specs.Workspaces.{Workspace}
 

@@ -1,8 +1,8 @@
 -- What it leads to that the current buffer meets a peer.
 use Rattle.std.specs.Prelude.{Option, Some, None, Result, Ok, Err}
-use Rattle.mg_sync.specs.Asking.{Role, Connects, Waits}
-use Rattle.mg_sync.specs.declared.fault.ExchangeFault.{ExchangeFault}
-use Rattle.mg_sync.specs.declared.talking.Exchanged as talking
+use Rattle.mg_files.specs.Asking.{Role, Connects, Waits}
+use Rattle.mg_files.specs.declared.fault.ExchangeFault.{ExchangeFault}
+use Rattle.mg_files.specs.declared.talking.Exchanged as talking
 use Rattle.mg_minibuffer.specs.declared.ending.Request.{Request}
 use Rattle.mg_minibuffer.specs.declared.ending.Request.TheVariants as request
 use Rattle.mg_minibuffer.specs.declared.message.Message.TheVariants as message

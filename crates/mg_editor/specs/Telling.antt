@@ -10,8 +10,8 @@ use Rattle.mg_files.specs.declared.fault.LoadFault.TheVariants as load
 use Rattle.mg_files.specs.declared.port.LinkFault.TheVariants as link
 use Rattle.mg_files.specs.declared.port.PortFault.{PortFault}
 use Rattle.mg_files.specs.declared.port.PortFault.TheVariants as port
-use Rattle.mg_sync.specs.declared.fault.ExchangeFault.{ExchangeFault}
-use Rattle.mg_sync.specs.declared.fault.ExchangeFault.TheVariants as exchange
+use Rattle.mg_files.specs.declared.fault.ExchangeFault.{ExchangeFault}
+use Rattle.mg_files.specs.declared.fault.ExchangeFault.TheVariants as exchange
 use Rattle.mg_minibuffer.specs.declared.message.Message.{Message}
 use Rattle.mg_minibuffer.specs.declared.message.Message.TheVariants as message
 use Rattle.mg_workspace.specs.declared.fault.Cause.{Cause}

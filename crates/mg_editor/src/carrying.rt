@@ -2,8 +2,8 @@
 ghost use Rattle.std.specs.Prelude.{◌≡◌, ◌<◌, length, IfSome, encode_utf8_all};
 ghost use Rattle.mg_workspace.specs.Buffers.{most_buffers};
 ghost use Rattle.mg_workspace.specs.declared.failures.Task.TheVariants.{Exchange};
-ghost use Rattle.mg_sync.specs.Linking.{account, ExchangesOver};
-ghost use Rattle.mg_sync.specs.Meeting.{CountsFaults};
+ghost use Rattle.mg_files.specs.Linking.{account, ExchangesOver};
+ghost use Rattle.mg_files.specs.Meeting.{CountsFaults};
 ghost use Rattle.mg_editor.specs.Carrying as spec;
 ghost use Rattle.mg_editor.specs.Finding as finding;
 ghost use Rattle.mg_editor.specs.Meeting as meeting;
@@ -46,7 +46,7 @@ impl<S: Teller> Editor<S> {
     /// goes to the buffer of that name, which asks nothing of a port where it is open; else, unless
     /// as many buffers are open as may be, which is said, it is opened by what the port answers to
     /// the load of its name, and is current then, and a log that was torn is told. `Exchange` and
-    /// `Serve` exchange the current buffer with a peer, as `mg_sync::exchange` and `serve` do,
+    /// `Serve` exchange the current buffer with a peer, as `mg_files::exchange` and `serve` do,
     /// and say how many operations were sent and received, or the fault. The other requests ask
     /// nothing of a port.
     ///

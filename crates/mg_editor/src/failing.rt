@@ -7,9 +7,8 @@ ghost use Rattle.mg_editor.specs.Telling as telling;
 
 use crate::editor::Editor;
 use crate::fault::CarryFault;
-use mg_files::{LinkFault, PortFault};
+use mg_files::{ExchangeFault, LinkFault, PortFault};
 use mg_minibuffer::Message;
-use mg_sync::ExchangeFault;
 use mg_workspace::{Failure, Task};
 use rga_exchange::{ReceiveFault, SendFault};
 use rga_store::TextStore;

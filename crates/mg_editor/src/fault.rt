@@ -1,6 +1,5 @@
 //! Why the editor did not do what it was asked.
-use mg_files::{LoadFault, PortFault};
-use mg_sync::ExchangeFault;
+use mg_files::{ExchangeFault, LoadFault, PortFault};
 use std::alloc::AllocError;
 
 /// Why a byte was not pressed, or a frame not made.

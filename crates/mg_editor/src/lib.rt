@@ -5,13 +5,13 @@
 //! file, no socket and no terminal in sight: what is asked of the files and of peers is answered as
 //! a `Request`, which `carry` takes to any port. The crate stands on mg_workspace for buffers and
 //! windows, on mg_minibuffer for keys, prompts, messages and what steps lead to, on mg_files for
-//! ports, on mg_sync for peers, and is generic over any `TextStore`. The layer above may rest on
+//! ports and peers, and is generic over any `TextStore`. The layer above may rest on
 //! `Pressed`: which step the keys gave, and what that left of the buffers, the windows, the prompt,
 //! the message and the keys. A press that answers `Memory` changed nothing but that a key sequence
 //! begun is forgotten; where the search behind a replacement finds none, the replacement stays and
 //! query-replace ends. It may rest on `Carried` too: which calls a request makes of a port, and
 //! what that leaves; on the theorems of `laws`; and on those of `held`, which tie presses and
-//! requests to the steps of mg_held. `log_made` and `save_touched` write, of each buffer in turn,
+//! requests to the steps of mg_files. `log_made` and `save_touched` write, of each buffer in turn,
 //! what a live session made: `Sweeps` says what that leaves, and `live_laws` what stays. `frame`
 //! shows the editor's own windows. Any open buffer takes operations of others, and splices that are
 //! undo groups: `taking` and `with_changed` say what that leaves, and where an open search goes

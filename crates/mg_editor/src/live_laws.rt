@@ -6,7 +6,7 @@ ghost use Rattle.mg_buffer.specs.OpenState.{OpenState};
 ghost use Rattle.mg_files.specs.Calls.{Call};
 ghost use Rattle.mg_files.specs.Saving.{SavesTo, written, unlogged};
 ghost use Rattle.mg_files.specs.declared.port.PortFault.{PortFault};
-ghost use Rattle.mg_held.specs.Held.{Held, MayLead};
+ghost use Rattle.mg_files.specs.Held.{Held, MayLead};
 ghost use Rattle.mg_workspace.specs.Buffers.{Buffers};
 ghost use Rattle.mg_editor.specs.Holding.{AreOpen, HaveOwnNames, GoesOn};
 ghost use Rattle.mg_editor.specs.LiveSaving.{Course, Ended, KeepsBuffer, Sweeps, WritesTo, is_due, is_log_due};
@@ -41,7 +41,7 @@ pub fn a_sweep_changes_no_text()
 {}
 
 /// What is written of a buffer that is due is what some save would write, and leaves what that would
-/// leave. So what mg_held has of saves it has of logs too: what was held stays held.
+/// leave. So what mg_files has of saves it has of logs too: what was held stays held.
 pub fn a_writing_is_a_step_of_a_save()
     ensures { (writing : Writing) (i : ℕ) (ended : Ended) (old new : Option (List Call))
         (b d : OpenState) → is_due writing i b ≡ true → WritesTo writing ended old new b d →

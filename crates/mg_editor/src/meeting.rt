@@ -1,8 +1,8 @@
 //! Meetings of the current buffer with peers.
 ghost use Rattle.std.specs.Prelude.{◌≡◌};
-ghost use Rattle.mg_sync.specs.Asking.{Connects, Waits};
-ghost use Rattle.mg_sync.specs.Linking.{account, ExchangesOver};
-ghost use Rattle.mg_sync.specs.Meeting.{CountsFaults};
+ghost use Rattle.mg_files.specs.Asking.{Connects, Waits};
+ghost use Rattle.mg_files.specs.Linking.{account, ExchangesOver};
+ghost use Rattle.mg_files.specs.Meeting.{CountsFaults};
 ghost use Rattle.mg_workspace.specs.declared.failures.Task.TheVariants.{Exchange};
 ghost use Rattle.mg_editor.specs.Carrying as carrying;
 ghost use Rattle.mg_editor.specs.Meeting as spec;
@@ -10,9 +10,8 @@ ghost use Rattle.mg_editor.specs.Telling as telling;
 
 use crate::editor::Editor;
 use crate::fault::CarryFault;
-use mg_files::Port;
+use mg_files::{ExchangeFault, Exchanged, Port};
 use mg_minibuffer::{Message, Request};
-use mg_sync::{ExchangeFault, Exchanged};
 use mg_workspace::Task;
 use rga_store::Teller;
 
@@ -38,7 +37,7 @@ impl<S: Teller> Editor<S> {
         ensures device { CountsFaults (telling.port_outcome result)
             (P.failures port.old) (P.failures port.new) }
     {
-        let answer = mg_sync::exchange(self.alloc, self.work.current_mut(), port);
+        let answer = mg_files::exchange(self.alloc, self.work.current_mut(), port);
         self.conclude_task(Task::Exchange, meeting_outcome(answer))
     }
 
@@ -53,7 +52,7 @@ impl<S: Teller> Editor<S> {
         ensures device { CountsFaults (telling.port_outcome result)
             (P.failures port.old) (P.failures port.new) }
     {
-        let answer = mg_sync::serve(self.alloc, self.work.current_mut(), port);
+        let answer = mg_files::serve(self.alloc, self.work.current_mut(), port);
         self.conclude_task(Task::Exchange, meeting_outcome(answer))
     }
 }

@@ -4,10 +4,9 @@ ghost use Rattle.mg_editor.specs.Telling as spec;
 
 use crate::editor::Editor;
 use crate::fault::CarryFault;
-use mg_files::{LinkFault, LoadFault, PortFault};
+use mg_files::{ExchangeFault, LinkFault, LoadFault, PortFault};
 use mg_minibuffer::Message;
 use mg_plain::Notice;
-use mg_sync::ExchangeFault;
 use mg_workspace::Cause;
 use rga_exchange::{ReceiveFault, SendFault};
 use rga_store::TextStore;

@@ -1,3 +1,11 @@
+pub mod Held
+pub mod Kept
+pub mod Run
+pub mod Writers
+pub mod Talking
+pub mod Asking
+pub mod Meeting
+pub mod Linking
 pub mod Calls
 pub mod Links
 pub mod Files

@@ -61,7 +61,7 @@ impl<'a> LogLines<'a> {
         }
     }
 
-    /// The lines in memory.
+    /// The lines in memory. `AllocError`, if a growth of memory was refused, is the only error.
     pub fn to_vec(&self) -> Result<Vec<u8>, AllocError>
         ensures ok { IfOk result (λ bytes. bytes.items ≡ self.now) }
     {

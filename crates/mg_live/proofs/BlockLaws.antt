@@ -11,7 +11,7 @@ use Rattle.rga_ops.proofs.ContentLaws.{join_nothing}
 use Rattle.rga_ops.proofs.OperationLaws.{Contains-nil}
 use Rattle.mg_buffer.specs.OpenState.{OpenState}
 use Rattle.mg_files.specs.Calls.{Call}
-use Rattle.mg_held.specs.Held.{Held, MayLead}
+use Rattle.mg_files.specs.Held.{Held, MayLead}
 use Rattle.mg_workspace.specs.Buffers.{Buffers, buffer_at}
 use Rattle.mg_editor.specs.Editors.{Editor}
 use Rattle.mg_editor.specs.Holding.{GoesOn, HaveOwnNames, IsOpen}

@@ -8,11 +8,11 @@ use Rattle.mg_files.specs.Calls.{Call, Adds, load_told}
 use Rattle.mg_files.specs.Files.{Files}
 use Rattle.mg_files.specs.declared.port.PortFault.{PortFault}
 use Rattle.mg_files.specs.declared.port.PortFault.TheVariants.{File, Memory}
-use Rattle.mg_held.specs.Held.{Held, MayLead}
-use Rattle.mg_held.proofs.RunSteps.{made_are}
+use Rattle.mg_files.specs.Held.{Held, MayLead}
+use Rattle.mg_files.proofs.ChangeSteps.{made_are}
 use Rattle.mg_minibuffer.specs.declared.ending.Request.{Request}
 use Rattle.mg_minibuffer.specs.declared.ending.Request.TheVariants as request
-use Rattle.mg_sync.specs.Asking.{Role, Connects, Waits}
+use Rattle.mg_files.specs.Asking.{Role, Connects, Waits}
 use Rattle.mg_workspace.specs.Names.{buffer_named}
 use Rattle.mg_workspace.specs.Workspaces.{Workspace, workspace_buffer}
 use Rattle.mg_editor.specs.Carrying.{Carried}

@@ -6,14 +6,14 @@ use Rattle.std.specs.Str.{all_scalars}
 use Rattle.rga_ops.specs.declared.op.Op.{Op}
 use Rattle.mg_buffer.specs.OpenState.{OpenState}
 use Rattle.mg_files.specs.Calls.{Call}
-use Rattle.mg_held.specs.Held.{Held, MayLead}
-use Rattle.mg_held.specs.Kept.{IsWritableWhole}
-use Rattle.mg_held.specs.Run.{BufferStep, Saves, Runs, Undoes, Takes, Rests, ChangesAlone, KeepsOperations, MayGo, TakesOnly}
+use Rattle.mg_files.specs.Held.{Held, MayLead}
+use Rattle.mg_files.specs.Kept.{IsWritableWhole}
+use Rattle.mg_files.specs.Run.{BufferStep, Saves, Runs, Undoes, Takes, Rests, ChangesAlone, KeepsOperations, MayGo, TakesOnly}
 use Rattle.mg_events.specs.Reading.{Told, key, report, refused}
 use Rattle.mg_minibuffer.specs.declared.ending.Request.TheVariants.{Find}
 use Rattle.mg_session.specs.Keys.{request_of, said}
 use Rattle.mg_session.specs.declared.course.Course.TheVariants.{On}
-use Rattle.mg_sync.specs.Asking.{Role}
+use Rattle.mg_files.specs.Asking.{Role}
 use Rattle.mg_workspace.specs.Buffers.{Buffers}
 use Rattle.mg_workspace.specs.Workspaces.{Workspace}
 use Rattle.mg_editor.specs.Editors.{Editor}

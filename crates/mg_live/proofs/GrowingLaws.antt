@@ -8,10 +8,10 @@ use Rattle.mg_buffer.specs.OpenState.{OpenState}
 use Rattle.mg_buffer.specs.Ran.{operations_of_splices}
 use Rattle.mg_buffer.specs.State.{State}
 use Rattle.mg_buffer.specs.Undid.{undo_operations}
-use Rattle.mg_held.specs.Held.{Held}
-use Rattle.mg_held.specs.Kept.{IsLoggedBy}
-use Rattle.mg_held.specs.Run.{BufferStep, Saves, Runs, Undoes, Takes, Rests, MayStep, MayGo}
-use Rattle.mg_held.proofs.ContentSteps.{joined_hold}
+use Rattle.mg_files.specs.Held.{Held}
+use Rattle.mg_files.specs.Kept.{IsLoggedBy}
+use Rattle.mg_files.specs.Run.{BufferStep, Saves, Runs, Undoes, Takes, Rests, MayStep, MayGo}
+use Rattle.mg_files.proofs.LogSteps.{joined_hold}
 use Rattle.mg_editor.proofs.CourseLaws.{save_keeps}
 use Rattle.mg_live.specs.Standing.{AreHeld}
 

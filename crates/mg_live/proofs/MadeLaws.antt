@@ -6,7 +6,7 @@ use Rattle.std.proofs.lemmas.Bool.{eqb-true}
 use Rattle.std.proofs.lemmas.List.{take-append-drop}
 use Rattle.std.proofs.lemmas.List.Elements.{Contains-append_right, Contains-get_or}
 use Rattle.rga_ops.specs.declared.op.Op.{Op}
-use Rattle.mg_held.specs.Held.{Held}
+use Rattle.mg_files.specs.Held.{Held}
 use Rattle.mg_workspace.specs.Buffers.{buffer_at, no_buffer}
 use Rattle.mg_editor.specs.Editors.{Editor}
 use Rattle.mg_editor.specs.Holding.{AreLogged, HaveOwnNames}

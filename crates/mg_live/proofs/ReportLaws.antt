@@ -12,7 +12,7 @@ use Rattle.rga_lines.specs.Runs.{stretch_operations, run_deletions}
 use Rattle.rga_lines.specs.declared.fault.LineFault.{LineFault}
 use Rattle.rga_lines.specs.declared.fault.LineFault.TheVariants as line
 use Rattle.mg_buffer.specs.OpenState.{OpenState}
-use Rattle.mg_held.specs.Held.{Held}
+use Rattle.mg_files.specs.Held.{Held}
 use Rattle.mg_events.specs.Reports.{report_at}
 use Rattle.mg_events.specs.declared.report.Report.{Report}
 use Rattle.mg_events.specs.declared.report.Report.TheVariants as report

@@ -8,10 +8,10 @@ use Rattle.rga_ops.proofs.OperationLaws.{Contains-append}
 use Rattle.rga_exchange.specs.Sending.{StandsFor}
 use Rattle.mg_buffer.specs.OpenState.{OpenState}
 use Rattle.mg_files.specs.Files.{Files}
-use Rattle.mg_held.specs.Held.{Held, log_bytes}
-use Rattle.mg_held.specs.Kept.{IsBuffer, IsLoggedBy}
-use Rattle.mg_held.proofs.LoadSteps.{held_within}
-use Rattle.mg_held.proofs.OpenSteps.{opened_name}
+use Rattle.mg_files.specs.Held.{Held, log_bytes}
+use Rattle.mg_files.specs.Kept.{IsBuffer, IsLoggedBy}
+use Rattle.mg_files.proofs.LogSteps.{held_within}
+use Rattle.mg_files.proofs.OpenSteps.{opened_name}
 use Rattle.mg_workspace.specs.Buffers.{Buffers}
 use Rattle.mg_workspace.specs.Workspaces.{Workspace}
 use Rattle.mg_editor.specs.Holding.{AreLogged, GoesOn, HaveOwnNames, IsOpen, IsOpenedBy}

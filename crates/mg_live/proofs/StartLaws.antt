@@ -12,10 +12,10 @@ use Rattle.mg_files.specs.Calls.{Call, Adds, found_call}
 use Rattle.mg_files.specs.Files.{Files}
 use Rattle.mg_files.specs.Loading.{load_outcome}
 use Rattle.mg_files.specs.declared.fault.LoadFault.{LoadFault}
-use Rattle.mg_held.specs.Held.{Held, MayLead}
-use Rattle.mg_held.specs.Kept.{IsBuffer, IsLoggedBy}
-use Rattle.mg_held.proofs.OpenSteps.{opened_kept, opened_name}
-use Rattle.mg_held.proofs.RunSteps.{made_are}
+use Rattle.mg_files.specs.Held.{Held, MayLead}
+use Rattle.mg_files.specs.Kept.{IsBuffer, IsLoggedBy}
+use Rattle.mg_files.proofs.OpenSteps.{opened_kept, opened_name}
+use Rattle.mg_files.proofs.ChangeSteps.{made_are}
 use Rattle.mg_screen.specs.Settings.{Values}
 use Rattle.mg_workspace.specs.Buffers.{no_buffer}
 use Rattle.mg_workspace.specs.Opening.{workspace}

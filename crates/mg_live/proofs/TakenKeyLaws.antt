@@ -4,8 +4,8 @@ use Rattle.std.specs.Prelude.{IfSome}
 use Rattle.mg_minibuffer.specs.declared.ending.Request.{Request}
 use Rattle.mg_session.specs.Keys.{request_of, said}
 use Rattle.mg_session.specs.Moments.{ToldCalls}
-use Rattle.mg_sync.specs.Asking.{Role}
-use Rattle.mg_sync.specs.Linking.{Account, ExchangesOver}
+use Rattle.mg_files.specs.Asking.{Role}
+use Rattle.mg_files.specs.Linking.{Account, ExchangesOver}
 use Rattle.mg_workspace.specs.Workspaces.{Workspace}
 use Rattle.mg_workspace.specs.declared.failures.Task.TheVariants as task
 use Rattle.mg_editor.specs.Carrying.{Carried}

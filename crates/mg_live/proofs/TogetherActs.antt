@@ -1,4 +1,4 @@
--- What becomes of a live buffer, as acts of a writer of mg_held.
+-- What becomes of a live buffer, as acts of a writer of mg_files.
 use Rattle.std.proofs.Common.{◌≡◌, ◌≤◌, inl, inr, ◌∙◌, ℕ, zero, suc, List, [], ◌∷◌, Some, Ok, slice_get, slice_set, refl, sym, ap, subst}
 use Rattle.std.specs.List.{Contains}
 use Rattle.rga_ops.specs.Content.{Content, Holds, IsSound, IsWithin, known_count}
@@ -10,16 +10,16 @@ use Rattle.rga_world.proofs.ListPlaces.{contains_at, contains_place, set_here, s
 use Rattle.mg_buffer.specs.OpenState.{OpenState}
 use Rattle.mg_files.specs.Files.{Files}
 use Rattle.mg_files.specs.Loading.{load_outcome}
-use Rattle.mg_held.specs.Held.{Held, AnswersLoad, log_bytes}
-use Rattle.mg_held.specs.Kept.{IsBuffer, IsWritableWhole}
-use Rattle.mg_held.specs.Run.{BufferStep, Saves, Runs, Undoes, Takes, Rests, ChangesAlone, HoldsMore, KeepsOperations, MayGo, MayStep, TakesOnly}
-use Rattle.mg_held.specs.Writers.{Writer, Act, Steps, Opens, own_files, own_limit, own_replica, AreReached, Becomes, IsInALog, IsOpenedAnew, IsSiteOf, MayAct, TakesLogged, all_logged}
-use Rattle.mg_held.proofs.FreshSteps.{reached_sites}
-use Rattle.mg_held.proofs.GoodSteps.{all_logged_grows, reached_further}
-use Rattle.mg_held.proofs.JoinSteps.{step_replica}
-use Rattle.mg_held.proofs.OpenEvents.{opening_follows, opening_replica}
-use Rattle.mg_held.proofs.RunSteps.{after_step}
-use Rattle.mg_held.proofs.WriterSteps.{step_follows}
+use Rattle.mg_files.specs.Held.{Held, AnswersLoad, log_bytes}
+use Rattle.mg_files.specs.Kept.{IsBuffer, IsWritableWhole}
+use Rattle.mg_files.specs.Run.{BufferStep, Saves, Runs, Undoes, Takes, Rests, ChangesAlone, HoldsMore, KeepsOperations, MayGo, MayStep, TakesOnly}
+use Rattle.mg_files.specs.Writers.{Writer, Act, Steps, Opens, own_files, own_limit, own_replica, AreReached, Becomes, IsInALog, IsOpenedAnew, IsSiteOf, MayAct, TakesLogged, all_logged}
+use Rattle.mg_files.proofs.WriterSteps.{reached_sites}
+use Rattle.mg_files.proofs.WriterSteps.{all_logged_grows, reached_further}
+use Rattle.mg_files.proofs.ChangeSteps.{step_replica}
+use Rattle.mg_files.proofs.WriterEvents.{opening_follows, opening_replica}
+use Rattle.mg_files.proofs.ChangeSteps.{after_step}
+use Rattle.mg_files.proofs.WriterSteps.{step_follows}
 use Rattle.mg_workspace.specs.Workspaces.{Workspace}
 use Rattle.mg_editor.specs.Holding.{IsOpenedBy}
 use Rattle.mg_live.proofs.StageLaws.{opened_as}

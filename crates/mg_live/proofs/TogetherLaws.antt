@@ -1,4 +1,4 @@
--- Writers in live sessions are writers of mg_held, whatever they do.
+-- Writers in live sessions are writers of mg_files, whatever they do.
 use Rattle.std.proofs.Common.{◌≡◌, ◌≤◌, ◌⊎◌, inl, inr, ◌∙◌, ℕ, zero, suc, true, List, [], ◌∷◌, map, Some, None, Err, slice_get, slice_set, filter, refl, sym, ap, subst}
 use Rattle.std.specs.Prelude.{encode_utf8_all, IfSome}
 use Rattle.std.specs.List.{Contains}
@@ -23,10 +23,10 @@ use Rattle.rga_world.proofs.ListPlaces.{contains_at, contains_place, mapped_plac
 use Rattle.mg_buffer.specs.OpenState.{OpenState}
 use Rattle.mg_files.specs.Files.{Files}
 use Rattle.mg_files.specs.Loading.{loaded, opened}
-use Rattle.mg_held.specs.Held.{Held, log_bytes}
-use Rattle.mg_held.specs.Run.{MayGo}
-use Rattle.mg_held.specs.Writers.{Writer, IsFresh, HaveOwnNumbers, AreReached, IsInALog, all_logged, logged_content, own_files, own_limit, own_replica}
-use Rattle.mg_held.proofs.SharedSteps.{no_list_conflict, one_text}
+use Rattle.mg_files.specs.Held.{Held, log_bytes}
+use Rattle.mg_files.specs.Run.{MayGo}
+use Rattle.mg_files.specs.Writers.{Writer, IsFresh, HaveOwnNumbers, AreReached, IsInALog, all_logged, logged_content, own_files, own_limit, own_replica}
+use Rattle.mg_files.proofs.WriterSteps.{no_list_conflict, one_text}
 use Rattle.mg_events.specs.Reading.{Told, key, report, refused}
 use Rattle.mg_workspace.specs.Buffers.{current_buffer, no_buffer}
 use Rattle.mg_workspace.specs.Workspaces.{Workspace}
@@ -304,7 +304,7 @@ module _ (xs ys : List LiveWriter) (told : List Op) (ws : List Writer) (number :
             | inr other ↦ (u, ap (λ us. slice_get us i) a.moved.now ∙ other, fit)
           ]
 
--- writers of mg_held that go along, whose logs grew
+-- writers of mg_files that go along, whose logs grew
 record Follows (ys : List LiveWriter) (more : List Op) (ws : List Writer) : Type 0 where
   writers : List Writer
   beside : Beside ys more writers

@@ -4,8 +4,8 @@ use Rattle.std.specs.List.{Contains}
 use Rattle.rga_ops.specs.declared.op.Op.{Op}
 use Rattle.mg_buffer.specs.OpenState.{OpenState}
 use Rattle.mg_files.specs.Calls.{Call}
-use Rattle.mg_held.specs.Held.{Held, MayLead}
-use Rattle.mg_sync.specs.Meeting.{CountsFaults}
+use Rattle.mg_files.specs.Held.{Held, MayLead}
+use Rattle.mg_files.specs.Meeting.{CountsFaults}
 use Rattle.mg_minibuffer.specs.declared.ending.Request.{Request}
 use Rattle.mg_minibuffer.specs.declared.ending.Request.TheVariants as request
 use Rattle.mg_editor.specs.Carrying as carrying

@@ -8,7 +8,7 @@ use Rattle.rga_lines.specs.Runs.{stretch_operations, run_deletions}
 use Rattle.rga_lines.specs.declared.fault.LineFault.{LineFault}
 use Rattle.rga_exchange.specs.Sending.{StandsFor}
 use Rattle.mg_buffer.specs.OpenState.{OpenState}
-use Rattle.mg_held.specs.Held.{Held, log_bytes}
+use Rattle.mg_files.specs.Held.{Held, log_bytes}
 use Rattle.mg_events.specs.Reading.{Told, key, report, refused}
 use Rattle.mg_events.specs.Reports.{report_at}
 use Rattle.mg_events.specs.declared.report.Report.{Report}

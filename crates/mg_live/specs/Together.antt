@@ -9,8 +9,8 @@ use Rattle.rga_exchange.specs.Sending.{StandsFor}
 use Rattle.rga_world.specs.Together.{join_of}
 use Rattle.mg_buffer.specs.OpenState.{OpenState}
 use Rattle.mg_files.specs.Calls.{Call}
-use Rattle.mg_held.specs.Held.{Held, MayLead, log_bytes}
-use Rattle.mg_held.specs.Writers.{Writer, own_limit, own_replica}
+use Rattle.mg_files.specs.Held.{Held, MayLead, log_bytes}
+use Rattle.mg_files.specs.Writers.{Writer, own_limit, own_replica}
 use Rattle.mg_events.specs.Reading.{Told, key, report, refused}
 use Rattle.mg_editor.specs.Editors.{Editor}
 use Rattle.mg_editor.specs.Meeting.{role_of}
@@ -169,7 +169,7 @@ pub record AreLive (xs : List LiveWriter) (told : List Op) : Type 0 where
   pub acts : List LiveAct
   pub lead : MayLiveOn first [] acts xs told
 
--- ---- the writers of mg_held that they are
+-- ---- the writers of mg_files that they are
 
 -- of the same name, numbers and files; its buffer is the live buffer, where that is open
 pub record IsWriter (x : LiveWriter) (w : Writer) : Type 0 where

@@ -1,14 +1,14 @@
 //! Laws of the definitions, each proved by a function with nothing to do.
 //!
 //! Those on what is held are of a port whose told calls lead from what it holds before to what it
-//! holds after (`MayLead`), as those of mg_held. They have as a premise what the types keep of each
+//! holds after (`MayLead`), as those of mg_files. They have as a premise what the types keep of each
 //! moment (`AreKept`), and between the press of a key and what it requests (`AreKeptWithin`).
 ghost use Rattle.std.specs.Prelude.{◌≡◌, ◌≤◌, ◌++◌, ℕ, Bool, List, [], length, Some, None, Ok};
 ghost use Rattle.std.specs.List.{Contains};
 ghost use Rattle.rga_ops.specs.Splice.{Splice, spliced};
 ghost use Rattle.mg_buffer.specs.OpenState.{OpenState};
 ghost use Rattle.mg_files.specs.Calls.{Call};
-ghost use Rattle.mg_held.specs.Held.{Held, MayLead};
+ghost use Rattle.mg_files.specs.Held.{Held, MayLead};
 ghost use Rattle.mg_events.specs.Reading.{Told};
 ghost use Rattle.mg_editor.specs.Editors.{Editor};
 ghost use Rattle.mg_editor.specs.Holding.{GoesOn};
@@ -71,8 +71,8 @@ pub fn what_is_told_is_in_the_log()
 /// open before, or was opened by what was held. What its steps take of others is what a report
 /// says, and what came of a peer that a key asked to meet.
 ///
-/// By `steps_join_operations` of mg_held it then holds what it held, what its replica made, and what
-/// it took. If what is taken is in logs, sessions are writers of mg_held: each step is an act of
+/// By `steps_join_operations` of mg_files it then holds what it held, what its replica made, and what
+/// it took. If what is taken is in logs, sessions are writers of mg_files: each step is an act of
 /// theirs, and so is an opening.
 pub fn a_live_buffer_goes_by_steps()
     ensures event { (event : Told) (before after : Moment) (taken : TakesEvent event before after)

@@ -14,10 +14,10 @@ ghost use Rattle.rga_ops.specs.declared.op.Op.{Op};
 ghost use Rattle.rga_ops.specs.declared.refusal.Refusal.TheVariants.{Conflict};
 ghost use Rattle.rga_world.specs.Together.{HaveSameIdentifiers};
 ghost use Rattle.mg_buffer.specs.OpenState.{OpenState};
-ghost use Rattle.mg_held.specs.Writers.{Writer, AreReached, IsInALog};
+ghost use Rattle.mg_files.specs.Writers.{Writer, AreReached, IsInALog};
 ghost use Rattle.mg_live.specs.Together.{LiveWriter, LiveAct, MayLiveOn, AreLive, IsLiveBuffer, IsLoggedByOne, IsShared, AreWriters, all_live_logged};
 
-/// Writers in live sessions are writers of mg_held, which are sites of a world: what each of them
+/// Writers in live sessions are writers of mg_files, which are sites of a world: what each of them
 /// does is a list of commands, undos, saves and openings, and takes what is in logs.
 pub fn live_writers_are_writers()
     ensures { (xs : List LiveWriter) (told : List Op) → AreLive xs told → (ws : List Writer)

@@ -19,12 +19,12 @@ use Rattle.mg_files.specs.Files.{Files, text_bytes}
 use Rattle.mg_files.specs.Loading.{opened_and_end, of_log, either_loaded}
 use Rattle.mg_files.specs.Saving.{save_calls}
 use Rattle.mg_files.specs.declared.fault.LoadFault.{LoadFault}
-use Rattle.mg_held.specs.Held.{Held, MayLead, log_bytes}
-use Rattle.mg_held.specs.Kept.{IsBuffer, IsLogged, IsThere}
-use Rattle.mg_held.specs.Run.{ChangesAlone}
-use Rattle.mg_held.proofs.ChangeSteps.{after_change, taken_joins}
-use Rattle.mg_held.proofs.OpenSteps.{opened_kept, opened_name}
-use Rattle.mg_held.proofs.SaveSteps.{held_is, save_answered, text_is_put}
+use Rattle.mg_files.specs.Held.{Held, MayLead, log_bytes}
+use Rattle.mg_files.specs.Kept.{IsBuffer, IsLogged, IsThere}
+use Rattle.mg_files.specs.Run.{ChangesAlone}
+use Rattle.mg_files.proofs.ChangeSteps.{after_change, taken_joins}
+use Rattle.mg_files.proofs.OpenSteps.{opened_kept, opened_name}
+use Rattle.mg_files.proofs.LogSteps.{held_is, save_answered, text_is_put}
 use Rattle.mgr_show.specs.Joined.{all_operations}
 use Rattle.mgr_mend.specs.Beside.{Beside}
 use Rattle.mgr_mend.specs.Taking.{logs_taken}

@@ -2,7 +2,7 @@
 use Rattle.std.specs.Prelude.{ℕ, List}
 use Rattle.rga_ops.specs.Content.{Content, join, content_of}
 use Rattle.rga_exchange.specs.Sending.{StandsFor}
-use Rattle.mg_held.specs.Held.{Held, log_bytes}
+use Rattle.mg_files.specs.Held.{Held, log_bytes}
 use Rattle.mgr_show.specs.Joined.{all_operations}
 
 -- the log of the name stood for this content, and stands for it with all operations of the logs

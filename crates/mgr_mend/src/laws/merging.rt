@@ -3,8 +3,8 @@ ghost use Rattle.std.specs.Prelude.{◌≡◌, ◌++◌, ℕ, Bool, true, List, 
 ghost use Rattle.mg_buffer.specs.OpenState.{is_changed};
 ghost use Rattle.mg_files.specs.Calls.{Call};
 ghost use Rattle.mg_files.specs.Files.{text_bytes};
-ghost use Rattle.mg_held.specs.Held.{Held, MayLead};
-ghost use Rattle.mg_held.specs.Kept.{IsBuffer};
+ghost use Rattle.mg_files.specs.Held.{Held, MayLead};
+ghost use Rattle.mg_files.specs.Kept.{IsBuffer};
 ghost use Rattle.mgr_mend.specs.Merging.{Merges, due};
 ghost use Rattle.mgr_mend.specs.MergedHeld.{HoldsJoin};
 ghost use Rattle.mgr_mend.specs.declared.merged.Torn.{Torn};

@@ -1,5 +1,0 @@
-use Rattle.mg_held.proofs.RunSteps.{after_save}
-use Rattle.mg_held.proofs.laws.a_save_loses_nothing.Goals as goal
-
-pub returns : goal.returns
-returns c = λ answer held. after_save held answer

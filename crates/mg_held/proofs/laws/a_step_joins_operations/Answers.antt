@@ -1,5 +1,0 @@
-use Rattle.mg_held.proofs.JoinSteps.{step_joins}
-use Rattle.mg_held.proofs.laws.a_step_joins_operations.Goals as goal
-
-pub returns : goal.returns
-returns c = λ step b d s t. step_joins step b d s t

@@ -1,5 +1,0 @@
-use Rattle.mg_held.proofs.RunSteps.{after_step}
-use Rattle.mg_held.proofs.laws.what_is_held_stays_held.Goals as goal
-
-pub returns : goal.returns
-returns c = λ step held. after_step held step

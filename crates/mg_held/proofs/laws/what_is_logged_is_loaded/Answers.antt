@@ -1,5 +1,0 @@
-use Rattle.mg_held.proofs.LoadSteps.{opened_again}
-use Rattle.mg_held.proofs.laws.what_is_logged_is_loaded.Goals as goal
-
-pub returns : goal.returns
-returns c = opened_again

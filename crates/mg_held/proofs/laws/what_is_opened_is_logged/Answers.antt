@@ -1,5 +1,0 @@
-use Rattle.mg_held.proofs.OpenSteps.{opened_kept}
-use Rattle.mg_held.proofs.laws.what_is_opened_is_logged.Goals as goal
-
-pub returns : goal.returns
-returns c = opened_kept

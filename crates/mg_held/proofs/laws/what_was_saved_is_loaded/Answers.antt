@@ -1,6 +1,0 @@
-use Rattle.mg_held.proofs.LoadSteps.{saved_again}
-use Rattle.mg_held.proofs.SaveSteps.{save_answered, text_is_put}
-use Rattle.mg_held.proofs.laws.what_was_saved_is_loaded.Goals as goal
-
-pub returns : goal.returns
-returns c = record { logged = save_answered; loaded = saved_again; text = text_is_put }

@@ -1,5 +1,0 @@
-use Rattle.mg_held.proofs.SharedSteps.{no_conflict, no_list_conflict}
-use Rattle.mg_held.proofs.writers.writers_never_conflict.Goals as goal
-
-pub returns : goal.returns
-returns c = record { one = no_conflict; list = no_list_conflict }

@@ -1,2 +1,0 @@
-mod MeetingLaws
-mod JoinedLaws

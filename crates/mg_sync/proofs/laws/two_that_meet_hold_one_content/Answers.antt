@@ -1,5 +1,0 @@
-use Rattle.mg_sync.proofs.JoinedLaws.{meet}
-use Rattle.mg_sync.proofs.laws.two_that_meet_hold_one_content.Goals as goal
-
-pub returns : goal.returns
-returns g c = meet

@@ -1,5 +1,0 @@
-use Rattle.mg_sync.proofs.JoinedLaws.{exchange_joins, serve_joins}
-use Rattle.mg_sync.proofs.laws.what_a_link_tells_is_joined.Goals as goal
-
-pub returns : goal.returns
-returns g c = record { exchanges = exchange_joins; serves = serve_joins }

@@ -1,5 +1,0 @@
-use Rattle.mg_sync.proofs.JoinedLaws.{has_link}
-use Rattle.mg_sync.proofs.laws.what_is_exchanged_has_a_link.Goals as goal
-
-pub returns : goal.returns
-returns g c = has_link

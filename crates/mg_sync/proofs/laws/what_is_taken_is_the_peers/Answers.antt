@@ -1,5 +1,0 @@
-use Rattle.mg_sync.proofs.JoinedLaws.{parts}
-use Rattle.mg_sync.proofs.laws.what_is_taken_is_the_peers.Goals as goal
-
-pub returns : goal.returns
-returns g c = parts

@@ -1,4 +1,0 @@
-pub mod Talking
-pub mod Asking
-pub mod Meeting
-pub mod Linking
