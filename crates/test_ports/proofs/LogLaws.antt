@@ -16,4 +16,3 @@ pub given_up_as : (fault : PortFault) (bytes log : List ℕ) (begun steps : List
 given_up_as fault bytes log begun steps none s =
     let is : steps ≡ s.made = told_from begun steps s.made none s.tells in
     inl (steps ++ Removes ∷ [], record { begun = s.made; begins = s.begins; is = ap (λ (l : List DiskStep). l ++ Removes ∷ []) is }, refl)
-
