@@ -3,7 +3,7 @@ use Rattle.std.proofs.Common.{◌≡◌, ◌∙◌, ℕ, zero, suc, ◌+◌, Lis
 use Rattle.std.proofs.lemmas.List.{map-append}
 use Rattle.std.proofs.lemmas.Option.{same_Some}
 use Rattle.mg_screen.specs.Layout.{Window, heights}
-use Rattle.mg_status.specs.declared.status.WindowStatus.{WindowStatus}
+use Rattle.mg_events.specs.declared.status.WindowStatus.{WindowStatus}
 use Rattle.mg_workspace.proofs.ShownWindows.{taken_on}
 use Rattle.mg_workspace.specs.Buffers.{Buffers, buffer_at}
 use Rattle.mg_workspace.specs.Viewports.{shown_buffers}

@@ -10,7 +10,7 @@ use Rattle.mg_screen.specs.Cursor.{echo_cursor}
 use Rattle.mg_screen.specs.Screen.{Screen}
 use Rattle.mg_screen.specs.Sideways.{rows_at_point, cursor_at_point, cell_of_place}
 use Rattle.mg_screen.specs.declared.screen.Position.{Position}
-use Rattle.mg_status.specs.declared.status.PlaceStatus.{PlaceStatus}
+use Rattle.mg_events.specs.declared.status.PlaceStatus.{PlaceStatus}
 use Rattle.mg_workspace.specs.AtIndex.{state_at}
 use Rattle.mg_workspace.specs.Viewports.{shown_buffers}
 use Rattle.mg_workspace.specs.Workspaces.{Workspace}

@@ -9,12 +9,12 @@ use Rattle.mg_minibuffer.specs.declared.prompt.Prompt.{Prompt}
 use Rattle.mg_minibuffer.specs.declared.prompt.Prompt.TheVariants.{Line, Replacement, Searching, Replacing, Quitting}
 use Rattle.mg_screen.specs.Layout.{Window}
 use Rattle.mg_screen.specs.Lines.{line_index, column_of}
-use Rattle.mg_status.specs.declared.status.Asking.{Asking}
-use Rattle.mg_status.specs.declared.status.Asking.TheVariants as asking
-use Rattle.mg_status.specs.declared.status.BufferStatus.{BufferStatus}
-use Rattle.mg_status.specs.declared.status.PointStatus.{PointStatus}
-use Rattle.mg_status.specs.declared.status.PromptStatus.{PromptStatus}
-use Rattle.mg_status.specs.declared.status.WindowStatus.{WindowStatus}
+use Rattle.mg_events.specs.declared.status.Asking.{Asking}
+use Rattle.mg_events.specs.declared.status.Asking.TheVariants as asking
+use Rattle.mg_events.specs.declared.status.BufferStatus.{BufferStatus}
+use Rattle.mg_events.specs.declared.status.PointStatus.{PointStatus}
+use Rattle.mg_events.specs.declared.status.PromptStatus.{PromptStatus}
+use Rattle.mg_events.specs.declared.status.WindowStatus.{WindowStatus}
 use Rattle.mg_workspace.specs.Buffers.{Buffers, buffer_at}
 use Rattle.mg_workspace.specs.Workspaces.{Workspace}
 use Rattle.mg_workspace.specs.declared.viewport.Viewport.{Viewport}

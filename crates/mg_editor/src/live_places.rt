@@ -8,8 +8,8 @@ ghost use Rattle.mg_workspace.specs.Viewports.{shown_buffers};
 ghost use Rattle.mg_editor.specs.LiveShowing as spec;
 
 use mg_buffer::Buffer;
+use mg_events::PlaceStatus;
 use mg_screen::{Screen, cell_of_place};
-use mg_status::PlaceStatus;
 use mg_workspace::Workspace;
 use rga_ops::Id;
 use rga_store::TextStore;

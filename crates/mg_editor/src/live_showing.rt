@@ -11,8 +11,8 @@ ghost use Rattle.mg_editor.specs.LiveShowing as spec;
 use crate::editor::Editor;
 use crate::fault::Fault;
 use crate::live_places::place_cells;
+use mg_events::PlaceStatus;
 use mg_screen::{FrameFault, Position, Screen, cursor_at_point, echo_cursor, frame_at_point};
-use mg_status::PlaceStatus;
 use rga_ops::Id;
 use rga_store::TextStore;
 

@@ -13,9 +13,9 @@ ghost use Rattle.mg_editor.specs.LiveStatus as spec;
 
 use crate::editor::Editor;
 use crate::fault::Fault;
+use mg_events::{Asking, BufferStatus, PointStatus, PromptStatus, WindowStatus};
 use mg_minibuffer::Prompt;
 use mg_screen::column_of;
-use mg_status::{Asking, BufferStatus, PointStatus, PromptStatus, WindowStatus};
 use mg_workspace::Workspace;
 use rga_ops::Id;
 use rga_store::{TextStore, position_of};

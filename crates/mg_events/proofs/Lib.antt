@@ -4,3 +4,5 @@ mod PlaceLemmas
 mod WrittenLaws
 mod MemoryLaws
 mod FaultLaws
+pub mod AddedLemmas
+pub mod DepthLemmas

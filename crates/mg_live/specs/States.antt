@@ -5,7 +5,7 @@ use Rattle.rga_ops.specs.Identifier.{Identifier}
 use Rattle.mg_files.specs.declared.port.PortFault.{PortFault}
 use Rattle.mg_editor.specs.Editors.{Editor}
 use Rattle.mg_screen.specs.declared.screen.Position.{Position}
-use Rattle.mg_status.specs.declared.status.PlaceStatus.{PlaceStatus}
+use Rattle.mg_events.specs.declared.status.PlaceStatus.{PlaceStatus}
 use Rattle.mg_session.specs.Moments.{ToldCalls, Known}
 use Rattle.mg_session.specs.declared.course.Course.{Course}
 use Rattle.mg_live.specs.Gathering.{Gathered}

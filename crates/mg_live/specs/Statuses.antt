@@ -17,11 +17,11 @@ use Rattle.mg_editor.specs.LiveShowing.{live_rows, live_cursor, place_cells, mod
 use Rattle.mg_session.specs.Moments.{Known}
 use Rattle.mg_session.specs.declared.course.Course.{Course}
 use Rattle.mg_session.specs.declared.course.Course.TheVariants.{On, Quit, NoKeys, NoScreen, NoMemory}
-use Rattle.mg_status.specs.StatusText.{status_text}
-use Rattle.mg_status.specs.declared.status.BufferStatus.{BufferStatus}
-use Rattle.mg_status.specs.declared.status.Saved.{Saved}
-use Rattle.mg_status.specs.declared.status.Saved.TheVariants.{Unsaved, Done, File, Memory}
-use Rattle.mg_status.specs.declared.status.Status.{Status}
+use Rattle.mg_events.specs.StatusText.{status_text}
+use Rattle.mg_events.specs.declared.status.BufferStatus.{BufferStatus}
+use Rattle.mg_events.specs.declared.status.Saved.{Saved}
+use Rattle.mg_events.specs.declared.status.Saved.TheVariants.{Unsaved, Done, File, Memory}
+use Rattle.mg_events.specs.declared.status.Status.{Status}
 use Rattle.mg_workspace.specs.Buffers.{buffer_at}
 use Rattle.mg_workspace.specs.Workspaces.{workspace_buffer}
 use Rattle.mg_live.specs.Changes.{Changes}

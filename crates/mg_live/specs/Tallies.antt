@@ -1,7 +1,7 @@
 -- How many keys and reports were taken, and which reports were refused.
 use Rattle.std.specs.Prelude.{ℕ, List, [], ◌∷◌, ◌++◌}
 use Rattle.rga_exchange.specs.Counting.{one_more}
-use Rattle.mg_status.specs.declared.status.RefusedReport.{RefusedReport}
+use Rattle.mg_events.specs.declared.status.RefusedReport.{RefusedReport}
 use Rattle.mg_live.specs.FaultNames.{report_fault_name}
 use Rattle.mg_live.specs.declared.fault.ReportFault.{ReportFault}
 

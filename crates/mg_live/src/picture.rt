@@ -1,7 +1,7 @@
 //! Statuses, with what stands after them.
 ghost use Rattle.std.specs.Prelude.{◌≡◌, ℕ, IfOk, IfSome, OnSome, None, false, string_bytes};
 ghost use Rattle.mg_live.specs.Made.{live_index};
-ghost use Rattle.mg_status.specs.StatusText.{status_text};
+ghost use Rattle.mg_events.specs.StatusText.{status_text};
 ghost use Rattle.mg_editor.specs.Frames.{placed_editor};
 ghost use Rattle.mg_session.specs.Moments.{ToldCalls, seen};
 ghost use Rattle.mg_live.specs.States.{moment};
@@ -10,9 +10,9 @@ ghost use Rattle.mg_live.specs.Statuses as spec;
 use crate::live::Live;
 use crate::shown::{Shown, are_same_rows};
 use mg_editor::Editor;
+use mg_events::{BufferStatus, Saved, Status, status_line};
 use mg_files::PortFault;
 use mg_session::{Course, push_rows, write_bytes};
-use mg_status::{BufferStatus, Saved, Status, status_line};
 use rga_exchange::Counted;
 use rga_ops::Splice;
 use rga_store::TextStore;

@@ -2,8 +2,8 @@
 ghost use Rattle.std.specs.Prelude.{◌≡◌, map, nat_eq, string_bytes};
 ghost use Rattle.std.specs.Cmp.Lexicographic.{pointwise};
 
+use mg_events::PlaceStatus;
 use mg_screen::Position;
-use mg_status::PlaceStatus;
 use std::alloc::Global;
 use std::marker::Model;
 

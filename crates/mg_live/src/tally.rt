@@ -3,7 +3,7 @@ ghost use Rattle.std.specs.Prelude.{◌≡◌, OnOk, OnErr};
 ghost use Rattle.mg_live.specs.Tallies as spec;
 
 use crate::fault::ReportFault;
-use mg_status::RefusedReport;
+use mg_events::RefusedReport;
 use std::alloc::{AllocError, Global};
 use std::marker::Model;
 

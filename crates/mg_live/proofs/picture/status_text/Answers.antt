@@ -1,8 +1,8 @@
 use Rattle.std.proofs.Common.{rules, ◌≡◌, Result, IfOk, String, Global, string_bytes, ◌∙◌, refl}
 use Rattle.std.proofs.lemmas.Result.{IfOk-weaker}
 use Rattle.mg_editor.specs.Editors.{Editor}
-use Rattle.mg_status.specs.StatusText.{status_text}
-use Rattle.mg_status.specs.declared.status.Status.{Status}
+use Rattle.mg_events.specs.StatusText.{status_text}
+use Rattle.mg_events.specs.declared.status.Status.{Status}
 use Rattle.mg_live.specs.States.{Live}
 use Rattle.mg_live.specs.Statuses as spec
 use Rattle.mg_live.specs.declared.picture.After.{After}

@@ -1,2 +1,0 @@
-pub mod AddedLemmas
-pub mod DepthLemmas

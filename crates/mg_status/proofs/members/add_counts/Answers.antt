@@ -1,8 +1,0 @@
-use Rattle.mg_status.specs.Objects.{count}
-use Rattle.mg_status.proofs.AddedLemmas.{token, array_added, left_none}
-use Rattle.mg_status.proofs.members.add_counts.Goals as goal
-
-pub returns : goal.returns
-returns c =
-    let all = left_none count c.args.values.now c.loop-value.value-index c.loop-value-test.false c.loop-value.invariant in
-    array_added _ (token c.in_ok-begin_array.ensures) all (token c.in_ok-end_array.ensures)

@@ -1,7 +1,0 @@
-use Rattle.std.proofs.Common.{drop, map}
-use Rattle.mg_status.specs.Objects.{count}
-use Rattle.mg_status.proofs.AddedLemmas.{Left}
-use Rattle.mg_status.proofs.members.add_counts.Given as goal
-
-abbrev pub invariant-loop-value : goal.invariant-loop-value
-invariant-loop-value l = Left l.initial.writer l.writer (map count l.values) (map count (drop l.value-index l.values))

@@ -1,3 +1,0 @@
-pub mod Objects
-pub mod StatusText
-pub mod Added
