@@ -27,15 +27,7 @@ among c (x ∷ xs) h =
     let w : (y : Element) × (finite_map.get c.inserted x ≡ Some y) = inserted_if_complete c x h.0 in
     let rest : zip (replicas (filter (is_kept c) xs)) (filter_map (shown c) xs) ≡ filter_map (authored_of c) xs = among c xs h.1 in
     let here : character c x ≡ Some w.0.ch = ap (option_map (λ (y : Element). y.ch)) w.1 in
-    let with_replica : ℕ → Authored = λ ch. (x.replica, ch) in
-    elim (finite_set.contains c.deleted x) as (λ b. zip (replicas (cond (not b) (x ∷ filter (is_kept c) xs) (filter (is_kept c) xs))) (cons_option (cond b None (character c x)) (filter_map (shown c) xs))
-    ≡ cons_option (option_map with_replica (cond b None (character c x))) (filter_map (authored_of c) xs)) [
-      | true ↦ rest
-      | false ↦
-          ap (λ o. zip (x.replica ∷ replicas (filter (is_kept c) xs)) (cons_option o (filter_map (shown c) xs))) here
-          ∙ ap (λ l. with_replica w.0.ch ∷ l) rest
-          ∙ sym (ap (λ o. cons_option (option_map with_replica o) (filter_map (authored_of c) xs)) here)
-    ]
+    grind (arith, here, rest)
 
 -- the visible elements and the characters of the text, side by side
 pub authored_is : (c : Content) → zip (replicas (visible c)) (text c) ≡ authored c

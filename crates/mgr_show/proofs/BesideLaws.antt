@@ -1,7 +1,6 @@
 -- What is told of the text that stands beside a log.
-use Rattle.std.proofs.Common.{◌≡◌, ◌≢◌, ℕ, List, Option, Some, None, Result, Ok, Err, Bool, true, false, refl, sym, subst, inl, inr}
-use Rattle.std.specs.Prelude.{IfSome, IfErr, if◌then◌else◌}
-use Rattle.std.specs.Str.{bytes_eq}
+use Rattle.std.proofs.Common.{◌≡◌, ◌≢◌, ℕ, List, Option, Some, None, Result, Ok, Err, sym, subst, inl, inr}
+use Rattle.std.specs.Prelude.{IfSome, IfErr}
 use Rattle.rga_ops.specs.Content.{Content}
 use Rattle.rga_exchange.specs.declared.log.LogRead.{LogRead}
 use Rattle.mgr_show.specs.Shown.{log_content, shown_bytes}

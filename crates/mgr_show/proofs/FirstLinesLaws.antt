@@ -23,12 +23,7 @@ first_lines-byte n b bytes =
 pub lines_of-first_lines : (n : ℕ) (bytes : List ℕ) → lines_of (first_lines n bytes) ≡ take n (lines_of bytes)
 lines_of-first_lines zero bytes = ap lines_of (no_lines bytes)
 lines_of-first_lines (suc n) [] = refl
-lines_of-first_lines (suc n) (b ∷ bytes) = ap lines_of (first_lines-byte n b bytes) ∙ by_byte (b == newline) (λ m. lines_of-first_lines m bytes)
-  where
-    by_byte : (ends : Bool) → ((m : ℕ) → lines_of (first_lines m bytes) ≡ take m (lines_of bytes))
-        → cond ends ([] ∷ lines_of (first_lines (cond ends n (suc n)) bytes)) (to_first_line b (lines_of (first_lines (cond ends n (suc n)) bytes))) ≡ take (suc n) (cond ends ([] ∷ lines_of bytes) (to_first_line b (lines_of bytes)))
-    by_byte true behind = ap (λ (l : List (List ℕ)). [] ∷ l) (behind n)
-    by_byte false behind = ap (to_first_line b) (behind (suc n)) ∙ to_first_line-take b n (lines_of bytes)
+lines_of-first_lines (suc n) (b ∷ bytes) = grind (arith, first_lines-byte n b bytes, lines_of-first_lines n bytes, lines_of-first_lines (suc n) bytes, to_first_line-take b n (lines_of bytes))
 
 pub rest_of-first_lines : (n : ℕ) (bytes : List ℕ) → n ≤ length (lines_of bytes) → rest_of (first_lines n bytes) ≡ []
 rest_of-first_lines zero bytes some = ap rest_of (no_lines bytes)
@@ -52,8 +47,4 @@ rest_of-first_lines (suc n) (b ∷ bytes) some = ap rest_of (first_lines-byte n 
 pub all_lines : (n : ℕ) (bytes : List ℕ) → length (lines_of bytes) < n → first_lines n bytes ≡ bytes
 all_lines zero bytes fewer = absurd (omega (arith, fewer))
 all_lines (suc n) [] fewer = refl
-all_lines (suc n) (b ∷ bytes) fewer = first_lines-byte n b bytes ∙ by_byte (b == newline) fewer (λ m. all_lines m bytes)
-  where
-    by_byte : (ends : Bool) → length (cond ends ([] ∷ lines_of bytes) (to_first_line b (lines_of bytes))) < suc n → ((m : ℕ) → length (lines_of bytes) < m → first_lines m bytes ≡ bytes) → b ∷ first_lines (cond ends n (suc n)) bytes ≡ b ∷ bytes
-    by_byte true fewer behind = ap (λ (l : List ℕ). b ∷ l) (behind n (omega (arith, fewer)))
-    by_byte false fewer behind = ap (λ (l : List ℕ). b ∷ l) (behind (suc n) (subst (λ k. k < suc n) (length-to_first_line b (lines_of bytes)) fewer))
+all_lines (suc n) (b ∷ bytes) fewer = grind (arith, fewer, first_lines-byte n b bytes, all_lines n bytes, all_lines (suc n) bytes, length-to_first_line b (lines_of bytes))

@@ -21,10 +21,6 @@ pub record TellsLeft (limit : ℕ) (start now : Content) (n : ℕ) (had has : Bo
   pub outcome : joined_from limit 0 start logs ≡ joined_from limit n now rest
   pub runs : (had || list_any has_deletion_runs logs) ≡ (has || list_any has_deletion_runs rest)
 
-pub tells_all : (all : Option (List (List ℕ))) (limit : ℕ) (start : Content) (had : Bool) → IfSome all (TellsLeft limit start start 0 had had all)
-tells_all None limit start had = tt
-tells_all (Some logs) limit start had = record { rest = logs; told = refl; outcome = refl; runs = refl }
-
 -- the first log that is left is told, and so are those behind it
 pub record IsSplit (first : Option (List ℕ)) (later : Option (List (List ℕ))) (rest : List (List ℕ)) : Type 0 where
   pub bytes : List ℕ

@@ -7,6 +7,7 @@ use Rattle.std.specs.declared.cmp.Ordering.{Ordering}
 use Rattle.std.specs.declared.cmp.Ordering.TheVariants.{Less, Equal, Greater}
 use Rattle.std.specs.BTreeSet.{insert_key}
 use Rattle.std.proofs.lemmas.Bool.Decides.{nat_tests}
+use Rattle.std.proofs.Math.Bool.{or-false}
 use Rattle.std.proofs.lemmas.Option.{none-some}
 use Rattle.mgr_show.specs.Authors.{Authored, before_lines, authored_lines, length_of_line, and_writers, writers}
 use Rattle.mgr_show.specs.Meant.{IsEnded, IsRest, AreLines, IsRising}
@@ -22,10 +23,7 @@ with_commas f x (y ∷ ys) = ap (λ r. f x ++ 44 ∷ r) (with_commas f y ys)
 -- ---- lines
 
 pub peel_line : (x : Authored) (xs : List Authored) → authored_lines (x ∷ xs) ≡ take (length_of_line (x ∷ xs)) (x ∷ xs) ∷ authored_lines (drop (length_of_line (x ∷ xs)) (x ∷ xs))
-peel_line x [] = elim (x.1 == 10) as (λ b. (x ∷ []) ∷ [] ≡ take (cond b 1 (1 + 0)) (x ∷ []) ∷ authored_lines (drop (cond b 1 (1 + 0)) (x ∷ []))) [
-  | true ↦ refl
-  | false ↦ refl
-]
+peel_line x [] = grind arith
 peel_line x (y ∷ ys) =
     let n : ℕ = length_of_line (y ∷ ys) in
     let line : List Authored = take n (y ∷ ys) in
@@ -46,12 +44,7 @@ first_line f (y ∷ ys) x n first is =
 
 pub line_within : (xs : List Authored) → length_of_line xs ≤ length xs
 line_within [] = omega arith
-line_within (x ∷ xs) =
-    let rest : length_of_line xs ≤ length xs = line_within xs in
-    elim (x.1 == 10) as (λ b. cond b 1 (1 + length_of_line xs) ≤ suc (length xs)) [
-      | true ↦ omega arith
-      | false ↦ omega (arith, rest)
-    ]
+line_within (x ∷ xs) = grind (arith, line_within xs)
 
 -- ---- they are lines
 
@@ -60,10 +53,7 @@ all_of ls = flat_map (λ l. l) ls
 
 before_all : (x : Authored) (ls : List (List Authored)) → all_of (before_lines x ls) ≡ x ∷ all_of ls
 before_all x [] = refl
-before_all x (l ∷ ls) = elim (x.1 == 10) as (λ b. all_of (cond b ((x ∷ []) ∷ l ∷ ls) ((x ∷ l) ∷ ls)) ≡ x ∷ all_of (l ∷ ls)) [
-  | true ↦ refl
-  | false ↦ refl
-]
+before_all x (l ∷ ls) = grind arith
 
 pub all_lines : (xs : List Authored) → all_of (authored_lines xs) ≡ xs
 all_lines [] = refl
@@ -100,44 +90,16 @@ are_lines (x ∷ xs) = before_are x (authored_lines xs) (are_lines xs)
 abbrev has : ℕ → List ℕ → Bool
 has n ns = list_any (λ m. m == n) ns
 
-or_again : (a b : Bool) → (a || (a || b)) ≡ (a || b)
-or_again true b = refl
-or_again false b = refl
-
-or_swap : (a b c : Bool) → (a || (b || c)) ≡ (b || (a || c))
-or_swap true true c = refl
-or_swap true false c = refl
-or_swap false b c = refl
-
 has_inserted : (n k : ℕ) (ns : List ℕ) → has n (insert_key nat_cmp ns k) ≡ ((k == n) || has n ns)
 has_inserted n k [] = refl
-has_inserted n k (x ∷ ns) = elim (nat_lt k x) as (λ b. has n (match_ordering (cond b Less (cond (k == x) Equal Greater)) (k ∷ x ∷ ns) (x ∷ ns) (x ∷ insert_key nat_cmp ns k)) ≡ ((k == n) || ((x == n) || has n ns))) [
-  | true ↦ refl
-  | false ↦ elim (k == x) as (λ b. (k == x) ≡ b → has n (match_ordering (cond b Equal Greater) (k ∷ x ∷ ns) (x ∷ ns) (x ∷ insert_key nat_cmp ns k)) ≡ ((k == n) || ((x == n) || has n ns))) [
-    | true ↦ λ t. sym (ap (λ m. (m == n) || ((x == n) || has n ns)) (same_replica k x t) ∙ or_again (x == n) (has n ns))
-    | false ↦ λ t. ap (λ b. (x == n) || b) (has_inserted n k ns) ∙ or_swap (x == n) (k == n) (has n ns)
-  ] refl
-]
+has_inserted n k (x ∷ ns) = grind (arith, nat_tests, has_inserted n k ns)
 
 has_writers : (n : ℕ) (ns : List ℕ) (xs : List Authored) → has n (and_writers ns xs) ≡ (list_any (λ (x : Authored). x.0 == n) xs || has n ns)
 has_writers n ns [] = refl
-has_writers n ns (x ∷ xs) =
-    has_writers n (insert_key nat_cmp ns x.0) xs
-    ∙ ap (λ b. list_any (λ (y : Authored). y.0 == n) xs || b) (has_inserted n x.0 ns)
-    ∙ turned (list_any (λ (y : Authored). y.0 == n) xs) (x.0 == n) (has n ns)
-  where
-    turned : (a b c : Bool) → (a || (b || c)) ≡ ((b || a) || c)
-    turned true true c = refl
-    turned true false c = refl
-    turned false true c = refl
-    turned false false c = refl
-
-or_none : (a : Bool) → (a || false) ≡ a
-or_none true = refl
-or_none false = refl
+has_writers n ns (x ∷ xs) = grind (arith, has_writers n (insert_key nat_cmp ns x.0) xs, has_inserted n x.0 ns)
 
 pub are_writers : (xs : List Authored) (n : ℕ) → has n (writers xs) ≡ list_any (λ (x : Authored). x.0 == n) xs
-are_writers xs n = has_writers n [] xs ∙ or_none (list_any (λ (x : Authored). x.0 == n) xs)
+are_writers xs n = has_writers n [] xs ∙ or-false (list_any (λ (x : Authored). x.0 == n) xs)
 
 is_less : (n m : ℕ) → nat_lt n m ≡ true → n < m
 is_less n m h = grind (arith, nat_tests, h)

@@ -16,7 +16,6 @@ use Rattle.rga_exchange.specs.Sending.{StandsFor, log_text}
 use Rattle.rga_exchange.specs.declared.log.LogRead.{LogRead}
 use Rattle.rga_brief.specs.Summary.{Summary, missing}
 use Rattle.rga_brief.proofs.MissingLaws.{sent_agreed, missing_well_formed}
-use Rattle.mgr_show.specs.Shown.{log_content}
 use Rattle.mgr_show.specs.Stored.{IsRead}
 use Rattle.mgr_show.specs.Missing.{claims_heard, lacked, OnBoth, WritesMissing, BeginsMissing}
 

@@ -25,10 +25,7 @@ all_characters ps = flat_map (λ (p : Piece). p.chars) ps
 
 before_characters : (x : Authored) (ps : List Piece) → all_characters (before_pieces x ps) ≡ x.1 ∷ all_characters ps
 before_characters x [] = refl
-before_characters x (p ∷ ps) = elim (p.replica == x.0) as (λ b. all_characters (cond b (piece x.0 (x.1 ∷ p.chars) ∷ ps) (piece x.0 (x.1 ∷ []) ∷ p ∷ ps)) ≡ x.1 ∷ all_characters (p ∷ ps)) [
-  | true ↦ refl
-  | false ↦ refl
-]
+before_characters x (p ∷ ps) = grind arith
 
 characters_of_pieces : (xs : List Authored) → all_characters (pieces xs) ≡ characters xs
 characters_of_pieces [] = refl
@@ -41,10 +38,7 @@ text_of_pieces c = characters_of_pieces (authored c) ∙ characters_among c (ord
 
 before_whole : (x : Authored) (ps : List Piece) → flat_map authored_in (before_pieces x ps) ≡ x ∷ flat_map authored_in ps
 before_whole x [] = refl
-before_whole x (p ∷ ps) = elim (p.replica == x.0) as (λ b. (p.replica == x.0) ≡ b → flat_map authored_in (cond b (piece x.0 (x.1 ∷ p.chars) ∷ ps) (piece x.0 (x.1 ∷ []) ∷ p ∷ ps)) ≡ x ∷ flat_map authored_in (p ∷ ps)) [
-  | true ↦ λ h. ap (λ r. x ∷ (map (λ ch. (r, ch)) p.chars ++ flat_map authored_in ps)) (sym (same_replica p.replica x.0 h))
-  | false ↦ λ h. refl
-] refl
+before_whole x (p ∷ ps) = grind (arith, same_replica)
 
 some : (n : ℕ) → 0 < suc n
 some n = omega arith

@@ -57,13 +57,7 @@ others_are_deletions c n is =
 -- ---- what is told of a replica
 
 at_is : (n k : ℕ) → is_at (nat_cmp n) k ≡ (k == n)
-at_is n k = elim (nat_lt n k) as (λ b. nat_lt n k ≡ b → is_eq (cond b Less (cond (n == k) Equal Greater)) ≡ (k == n)) [
-  | true ↦ λ t. grind (arith, nat_tests, t)
-  | false ↦ λ t. elim (n == k) as (λ b. (n == k) ≡ b → is_eq (cond b Equal Greater) ≡ (k == n)) [
-    | true ↦ λ s. grind (arith, nat_tests, s)
-    | false ↦ λ s. grind (arith, nat_tests, s)
-  ] refl
-] refl
+at_is n k = grind (arith, nat_tests)
 
 -- the look-up by the plain test
 found : ℕ → List (ℕ × Tally) → Option Tally
@@ -78,25 +72,7 @@ found_is n (e ∷ es) = λ k. cond (at_is n e.0 k) (Some e.1) (found_is n es k)
 found_put : (n r : ℕ) (v : Tally) (es : List (ℕ × Tally)) → found n (insert_entry nat_cmp es r v) ≡ cond (r == n) (Some v) (found n es)
 unfolding found
 found_put n r v [] = refl
-found_put n r v (e ∷ es) = elim (nat_lt r e.0) as (λ b. found n (match_ordering (cond b Less (cond (r == e.0) Equal Greater)) ((r, v) ∷ e ∷ es) ((e.0, v) ∷ es) (e ∷ insert_entry nat_cmp es r v)) ≡ cond (r == n) (Some v) (found n (e ∷ es))) [
-  | true ↦ refl
-  | false ↦ elim (r == e.0) as (λ b. (r == e.0) ≡ b → found n (match_ordering (cond b Equal Greater) ((r, v) ∷ e ∷ es) ((e.0, v) ∷ es) (e ∷ insert_entry nat_cmp es r v)) ≡ cond (r == n) (Some v) (found n (e ∷ es))) [
-    | true ↦ λ t. replaced (e.0 == n) ∙ ap (λ m. cond (m == n) (Some v) (cond (e.0 == n) (Some e.1) (found n es))) (sym (same_replica r e.0 t))
-    | false ↦ λ t. ap (cond (e.0 == n) (Some e.1)) (found_put n r v es) ∙ passed t
-  ] refl
-]
-  where
-    replaced : (b : Bool) → cond b (Some v) (found n es) ≡ cond b (Some v) (cond b (Some e.1) (found n es))
-    replaced true = refl
-    replaced false = refl
-
-    passed : (r == e.0) ≡ false → cond (e.0 == n) (Some e.1) (cond (r == n) (Some v) (found n es)) ≡ cond (r == n) (Some v) (cond (e.0 == n) (Some e.1) (found n es))
-    passed t = elim (e.0 == n) as (λ b. (e.0 == n) ≡ b → cond b (Some e.1) (cond (r == n) (Some v) (found n es)) ≡ cond (r == n) (Some v) (cond b (Some e.1) (found n es))) [
-      | true ↦ λ s.
-          let no : (r == n) ≡ false = ap (λ m. r == m) (sym (same_replica e.0 n s)) ∙ t in
-          sym (ap (λ b. cond b (Some v) (Some e.1)) no)
-      | false ↦ λ s. refl
-    ] refl
+found_put n r v (e ∷ es) = grind (arith, nat_tests, found_put n r v es)
 
 -- characters more, by their counters
 abbrev counted : Option Tally → List ℕ → Option Tally
@@ -147,13 +123,7 @@ told_by_insertions c n =
 
 keys_put : (r : ℕ) (v : Tally) (es : List (ℕ × Tally)) → keys_of (insert_entry nat_cmp es r v) ≡ insert_key nat_cmp (keys_of es) r
 keys_put r v [] = refl
-keys_put r v (e ∷ es) = by (nat_cmp r e.0) (keys_put r v es)
-  where
-    by : (o : Ordering) → keys_of (insert_entry nat_cmp es r v) ≡ insert_key nat_cmp (keys_of es) r
-        → keys_of (match_ordering o ((r, v) ∷ e ∷ es) ((e.0, v) ∷ es) (e ∷ insert_entry nat_cmp es r v)) ≡ match_ordering o (r ∷ e.0 ∷ keys_of es) (e.0 ∷ keys_of es) (e.0 ∷ insert_key nat_cmp (keys_of es) r)
-    by Less rest = refl
-    by Equal rest = refl
-    by Greater rest = ap (λ ks. e.0 ∷ ks) rest
+keys_put r v (e ∷ es) = grind (arith, keys_put r v es)
 
 and_replicas_rise : (es : List (ℕ × Tally)) (ops : List Op) → IsRising (keys_of es) → IsRising (keys_of (and_tallies es ops))
 and_replicas_rise es [] h = h

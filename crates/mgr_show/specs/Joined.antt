@@ -78,12 +78,8 @@ all_operations logs = flat_map log_operations logs
 
 -- the fault of the log with this index: memory is no log's
 abbrev pub at_log : ℕ → ShowFault → JoinFault
-at_log n (fault.Line number e) = join.Log n (fault.Line number e)
-at_log n (fault.Refused number e) = join.Log n (fault.Refused number e)
-at_log n (fault.Torn number) = join.Log n (fault.Torn number)
-at_log n fault.Read = join.Log n fault.Read
-at_log n fault.Write = join.Log n fault.Write
 at_log n fault.Memory = join.Memory
+at_log n e = join.Log n e
 
 abbrev pub join_fault : SendFault → JoinFault
 join_fault send.Write = join.Write
@@ -93,32 +89,23 @@ join_fault send.Memory = join.Memory
 abbrev pub IsOfLog : JoinFault → Type 0
 IsOfLog (join.Log n e) = IsOfInput e
 IsOfLog join.Far = ⊤
-IsOfLog join.Write = ⊥
-IsOfLog join.Memory = ⊥
+IsOfLog e = ⊥
 
 -- faults of a file that is read, or of its bytes
 abbrev pub IsOfFile : ShowFault → Type 0
-IsOfFile (fault.Line number e) = ⊤
-IsOfFile (fault.Refused number e) = ⊤
-IsOfFile (fault.Torn number) = ⊤
-IsOfFile fault.Read = ⊤
 IsOfFile fault.Write = ⊥
 IsOfFile fault.Memory = ⊥
+IsOfFile e = ⊤
 
 -- a log that is named is one of so many, and the fault is its own
 abbrev pub NamesOneOf : ℕ → JoinFault → Type 0
 NamesOneOf count (join.Log n e) = (n < count) × IsOfFile e
-NamesOneOf count join.Far = ⊤
-NamesOneOf count join.Write = ⊤
-NamesOneOf count join.Memory = ⊤
+NamesOneOf count e = ⊤
 
 -- how many reads failed, after this answer to a join
 abbrev pub reads_failed : {A : Type 0} → Result A JoinFault → ℕ → ℕ
-reads_failed (Ok a) n = n
 reads_failed (Err (join.Log index e)) n = failures_after {A = Unit {0}} (Err e) n
-reads_failed (Err join.Far) n = n
-reads_failed (Err join.Write) n = n
-reads_failed (Err join.Memory) n = n
+reads_failed r n = n
 
 -- ---- what is written
 

@@ -15,8 +15,6 @@ use Rattle.mgr_show.specs.Log.{ShowOutcome}
 use Rattle.mgr_show.specs.Shown.{log_content, IsOfInput}
 use Rattle.mgr_show.specs.Note.{IsReadable, note_of}
 use Rattle.mgr_show.specs.Sources.{failures_after}
-use Rattle.mgr_show.specs.declared.fault.ShowFault.{ShowFault}
-use Rattle.mgr_show.specs.declared.fault.ShowFault.TheVariants as show
 use Rattle.mgr_show.specs.Claims.{after_head}
 use Rattle.mgr_show.specs.declared.fault.MissingFault.{MissingFault}
 use Rattle.mgr_show.specs.declared.fault.MissingFault.TheVariants as fault
@@ -50,16 +48,6 @@ log_held bytes = with_log_fault (note_of MAX_LIMIT bytes)
 
 -- ---- faults
 
--- the fault of claims that are read: memory is not theirs
-abbrev pub at_claims : ShowFault → MissingFault
-at_claims show.Memory = fault.Memory
-at_claims e = fault.Claims claim.Read
-
--- the fault of the log: memory is no log's
-abbrev pub at_log : ShowFault → MissingFault
-at_log show.Memory = fault.Memory
-at_log e = fault.Log e
-
 abbrev pub send_fault : SendFault → MissingFault
 send_fault send.Write = fault.Write
 send_fault send.Memory = fault.Memory
@@ -79,10 +67,9 @@ IsOfLog e = ⊥
 
 -- how many reads failed, after this answer to one more
 abbrev pub reads_failed : {A : Type 0} → Result A MissingFault → ℕ → ℕ
-reads_failed (Ok a) n = n
 reads_failed (Err (fault.Claims claim.Read)) n = one_more n
 reads_failed (Err (fault.Log e)) n = failures_after {A = Unit {0}} (Err e) n
-reads_failed (Err e) n = n
+reads_failed r n = n
 
 -- ---- what is written
 

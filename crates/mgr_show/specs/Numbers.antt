@@ -33,9 +33,8 @@ pub record AreNumbers (bytes : List ℕ) (n : Numbers) : Type 0 where
 
 -- after the text was looked at: one that can't be read is no fault, and is told as unread
 abbrev pub failures_of_look : TextIs → ℕ → ℕ
-failures_of_look Same n = n
-failures_of_look Other n = n
 failures_of_look Unread n = one_more n
+failures_of_look is n = n
 
 -- after this fault: behind the log that of the text may have failed too
 abbrev pub FailedReads : ShowFault → ℕ → ℕ → Type 0

@@ -11,12 +11,10 @@ use Rattle.mgr_show.specs.Log.{log_of}
 
 -- faults that the bytes alone decide
 abbrev pub IsOfInput : ShowFault → Type 0
-IsOfInput (fault.Line n e) = ⊤
-IsOfInput (fault.Refused n e) = ⊤
-IsOfInput (fault.Torn n) = ⊤
 IsOfInput fault.Read = ⊥
 IsOfInput fault.Write = ⊥
 IsOfInput fault.Memory = ⊥
+IsOfInput e = ⊤
 
 -- the text of a content in UTF-8
 abbrev pub shown_bytes : Content → List ℕ

@@ -10,7 +10,6 @@ ghost use Rattle.mgr_show.specs.Claims.{AreClaimsOf, TellsClaims, BeginsToTell};
 ghost use Rattle.mgr_show.specs.Note.{log_source};
 
 use crate::fault::ShowFault;
-use crate::head::push_head;
 use crate::sources::Sources;
 use crate::stored::read_note;
 use rga_brief::{send_lines, summary_lines};
@@ -60,13 +59,14 @@ pub fn write_claims<S: Sources, W: Write>(
 }
 
 /// The head, and the claims of a store after it. `Memory` alone.
+#[tactic(auto, unfolding(crate::specs::Claims::head_line))]
 fn claims_text<S: Teller>(alloc: Global, store: &S) -> Result<Vec<u8>, Refusal>
     ensures ok { IfOk result (λ text. AreClaimsOf text.items (S.content store.now)) }
     ensures memory { IfErr result (λ e. e ≡ Refusal.Memory) }
 {
     let lines = summary_lines(alloc, store)?;
     let mut text = Vec::new(alloc);
-    push_head(&mut text)?;
+    text.extend_from_slice(b"{\"op\":\"claims\",\"version\":1}\n")?;
     text.extend_from_slice(lines.as_slice())?;
     Ok(text)
 }

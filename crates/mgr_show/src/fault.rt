@@ -3,7 +3,7 @@ ghost use Rattle.std.specs.Prelude.{◌≡◌};
 ghost use Rattle.mgr_show.specs.Log.{show_fault};
 ghost use Rattle.mgr_show.specs.Compacted.{send_fault};
 ghost use Rattle.mgr_show.specs.Joined.{at_log, join_fault};
-ghost use Rattle.mgr_show.specs.Missing as missing;
+ghost use Rattle.mgr_show.specs.Missing.{send_fault as missing_fault};
 
 use rga_exchange::{LogFault, ReceiveFault, SendFault};
 use rga_lines::LineFault;
@@ -103,30 +103,8 @@ pub enum MissingFault {
     Memory,
 }
 
-impl MissingFault {
-    /// The fault of claims that are read: memory is not theirs.
-    pub(crate) fn at_claims(fault: ShowFault) -> MissingFault
-        ensures { result ≡ missing.at_claims fault }
-    {
-        match fault {
-            ShowFault::Memory => MissingFault::Memory,
-            _ => MissingFault::Claims(ReceiveFault::Read),
-        }
-    }
-
-    /// The fault of the log of the note: memory is no log's.
-    pub(crate) fn at_log(fault: ShowFault) -> MissingFault
-        ensures { result ≡ missing.at_log fault }
-    {
-        match fault {
-            ShowFault::Memory => MissingFault::Memory,
-            other => MissingFault::Log(other),
-        }
-    }
-}
-
 impl From<SendFault> for MissingFault {
-    ghost from_gives = { λ fault e. e ≡ missing.send_fault fault };
+    ghost from_gives = { λ fault e. e ≡ missing_fault fault };
 
     fn from(fault: SendFault) -> MissingFault {
         match fault {

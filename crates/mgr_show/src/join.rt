@@ -4,8 +4,7 @@ ghost use Rattle.std.specs.List.{list_any};
 ghost use Rattle.rga_store.specs.declared.text_store.TheConstants.{MAX_LIMIT};
 ghost use Rattle.rga_exchange.specs.Counting.{CountsAs, WritesNothing};
 ghost use Rattle.rga_exchange.specs.DeletionRuns.{has_deletion_runs};
-ghost use Rattle.rga_exchange.specs.Taking.{intake};
-ghost use Rattle.mgr_show.specs.Log.{HasFollowed, shown_from};
+ghost use Rattle.mgr_show.specs.Log.{shown_from};
 ghost use Rattle.mgr_show.specs.Shown.{IsOfInput};
 ghost use Rattle.mgr_show.specs.Sources.{failures_after};
 ghost use Rattle.mgr_show.specs.Joined.{has_far_counter, joined_from, join_of, reads_failed, OnLogs, IsOfLog, NamesOneOf, Joins, BeginsToJoin};
@@ -86,7 +85,7 @@ fn is_far(records: &Records) -> bool
 ///
 /// `Log` with `Read`, `Line`, `Refused` or `Torn` is the first fault in the order of the names, and
 /// there in that of the lines. `Memory`.
-pub fn take_logs<S: Sources, T: Taker>(
+fn take_logs<S: Sources, T: Taker>(
     alloc: Global,
     sources: &mut S,
     names: &[String],
@@ -107,8 +106,6 @@ pub fn take_logs<S: Sources, T: Taker>(
     ensures reads { S.failures sources.new ≡ reads_failed result (S.failures sources.old) }
     ensures no_write { result ≢ Err JoinFault.Write }
     ensures limit { T.limit taker.new ≡ T.limit taker.old }
-    ensures follows { OnOk result
-        (HasFollowed (intake T.limit T.content T.follows taker.old taker.new)) }
 {
     for (index, name) in names.iter().enumerate() {
         if let Err(fault) = take_named(alloc, sources, name.as_str(), taker, deletion_runs) {
@@ -136,8 +133,6 @@ fn take_named<S: Sources, T: Taker>(
     ensures device { S.failures sources.new ≡ failures_after result (S.failures sources.old) }
     ensures no_write { result ≢ Err ShowFault.Write }
     ensures limit { T.limit taker.new ≡ T.limit taker.old }
-    ensures follows { OnOk result
-        (HasFollowed (intake T.limit T.content T.follows taker.old taker.new)) }
 {
     let bytes = sources.read(alloc, name)?;
     match take_whole_log(

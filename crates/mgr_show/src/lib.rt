@@ -9,8 +9,8 @@
 //! that stands for the content of all, `write_authors` the text in pieces or lines with the replicas
 //! that wrote them, `write_numbers` what is counted, `write_claims` a head and the summary of what
 //! the log holds, a claim a line, and `write_missing` the operations that such claims lack, as the
-//! lines of a log: so a pipe of any kind is an exchange. `log_name`, `read_log` and `take_but_torn`
-//! serve other commands that read a log.
+//! lines of a log: so a pipe of any kind is an exchange. `take_but_torn` serves other commands that
+//! read a log.
 //!
 //! The crate stands on rga_exchange for the reading and the writing of logs, on rga_records and
 //! rga_flat for what takes the operations, and on rga_brief for summaries and claims. The program
@@ -27,7 +27,6 @@ mod claims;
 mod compact;
 mod counts;
 mod fault;
-mod head;
 mod join;
 pub mod laws;
 mod lines;
@@ -40,18 +39,16 @@ mod show;
 mod sources;
 mod stored;
 mod tallies;
-mod text;
 mod told;
 mod who;
 
 pub use claims::write_claims;
 pub use compact::compact_log;
 pub use fault::{JoinFault, MissingFault, ShowFault};
-pub use join::{join_logs, take_logs};
+pub use join::join_logs;
 pub use log::write_numbers;
 pub use missing::write_missing;
-pub use note::{log_name, show_note, take_but_torn};
+pub use note::{show_note, take_but_torn};
 pub use show::{show_ops, write_text};
 pub use sources::Sources;
-pub use stored::{StoredLog, read_log};
 pub use who::write_authors;

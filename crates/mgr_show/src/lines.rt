@@ -29,16 +29,12 @@ pub(crate) fn lines_text(alloc: Global, written: &[(u16, char)]) -> Result<Strin
 fn line_len(written: &[(u16, char)]) -> usize
     ensures { result ≡ length_of_line written.now }
 {
-    let mut count = 0;
-    let mut rest = written;
-    'line: while let Some((first, behind)) = rest.split_first() {
-        count += 1;
-        if first.1 == '\n' {
-            break 'line;
+    for (index, character) in written.iter().enumerate() {
+        if character.1 == '\n' {
+            return index + 1;
         }
-        rest = behind;
     }
-    count
+    written.len()
 }
 
 /// Adds a line.
@@ -88,12 +84,10 @@ fn push_characters(text: &mut String, line: &[(u16, char)]) -> Result<(), AllocE
     ensures { OnOk result (string_bytes text.new
         ≡ string_bytes text.old ++ encode_utf8_all (without_newline (characters line.now))) }
 {
-    let mut rest = line;
-    'characters: while let Some((first, behind)) = rest.split_first() {
-        if first.1 != '\n' {
-            text.push(first.1)?;
+    for character in line {
+        if character.1 != '\n' {
+            text.push(character.1)?;
         }
-        rest = behind;
     }
     Ok(())
 }

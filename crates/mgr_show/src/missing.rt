@@ -8,7 +8,6 @@ ghost use Rattle.mgr_show.specs.Missing.{IsOfClaims, IsOfLog, WritesMissing, Beg
 ghost use Rattle.mgr_show.specs.Note.{log_source};
 
 use crate::fault::{MissingFault, ShowFault};
-use crate::head::after_head;
 use crate::sources::Sources;
 use crate::stored::{StoredLog, read_note};
 use rga_brief::{Summary, hear_summary, missing};
@@ -86,7 +85,8 @@ fn read_held<S: Sources>(
 {
     match read_note(alloc, sources, name) {
         Ok(log) => Ok(log),
-        Err(fault) => Err(MissingFault::at_log(fault)),
+        Err(ShowFault::Memory) => Err(MissingFault::Memory),
+        Err(fault) => Err(MissingFault::Log(fault)),
     }
 }
 
@@ -108,17 +108,19 @@ fn read_claims<S: Sources>(
 {
     match sources.read(alloc, claims) {
         Ok(bytes) => hear_claims(alloc, bytes.as_slice()),
-        Err(fault) => Err(MissingFault::at_claims(fault)),
+        Err(ShowFault::Memory) => Err(MissingFault::Memory),
+        Err(_) => Err(MissingFault::Claims(ReceiveFault::Read)),
     }
 }
 
 /// What claims say after their head, up to the line that counts them.
+#[tactic(auto, unfolding(crate::specs::Claims::head_line))]
 fn hear_claims(alloc: Global, bytes: &[u8]) -> Result<Summary, MissingFault>
     ensures ok { IfOk result (λ peer. claims_heard bytes.now ≡ Ok peer) }
     ensures fault { IfErr result (λ e. (e ≡ MissingFault.Memory)
         ⊎ (IsOfClaims e × (claims_heard bytes.now ≡ Err e))) }
 {
-    let Some(lines) = after_head(bytes) else {
+    let Some(lines) = bytes.strip_prefix(b"{\"op\":\"claims\",\"version\":1}\n") else {
         return Err(MissingFault::Head);
     };
     match hear_summary(alloc, &mut Counted::new(lines)) {

@@ -12,7 +12,6 @@ ghost use Rattle.mgr_show.specs.Sources.{failures_after};
 use crate::fault::ShowFault;
 use crate::show::write_text;
 use crate::sources::Sources;
-use crate::text::text_string;
 use rga_exchange::{Counted, LogFault, LogRead, take_log};
 use rga_records::Records;
 use rga_store::{MAX_LIMIT, Taker};
@@ -80,11 +79,14 @@ fn text_of_note<S: Sources>(
         return Err(ShowFault::Memory);
     };
     take_but_torn(alloc, &mut records, front(bytes.as_slice(), lines))?;
-    text_string(alloc, &records)
+    let Ok(text) = records.text_string(alloc) else {
+        return Err(ShowFault::Memory);
+    };
+    Ok(text)
 }
 
 /// The name of the log of a note. `Memory` alone.
-pub fn log_name(alloc: Global, name: &str) -> Result<String, ShowFault>
+pub(crate) fn log_name(alloc: Global, name: &str) -> Result<String, ShowFault>
     ensures name { IfOk result (λ log. string_bytes log ≡ log_name name.now) }
     ensures memory { IfErr result (λ e. e ≡ ShowFault.Memory) }
 {

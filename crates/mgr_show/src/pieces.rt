@@ -26,16 +26,12 @@ pub(crate) fn pieces_text(alloc: Global, written: &[(u16, char)]) -> Result<Stri
 fn piece_len(written: &[(u16, char)], replica: u16) -> usize
     ensures { result ≡ prefix_len (λ x. x.0 == replica) written.now }
 {
-    let mut count = 0;
-    let mut rest = written;
-    'same: while let Some((first, behind)) = rest.split_first() {
-        if first.0 != replica {
-            break 'same;
+    for (index, character) in written.iter().enumerate() {
+        if character.0 != replica {
+            return index;
         }
-        count += 1;
-        rest = behind;
     }
-    count
+    written.len()
 }
 
 /// Adds the line of a piece.
@@ -68,10 +64,8 @@ fn string_of(alloc: Global, written: &[(u16, char)]) -> Result<String, AllocErro
     ensures { IfOk result (λ s. string_bytes s ≡ encode_utf8_all (characters written.now)) }
 {
     let mut string = String::with_capacity(alloc, written.len())?;
-    let mut rest = written;
-    'chars: while let Some((first, behind)) = rest.split_first() {
-        string.push(first.1)?;
-        rest = behind;
+    for character in written {
+        string.push(character.1)?;
     }
     Ok(string)
 }

@@ -7,11 +7,10 @@ ghost use Rattle.rga_exchange.specs.Counting.{CountsAs, OnBytes, Writes, WritesF
 ghost use Rattle.rga_exchange.specs.DeletionRuns.{has_deletion_runs};
 ghost use Rattle.rga_exchange.specs.Taking.{intake, content_intake, HasTakenWholeLines};
 ghost use Rattle.rga_exchange.specs.declared.taking.Form.TheVariants.{Log};
-ghost use Rattle.mgr_show.specs.Log.{HasFollowed, log_of, shown_from};
+ghost use Rattle.mgr_show.specs.Log.{log_of, shown_from};
 ghost use Rattle.mgr_show.specs.Shown.{IsOfInput, IsTextOf, ShowsLog, BeginsToShow};
 
 use crate::fault::ShowFault;
-use crate::text::text_string;
 use rga_exchange::{Counted, LogEnd, take_log};
 use rga_records::Records;
 use rga_store::{MAX_LIMIT, Taker};
@@ -71,7 +70,10 @@ fn text_of_log<R: Read>(alloc: Global, reader: &mut Counted<R>) -> Result<String
         return Err(ShowFault::Memory);
     };
     take_whole_log(alloc, &mut records, reader, &mut false)?;
-    text_string(alloc, &records)
+    let Ok(text) = records.text_string(alloc) else {
+        return Err(ShowFault::Memory);
+    };
+    Ok(text)
 }
 
 /// Takes the operations of a log to its end, where a last line that was cut off is a fault.
@@ -94,8 +96,6 @@ pub(crate) fn take_whole_log<T: Taker, R: Read>(
     ensures device { CountsAs ShowFault.Read result reader.old reader.new }
     ensures no_write { result ≢ Err ShowFault.Write }
     ensures limit { T.limit taker.new ≡ T.limit taker.old }
-    ensures follows { OnOk result
-        (HasFollowed (intake T.limit T.content T.follows taker.old taker.new)) }
 {
     let log = take_log(alloc, taker, reader, deletion_runs)?;
     match log.end {

@@ -17,13 +17,13 @@ use std::alloc::Global;
 
 /// A log that was read to its end.
 #[derive(Drop)]
-pub struct StoredLog<T: Drop> {
+pub(crate) struct StoredLog<T: Drop> {
     /// How many bytes it has.
-    pub bytes: usize,
+    pub(crate) bytes: usize,
     /// What its operations lead to.
-    pub store: T,
+    pub(crate) store: T,
     /// How many lines it has, and how it ends.
-    pub read: LogRead,
+    pub(crate) read: LogRead,
 }
 
 /// Reads a log by its name, into a store of its own. A last line without newline counts if it is an
@@ -31,7 +31,7 @@ pub struct StoredLog<T: Drop> {
 ///
 /// `Line` and `Refused` are the first fault in the order of the lines. `Read` comes if the log
 /// can't be read.
-pub fn read_log<T: TextStore, S: Sources>(
+pub(crate) fn read_log<T: TextStore, S: Sources>(
     alloc: Global,
     sources: &mut S,
     name: &str,

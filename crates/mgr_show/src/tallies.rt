@@ -58,12 +58,10 @@ pub(crate) fn count_insertions(ops: &[Op]) -> usize
     ensures within { result ≤ length ops.now }
 {
     let mut count = 0;
-    let mut rest = ops;
-    'ops: while let Some((op, behind)) = rest.split_first() {
+    for op in ops {
         if let Op::Insert { .. } = op {
             count += 1;
         }
-        rest = behind;
     }
     count
 }

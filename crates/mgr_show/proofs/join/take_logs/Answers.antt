@@ -1,6 +1,6 @@
 use Rattle.std.proofs.Common.{◌∙◌, ap}
 use Rattle.std.specs.Prelude.{string_bytes}
-use Rattle.mgr_show.proofs.LeftLogLemmas.{told_at, tells_next, follows_more}
+use Rattle.mgr_show.proofs.LeftLogLemmas.{told_at, tells_next}
 use Rattle.mgr_show.proofs.join.take_logs.Goals as goal
 
 pub loop-index-preserved : goal.loop-index-preserved
@@ -14,5 +14,4 @@ loop-index-preserved g c =
       same = λ other. c.take_named.ensures.same other ∙ inv.same other;
       failures = c.in_default.ensures.device ∙ inv.failures;
       limit = c.take_named.ensures.limit ∙ inv.limit;
-      followed = follows_more inv.limit (g.T.Taker.follows_on _ _ _) inv.followed c.in_default.ensures.follows;
     }

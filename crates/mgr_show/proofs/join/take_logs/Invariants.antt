@@ -1,7 +1,5 @@
 use Rattle.std.proofs.Common.{◌≡◌, ℕ, List, drop, map}
 use Rattle.std.specs.Prelude.{IfSome, string_bytes}
-use Rattle.rga_exchange.specs.Taking.{intake}
-use Rattle.mgr_show.specs.Log.{HasFollowed}
 use Rattle.mgr_show.specs.Joined.{all_told}
 use Rattle.mgr_show.proofs.LeftLogLemmas.{TellsLeft}
 use Rattle.mgr_show.proofs.join.take_logs.Given as goal
@@ -14,5 +12,4 @@ invariant-loop-index g l =
       same : (other : List ℕ) → g.S.Sources.contents l.sources other ≡ g.S.Sources.contents l.fn.sources other;
       failures : g.S.Sources.failures l.sources ≡ g.S.Sources.failures l.fn.sources;
       limit : g.T.Taker.limit l.taker ≡ g.T.Taker.limit l.fn.taker;
-      followed : HasFollowed (intake g.T.Taker.limit g.T.Taker.content g.T.Taker.follows l.fn.taker l.taker);
     }

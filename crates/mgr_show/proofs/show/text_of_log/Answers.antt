@@ -1,12 +1,12 @@
 use Rattle.std.proofs.Common.{◌∙◌, refl, sym}
-use Rattle.std.proofs.lemmas.Result.{IfOk-weaker, err_from_is_err_and}
+use Rattle.std.proofs.lemmas.Result.{err_from_is_err_and}
 use Rattle.mgr_show.proofs.ShownLaws.{at_err, made_of_nothing, text_of_input, whole_from}
 use Rattle.mgr_show.proofs.show.text_of_log.Goals as goal
 
 pub returns-clause-text : goal.returns-clause-text
 returns-clause-text g c =
     let made = made_of_nothing c.in-Ok.records (c.in-Ok.ensures.made refl) in
-    IfOk-weaker c.text_string.result _ _ (λ text is. text_of_input _ _ _ _ _ made.1 made.0 c.in_ok-take_whole_log.ensures.ok is) c.text_string.ensures.ok
+    text_of_input _ _ _ _ _ made.1 made.0 c.in_ok-take_whole_log.ensures.ok c.in-Ok-text_string.ensures.ok
 
 pub returns-in_err-take_whole_log-clause-whole_lines : goal.returns-in_err-take_whole_log-clause-whole_lines
 returns-in_err-take_whole_log-clause-whole_lines g c =

@@ -1,12 +1,9 @@
-use Rattle.std.proofs.Common.{◌≡◌, ◌+◌, ◌≤◌, filter, length}
+use Rattle.std.proofs.Common.{◌≡◌, ◌+◌, ◌≤◌, drop, filter, length}
 use Rattle.mgr_show.specs.Tallies.{is_insertion}
 use Rattle.mgr_show.proofs.tallies.count_insertions.Given as goal
 
-abbrev pub invariant-ops : goal.invariant-ops
-invariant-ops l = record {
-  counted : l.count + length (filter is_insertion l.rest) ≡ length (filter is_insertion l.fn.ops);
-  few : l.count + length l.rest ≤ length l.fn.ops;
+abbrev pub invariant-loop-op : goal.invariant-loop-op
+invariant-loop-op l = record {
+  counted : l.count + length (filter is_insertion (drop l.op-index l.ops)) ≡ length (filter is_insertion l.ops);
+  few : l.count ≤ l.op-index;
 }
-
-abbrev pub decreases-ops : goal.decreases-ops
-decreases-ops l = length l.rest
