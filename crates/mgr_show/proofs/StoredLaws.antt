@@ -5,20 +5,14 @@ use Rattle.rga_ops.specs.Content.{Content, nothing}
 use Rattle.rga_store.specs.declared.text_store.TheConstants.{MAX_LIMIT}
 use Rattle.rga_exchange.specs.declared.log.LogRead.{LogRead}
 use Rattle.rga_exchange.specs.Log.{log_outcome}
-use Rattle.mgr_show.specs.Note.{note_from, note_of}
+use Rattle.mgr_show.specs.Note.{note_from}
 use Rattle.mgr_show.specs.Stored.{IsRead}
 use Rattle.mgr_show.proofs.NoteLaws.{content_of_note}
-
-is_read : (limit : ℕ) (start c : Content) (bytes : List ℕ) (read : LogRead) → limit ≡ MAX_LIMIT → start ≡ nothing
-    → note_from limit start bytes ≡ Ok c → (log_outcome limit start bytes).1 ≡ Ok read → IsRead bytes c read
-is_read limit start c bytes read fits empty h ended =
-    let led : note_of MAX_LIMIT bytes ≡ Ok c = (λ k. note_from (sym fits k) (sym empty k) bytes) ∙ h in
-    let own = content_of_note bytes c led in
-    record { readable = own.0; content = own.1; ended = (λ k. (log_outcome (sym fits k) (sym empty k) bytes).1) ∙ ended }
 
 -- the bytes that were taken are those that are told
 pub told_is_read : (told : Option (List ℕ)) (bytes taken : List ℕ) (limit : ℕ) (start c : Content) (read : LogRead) → IfSome told (λ b. bytes ≡ b) → taken ≡ bytes → limit ≡ MAX_LIMIT → start ≡ nothing
     → note_from limit start taken ≡ Ok c → (log_outcome limit start taken).1 ≡ Ok read → IfSome told (λ b. IsRead b c read)
 told_is_read None bytes taken limit start c read same all fits empty h ended = tt
 told_is_read (Some b) bytes taken limit start c read same all fits empty h ended =
-    subst (λ l. IsRead l c read) (all ∙ same) (is_read limit start c taken read fits empty h ended)
+    let own = content_of_note taken c ((λ k. note_from (sym fits k) (sym empty k) taken) ∙ h) in
+    subst (λ l. IsRead l c read) (all ∙ same) (record { readable = own.0; content = own.1; ended = (λ k. (log_outcome (sym fits k) (sym empty k) taken).1) ∙ ended })
