@@ -53,4 +53,4 @@ any_inserted ns q h = any_where (λ v. is_some v.element) q ns h ∙ found (look
   where
     found : (o : Option Node) → option_map_or (λ v. is_some v.element) o false ≡ is_some (element_of o)
     found None = refl
-    found (Some v) = sym (is_some-mapped v.element)
+    found (Some v) = sym (is_some-mapped _ v.element)

@@ -1,4 +1,4 @@
-use Rattle.std.proofs.Common.{◌≡◌, not, Bool, true, false, cond, ◌&&◌, refl, sym, ◌∙◌}
+use Rattle.std.proofs.Common.{arith, ◌≡◌, not, Bool, false, cond, ◌&&◌, sym, ◌∙◌}
 use Rattle.std.specs.List.{list_any}
 use Rattle.rga_ops.proofs.IdentifierLaws.{is, is_swap, is_id-same}
 use Rattle.rga_tree.proofs.ChildListLaws.{has-any}
@@ -6,10 +6,7 @@ use Rattle.rga_tree.proofs.child_list.remove_from_many.Goals as goal
 
 -- the child is gone, and any other one is there as before
 apart : (here there : Bool) → cond here false there ≡ (there && not here)
-apart true true = refl
-apart true false = refl
-apart false true = refl
-apart false false = refl
+apart here there = grind arith
 
 pub returns-clause-removed : goal.returns-clause-removed
 returns-clause-removed c = λ k.
