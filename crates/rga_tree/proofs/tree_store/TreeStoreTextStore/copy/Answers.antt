@@ -1,4 +1,4 @@
-use Rattle.std.proofs.Common.{arith, true, is_ok, ap, ◌∙◌}
+use Rattle.std.proofs.Common.{arith, ap, ◌∙◌}
 use Rattle.rga_ops.specs.Content.{join}
 use Rattle.rga_ops.proofs.ContentLaws.{nothing_join}
 use Rattle.rga_store.specs.Kept.{Kept}
