@@ -1,5 +1,5 @@
 -- Rising child lists.
-use Rattle.std.proofs.Common.{◌≡◌, ℕ, ◌≤◌, ◌<◌, suc, zero, Bool, true, false, not, ◌&&◌, ◌||◌, List, [], ◌∷◌, length, slice_index_or, refl, sym, ap, ◌∙◌, arith}
+use Rattle.std.proofs.Common.{◌≡◌, ℕ, ◌≤◌, ◌<◌, suc, zero, Bool, true, false, not, ◌&&◌, ◌||◌, List, [], ◌∷◌, length, slice_index_or, sym, ap, ◌∙◌, arith}
 use Rattle.std.specs.Prelude.{insert}
 use Rattle.std.specs.Ordering.{eq_by_cmp, ordering_index, ordering_reverse}
 use Rattle.std.specs.List.{list_any, AllByRecursion}
@@ -8,7 +8,7 @@ use Rattle.std.specs.declared.cmp.Ordering.TheVariants.{Less, Equal, Greater}
 use Rattle.rga_ops.specs.Identifier.{Identifier, id_cmp, is_id}
 use Rattle.std.specs.List.Sorted.{IsStrictlySortedBy}
 use Rattle.rga_ops.proofs.IdentifierLaws.{ids_total, ids_exact, is, is_itself, is_swap, is_id-same, is_id-is}
-use Rattle.std.proofs.Math.Bool.{or_assoc, or_comm, and-true, and-false}
+use Rattle.std.proofs.Math.Bool.{and_comm, or_assoc, or_comm}
 use Rattle.std.proofs.lemmas.Map.Views.{any-filter_same}
 use Rattle.rga_store.specs.Rising.{IsRising}
 use Rattle.rga_tree.specs.Children.{has_child, others_than}
@@ -53,17 +53,10 @@ rising-insert id (x ∷ xs) (suc i) w up low high = (
 )
 
 at_most : (o : Ordering) → ordering_index o ≤ 2
-at_most Less = omega arith
-at_most Equal = omega arith
-at_most Greater = omega arith
+at_most o = grind arith
 
 later : (id x y : Identifier) → id_cmp x y ≡ Less → ordering_index (id_cmp x id) ≤ ordering_index (id_cmp y id)
-later id x y h =
-    elim (id_cmp y id) as (λ o. id_cmp y id ≡ o → ordering_index (id_cmp x id) ≤ ordering_index o) [
-      | Less ↦ λ e. omega (arith, ap ordering_index (ids_total.trans x y id h e))
-      | Equal ↦ λ e. omega (arith, ap ordering_index (ap (id_cmp x) (sym (ids_exact y id e)) ∙ h))
-      | Greater ↦ λ e. at_most (id_cmp x id)
-    ] refl
+later id x y h = grind (arith, ids_total.trans x y id h, ids_exact y id, at_most (id_cmp x id), h)
 
 -- how the members compare never falls
 pub rising-compares : (id : Identifier) (xs : List Identifier) → IsRising xs → (i j : ℕ) (d : Identifier) → i ≤ j → j < length xs → ordering_index (id_cmp (slice_index_or xs i d) id) ≤ ordering_index (id_cmp (slice_index_or xs j d) id)
@@ -84,8 +77,4 @@ found_has id (x ∷ xs) (suc i) d l e = ap (λ b. is_id x id || b) (found_has id
 pub has-others : (id k : Identifier) (xs : List Identifier) → has_child (others_than id xs) k ≡ (has_child xs k && not (is_id id k))
 has-others id k xs =
     any-filter_same (λ x. is_id x k) (λ x. not (is_id x id)) (not (is_id id k)) (λ x t. ap not (ap (λ y. is_id y id) (is_id-is x k t) ∙ is_id-same k id ∙ is_swap id k ∙ sym (is_id-same id k ∙ is_swap k id ∙ is_swap id k))) xs
-    ∙ and_swap (not (is_id id k)) (has_child xs k)
-  where
-    and_swap : (a b : Bool) → (a && b) ≡ (b && a)
-    and_swap true b = sym (and-true b)
-    and_swap false b = sym (and-false b)
+    ∙ and_comm (not (is_id id k)) (has_child xs k)

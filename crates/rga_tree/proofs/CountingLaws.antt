@@ -1,15 +1,13 @@
 -- Visible elements counted back through the order, and where the order ends.
-use Rattle.std.proofs.Common.{◌≡◌, ℕ, append_assoc, reverse, ◌+◌, ◌<◌, ◌≤◌, true, false, cond, not, ◌&&◌, ◌||◌, Bool, List, [], ◌∷◌, ◌++◌, filter, length, length-append, is_some, suc, zero, refl, sym, ap, ◌∙◌, subst, arith, append-nil, true≢false}
-use Rattle.std.specs.Prelude.{Option, Some, None, slice_get, nat_le}
-use Rattle.std.specs.Option.{option_map, option_map_or}
+use Rattle.std.proofs.Common.{◌≡◌, ℕ, append_assoc, reverse, ◌+◌, ◌<◌, ◌≤◌, true, false, cond, not, ◌&&◌, ◌||◌, Bool, List, [], ◌∷◌, ◌++◌, filter, length, length-append, is_some, suc, zero, refl, sym, ap, ◌∙◌, subst, arith, append-nil}
+use Rattle.std.specs.Prelude.{Option, Some, None, slice_get}
+use Rattle.std.specs.Option.{option_map_or}
 use Rattle.std.specs.List.{AllByRecursion, cons_option, filter_map}
 use Rattle.std.specs.FinMap as finite_map
-use Rattle.std.specs.FinSet as finite_set
 use Rattle.std.proofs.lemmas.Bool.Decides.{nat_tests}
 use Rattle.std.proofs.lemmas.List.{reverse-append}
 use Rattle.std.proofs.lemmas.List.Elements.{filter-append, filter_map-append}
 use Rattle.std.proofs.lemmas.List.Sums.{length-filter, count_by-le-length}
-use Rattle.std.proofs.lemmas.Option.{none-some}
 use Rattle.std.specs.Int.{from_bool}
 use Rattle.rga_ops.specs.Identifier.{Identifier, is_id, is_root}
 use Rattle.rga_ops.specs.Content.{Element, Content, IsSound}
@@ -24,6 +22,7 @@ use Rattle.rga_tree.specs.Children.{has_child}
 use Rattle.rga_store.specs.Child.{is_child}
 use Rattle.rga_tree.specs.Preceding.{beginning, visible_up_to, IsLastUnder, IsShownChild}
 use Rattle.rga_store.proofs.StepLaws.{len-keys}
+use Rattle.rga_tree.proofs.NodeLaws.{is_some-mapped}
 use Rattle.rga_tree.proofs.PrecedingLaws.{Stands, in_list, behind_root, tail_in_order, complete_if_pathed, proper}
 
 -- ---- the end of the order
@@ -67,10 +66,6 @@ module _ (c : Content) (r e : Identifier) (start : is_root r ≡ true) (last : I
 
 -- ---- one element back
 
-one_bool : (b : Bool) (x : Identifier) → length (cond b (x ∷ []) []) ≡ from_bool b
-one_bool true x = refl
-one_bool false x = refl
-
 -- the elements up to the root are none
 pub none_up_to : (c : Content) (id : Identifier) → is_root id ≡ true → beginning c id ≡ []
 none_up_to c id r = ap (λ b. cond b [] (up_to id (order c))) r
@@ -88,11 +83,7 @@ pub ids_turned : (c : Content) (e x : Identifier) (b : Bool) (old new : List Ide
     → visible_up_to c e ++ reverse new ≡ visible_up_to c x ++ reverse old
 ids_turned c e x b old new before is more =
     ap (λ xs. visible_up_to c e ++ reverse xs) more
-    ∙ turned (visible_up_to c e) (visible_up_to c x) old (cond b (x ∷ []) []) (one_less c e x before ∙ ap (λ v. visible_up_to c e ++ cond v (x ∷ []) []) (sym is)) (alike b)
-  where
-    alike : (v : Bool) → reverse (cond v (x ∷ []) []) ≡ cond v (x ∷ []) []
-    alike true = refl
-    alike false = refl
+    ∙ turned (visible_up_to c e) (visible_up_to c x) old (cond b (x ∷ []) []) (one_less c e x before ∙ ap (λ v. visible_up_to c e ++ cond v (x ∷ []) []) (sym is)) (grind arith)
 
 -- the characters up to an element
 abbrev pub chars_up_to : Content → Identifier → List ℕ
@@ -103,17 +94,13 @@ pub chars_turned : (c : Content) (e x : Identifier) (ch : Option ℕ) (old new :
 chars_turned c e x ch old new before is more =
     ap (λ xs. chars_up_to c e ++ reverse xs) more
     ∙ turned (chars_up_to c e) (chars_up_to c x) old (cons_option ch [])
-    (ap (filter_map (shown c)) before ∙ filter_map-append (shown c) (beginning c e) (x ∷ []) ∙ ap (λ o. chars_up_to c e ++ cons_option o []) (sym is)) (alike ch)
-  where
-    alike : (o : Option ℕ) → reverse (cons_option o []) ≡ cons_option o []
-    alike None = refl
-    alike (Some n) = refl
+    (ap (filter_map (shown c)) before ∙ filter_map-append (shown c) (beginning c e) (x ∷ []) ∙ ap (λ o. chars_up_to c e ++ cons_option o []) (sym is)) (grind arith)
 
 -- by one where the element is visible
 pub count_less : (c : Content) (e x : Identifier) (b : Bool) → beginning c x ≡ beginning c e ++ x ∷ [] → b ≡ is_visible c x → length (visible_up_to c x) ≡ length (visible_up_to c e) + from_bool b
 count_less c e x b before is =
     ap length (one_less c e x before) ∙ length-append (visible_up_to c e) (cond (is_visible c x) (x ∷ []) [])
-    ∙ ap (λ n. length (visible_up_to c e) + n) (one_bool (is_visible c x) x ∙ ap from_bool (sym is))
+    ∙ grind (arith, is)
 
 pub shorter : (c : Content) (e x : Identifier) → beginning c x ≡ beginning c e ++ x ∷ [] → length (beginning c e) < length (beginning c x)
 shorter c e x before = omega (arith, ap length before, length-append (beginning c e) (x ∷ []))
@@ -158,10 +145,6 @@ at_before c e x k before within = ap (λ xs. slice_get xs k) (one_less c e x bef
 
 -- ---- up the parents
 
-is_some-mapped : {A B : Type 0} (f : A → B) (o : Option A) → is_some (option_map f o) ≡ is_some o
-is_some-mapped f None = refl
-is_some-mapped f (Some x) = refl
-
 pub child_of_parent : (c : Content) (x p : Identifier) (ch : Option ℕ) → IsShownChild c x p ch → is_child c p x ≡ true
 child_of_parent c x p ch w =
     ap (λ (o : Option Element). option_map_or (λ y. is_id y.parent p) o false) w.found ∙ ap (λ y. is_id y p) w.parent ∙ is_id-itself p
@@ -169,22 +152,14 @@ child_of_parent c x p ch w =
 -- what stands and is not inserted is the root
 pub root_if_absent : (c : Content) (x : Identifier) → Stands c x → finite_map.get c.inserted x ≡ None → is_root x ≡ true
 root_if_absent c x stands h =
-    elim (is_root x) as (λ b. (b ≡ false → is_complete c x ≡ true) → b ≡ true) [
-      | true ↦ λ s. refl
-      | false ↦ λ s.
-          let there : (y : Element) × (finite_map.get c.inserted x ≡ Some y) = inserted_if_complete c x (s refl) in
-          absurd (none-some _ (sym h ∙ there.1))
-    ] stands
+    grind (arith, inserted_if_complete c x, stands, h)
 
 module _ (c : Content) (sound : IsSound c) (x p : Identifier) (ch : Option ℕ) (w : IsShownChild c x p ch) where
   pub no_root : is_root x ≡ false
   no_root = (proper c sound x w.element w.found).0
 
   pub parent_less : p.counter < x.counter
-  parent_less = less p.counter x.counter (ap (λ (q : Identifier). nat_le x.counter q.counter) (sym w.parent) ∙ (proper c sound x w.element w.found).1)
-    where
-      less : (a b : ℕ) → nat_le b a ≡ false → a < b
-      less a b h = grind (arith, nat_tests)
+  parent_less = grind (arith, nat_tests, w.parent, (proper c sound x w.element w.found).1)
 
   -- an element has a root path where its parent has one
   pub reaches_by_parent : is_some (root_path c x) ≡ is_some (root_path c p)
@@ -194,10 +169,7 @@ module _ (c : Content) (sound : IsSound c) (x p : Identifier) (ch : Option ℕ) 
 
 pub reaches_if_root : (c : Content) (x : Identifier) → finite_map.get c.inserted x ≡ None → is_root x ≡ is_some (root_path c x)
 reaches_if_root c x h =
-    elim (is_root x) as (λ b. is_root x ≡ b → b ≡ is_some (root_path c x)) [
-      | true ↦ λ r. ap is_some (sym (root_path-root c x r))
-      | false ↦ λ r. ap is_some (sym (root_path-absent c x r h))
-    ] refl
+    grind (arith, root_path-root c x, root_path-absent c x, h)
 
 -- what has a root path stands, and what has none has no place
 pub stands_if_reaching : (c : Content) (x : Identifier) → is_some (root_path c x) ≡ true → Stands c x
@@ -205,17 +177,9 @@ stands_if_reaching c x h = λ r k. not (r k) && h k
 
 pub no_place_if_not : (c : Content) (x : Identifier) → is_some (root_path c x) ≡ false → None ≡ place c x
 no_place_if_not c x h =
-    elim (is_root x) as (λ b. is_root x ≡ b → None ≡ cond b (Some 0) (cond (not b && is_some (root_path c x)) (Some (length (filter (is_visible c) (up_to x (order c))))) None)) [
-      | true ↦ λ r. absurd (true≢false (ap is_some (sym (root_path-root c x r)) ∙ h))
-      | false ↦ λ r. ap (λ b. cond b (Some (length (filter (is_visible c) (up_to x (order c))))) None) (sym h)
-    ] refl
+    grind (arith, root_path-root c x, h)
 
 -- a complete element is visible where it shows a character
 pub visible_if_shown : (c : Content) (x p : Identifier) (ch : Option ℕ) → IsShownChild c x p ch → is_complete c x ≡ true → is_some ch ≡ is_visible c x
 visible_if_shown c x p ch w complete =
-    ap is_some w.shows
-    ∙ elim (finite_set.contains c.deleted x) as (λ b. is_some (cond b None (option_map (λ (y : Element). y.ch) (finite_map.get c.inserted x))) ≡ not b) [
-      | true ↦ refl
-      | false ↦ ap (λ o. is_some (option_map (λ (y : Element). y.ch) o)) w.found
-    ]
-    ∙ (λ k. sym complete k && not (finite_set.contains c.deleted x))
+    grind (arith, w.shows, w.found, complete)

@@ -1,11 +1,10 @@
 -- Whose children are whose once an operation was taken, or removed again.
-use Rattle.std.proofs.Common.{◌≡◌, ℕ, Bool, true, false, cond, ◌&&◌, ◌||◌, List, refl, sym, ap, ◌∙◌, subst, not}
-use Rattle.std.specs.Prelude.{Option, Some, None}
+use Rattle.std.proofs.Common.{arith, ◌≡◌, ℕ, true, false, ◌&&◌, ◌||◌, List, sym, ap, ◌∙◌, subst, not}
+use Rattle.std.specs.Prelude.{Option, None}
 use Rattle.std.specs.Option.{option_map_or}
 use Rattle.std.specs.FinMap as finite_map
-use Rattle.std.proofs.Math.Bool.{or-false, and-true, and-false}
 use Rattle.rga_ops.specs.Identifier.{Identifier, is_id}
-use Rattle.rga_ops.specs.Content.{Element, element, Content, join, single}
+use Rattle.rga_ops.specs.Content.{Element, Content, join, single}
 use Rattle.rga_ops.proofs.IdentifierLaws.{is_id-same, is_id-is}
 use Rattle.rga_ops.proofs.ListSteps.{get-insertion, get-deletion}
 use Rattle.rga_ops.specs.declared.op.Op.TheVariants.{Insert, Delete}
@@ -18,13 +17,7 @@ use Rattle.rga_store.proofs.StepLaws.{IsChild, child_found}
 use Rattle.rga_store.proofs.WithoutLaws.{left_inserted}
 
 child_now : (c : Content) (id parent : Identifier) (ch : ℕ) (p k : Identifier) → finite_map.get c.inserted id ≡ None → is_child (join c (single (Insert id parent ch))) p k ≡ (is_child c p k || (is_id parent p && is_id id k))
-child_now c id parent ch p k none =
-    ap (λ (o : Option Element). option_map_or (λ x. is_id x.parent p) o false) (get-insertion c id parent ch k none)
-    ∙ ap (λ b. option_map_or (λ x. is_id x.parent p) (cond b (Some (element parent ch)) (finite_map.get c.inserted k)) false) (sym (is_id-same id k))
-    ∙ elim (is_id id k) as (λ b. is_id id k ≡ b → option_map_or (λ x. is_id x.parent p) (cond b (Some (element parent ch)) (finite_map.get c.inserted k)) false ≡ (is_child c p k || (is_id parent p && b))) [
-      | true ↦ λ t. sym (ap (λ (o : Option Element). option_map_or (λ x. is_id x.parent p) o false || (is_id parent p && true)) (ap (finite_map.get c.inserted) (sym (is_id-is id k t)) ∙ none) ∙ and-true (is_id parent p))
-      | false ↦ λ t. sym (ap (λ b. is_child c p k || b) (and-false (is_id parent p)) ∙ or-false (is_child c p k))
-    ] refl
+child_now c id parent ch p k none = grind (arith, get-insertion c id parent ch k none, is_id-same id k, is_id-is id k, none)
 
 -- one child more
 pub family_insertion : (c : Content) (id parent : Identifier) (ch : ℕ) (old new : Identifier → List Identifier) → finite_map.get c.inserted id ≡ None → IsFamily c old
@@ -52,21 +45,4 @@ family_same c old new w h = record {
 pub child_left : (c : Content) (id parent p k : Identifier) → is_child c parent id ≡ true → is_child (without_insertion id c) p k ≡ (is_child c p k && not (is_id parent p && is_id id k))
 child_left c id parent p k its =
     let found : IsChild c parent id = child_found c parent id its in
-    ap (λ (o : Option Element). option_map_or (λ x. is_id x.parent p) o false) (left_inserted c id k)
-    ∙ ap (λ b. option_map_or (λ x. is_id x.parent p) (cond b None (finite_map.get c.inserted k)) false) (sym (is_id-same id k))
-    ∙ elim (is_id id k) as (λ b. is_id id k ≡ b → option_map_or (λ x. is_id x.parent p) (cond b None (finite_map.get c.inserted k)) false ≡ (is_child c p k && not (is_id parent p && b))) [
-      | true ↦ λ t.
-          let here : is_child c p k ≡ is_id parent p =
-          ap (λ (o : Option Element). option_map_or (λ x. is_id x.parent p) o false) (ap (finite_map.get c.inserted) (sym (is_id-is id k t)) ∙ found.found) ∙ ap (λ q. is_id q p) found.parent in
-          none_left (is_id parent p) ∙ ap (λ b. b && not (is_id parent p && true)) (sym here)
-      | false ↦ λ t. all_left (is_child c p k) (is_id parent p)
-    ] refl
-  where
-    none_left : (a : Bool) → false ≡ (a && not (a && true))
-    none_left true = refl
-    none_left false = refl
-
-    all_left : (a b : Bool) → a ≡ (a && not (b && false))
-    all_left true true = refl
-    all_left true false = refl
-    all_left false b = refl
+    grind (arith, left_inserted c id k, is_id-same id k, is_id-is id k, found.found, found.parent)

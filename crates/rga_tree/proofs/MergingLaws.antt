@@ -4,14 +4,12 @@ use Rattle.std.specs.Prelude.{Option, Some, None, ◌⊎◌}
 use Rattle.std.specs.Option.{option_map, option_map_or}
 use Rattle.std.specs.List.{position_or_len}
 use Rattle.std.specs.Map.{lookup, keys_of}
-use Rattle.std.specs.Ordering.{ordering_reverse}
-use Rattle.std.specs.declared.cmp.Ordering.TheVariants.{Less, Equal, Greater}
 use Rattle.std.specs.FinSet as finite_set
 use Rattle.std.proofs.lemmas.Bool.{cases_eq, false_from_ne_true}
 use Rattle.std.proofs.lemmas.List.{length-map}
 use Rattle.std.proofs.lemmas.List.Elements.{filter-append}
 use Rattle.std.proofs.lemmas.Option.{same_Some, none-some, slice_get_within, slice_get-map}
-use Rattle.rga_ops.specs.Identifier.{Identifier, id_cmp, is_id, IsLarger}
+use Rattle.rga_ops.specs.Identifier.{Identifier, is_id, IsLarger}
 use Rattle.rga_ops.specs.Content.{Element, element, Content, known_ids, join}
 use Rattle.rga_ops.specs.ListAnswer.{has_another, is_conflict, least_conflict, IsConflict}
 use Rattle.rga_ops.proofs.IdentifierLaws.{ids_total, ids_exact}
@@ -21,7 +19,7 @@ use Rattle.rga_ops.proofs.MergeLaws.{is_conflict-iff, agree-iff, no_least_confli
 use Rattle.rga_ops.specs.declared.op.Op.TheVariants.{Insert}
 use Rattle.rga_tree.specs.declared.nodes.Node.{Node}
 use Rattle.rga_tree.specs.Nodes.{Nodes, content_of_nodes, ids_where, AreDistinctNodes, StandsAt}
-use Rattle.rga_tree.proofs.NodeLaws.{element_of, mark_of, inserted_at, deleted_at, is_some-mapped, any_where, place_found}
+use Rattle.rga_tree.proofs.NodeLaws.{element_of, inserted_at, deleted_at, any_where, place_found}
 use Rattle.rga_tree.proofs.PickedLaws.{picked_step, picked_distinct}
 
 -- ---- the least conflict
@@ -30,11 +28,7 @@ use Rattle.rga_tree.proofs.PickedLaws.{picked_step, picked_distinct}
 pub conflict_at : (c : Content) (ns : Nodes) → AreDistinctNodes ns → (q : Identifier) (v : Node) → lookup (is_id q) ns ≡ Some v → is_conflict (content_of_nodes ns) c q ≡ option_map_or (λ x. has_another c (Insert q x.0 x.1)) v.element false
 conflict_at c ns apart q v found =
     ap (λ o. option_map_or (λ x. has_another c (Insert q x.parent x.ch)) o false) (inserted_at ns apart q ∙ ap element_of found)
-    ∙ shown v.element
-  where
-    shown : (o : Option (Identifier × ℕ)) → option_map_or {T = Element} (λ x. has_another c (Insert q x.parent x.ch)) (option_map (λ x. element x.0 x.1) o) false ≡ option_map_or (λ x. has_another c (Insert q x.0 x.1)) o false
-    shown None = refl
-    shown (Some x) = refl
+    ∙ grind arith
 
 -- the first is there, and the second is no smaller
 abbrev pub IsAtMost : Option Identifier → Identifier → Type 0
@@ -51,12 +45,7 @@ key_there ns i k v h = slice_get-map (λ (n : Identifier × Node). n.0) ns i ∙
 
 -- what is not smaller than what is not smaller
 not_smaller : (a b c : Identifier) → (IsLarger b a → ⊥) → (IsLarger c b → ⊥) → IsLarger c a → ⊥
-not_smaller a b c first second smaller =
-    elim (id_cmp a b) as (λ o. id_cmp a b ≡ o → ⊥) [
-      | Less ↦ λ h. first h
-      | Equal ↦ λ h. second (ap (λ x. id_cmp x c) (sym (ids_exact a b h)) ∙ smaller)
-      | Greater ↦ λ h. second (ids_total.trans b a c (ids_total.antisymm b a ∙ ap ordering_reverse h) smaller)
-    ] refl
+not_smaller a b c first second smaller = grind (arith, ids_exact a b, ids_total.trans b a c, ids_total.antisymm b a, first, second, smaller)
 
 module _ (p : Identifier → Bool) (ns : Nodes) (i : ℕ) (k : Identifier) (v : Node) (there : slice_get ns i ≡ Some (k, v)) where
   -- what stands among the first nodes, or is the next one's
@@ -132,11 +121,7 @@ pub known_at : (ns : Nodes) → AreDistinctNodes ns → (q : Identifier) → fin
 known_at ns apart q =
     contains-known (content_of_nodes ns) q
     ∙ (λ k. is_some (inserted_at ns apart q k) || deleted_at ns apart q k)
-    ∙ shown (lookup (is_id q) ns)
-  where
-    shown : (o : Option Node) → (is_some (element_of o) || mark_of o) ≡ option_map_or means_something o false
-    shown None = refl
-    shown (Some v) = ap (λ b. b || v.deleted) (is_some-mapped v.element)
+    ∙ grind arith
 
 -- what the nodes know and the content does not
 abbrev pub unknown_ids : Content → Nodes → List Identifier
@@ -148,18 +133,10 @@ unknown_step c ns i k v there =
     ap (λ ks. length (filter unknown ks)) (picked_step means_something ns i k v there)
     ∙ ap length (filter-append unknown (ids_where means_something (take i ns)) (cond (means_something v) (k ∷ []) []))
     ∙ length-append (unknown_ids c (take i ns)) (filter unknown (cond (means_something v) (k ∷ []) []))
-    ∙ ap (λ n. length (unknown_ids c (take i ns)) + n) (split (means_something v) (unknown k) refl)
+    ∙ grind arith
   where
     unknown : Identifier → Bool
     unknown q = not (finite_set.contains (known_ids c) q)
-
-    split : (a b : Bool) → unknown k ≡ b → length (filter unknown (cond a (k ∷ []) [])) ≡ cond (a && b) 1 0
-    split false b h = refl
-    split true b h = ap (λ u. length (cond u (k ∷ []) [])) h ∙ one b
-      where
-        one : (b : Bool) → length (cond b (k ∷ []) []) ≡ cond b 1 0
-        one true = refl
-        one false = refl
 
 -- the join knows these too, and nothing else
 pub unknown_counted : (c : Content) (ns : Nodes) → AreDistinctNodes ns → finite_set.len (known_ids (join c (content_of_nodes ns))) ≡ finite_set.len (known_ids c) + length (unknown_ids c ns)

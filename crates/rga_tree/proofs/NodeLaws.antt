@@ -1,5 +1,5 @@
 -- What nodes stand for, by look-ups: so what a write of one node changes.
-use Rattle.std.proofs.Common.{◌≡◌, ℕ, ◌+◌, suc, zero, arith, Bool, true, false, cond, not, ◌&&◌, ◌||◌, [], ◌∷◌, filter, is_some, refl, sym, ap, ◌∙◌, subst}
+use Rattle.std.proofs.Common.{◌≡◌, ℕ, ◌+◌, suc, zero, arith, Bool, true, false, cond, not, ◌&&◌, [], ◌∷◌, filter, is_some, refl, sym, ap, ◌∙◌, subst}
 use Rattle.std.specs.Prelude.{Option, Some, None, slice_get}
 use Rattle.std.specs.Cmp.{IsEquivalence, eq_by_cmp_equiv}
 use Rattle.std.specs.Option.{option_map, option_and_then, option_map_or}
@@ -41,17 +41,13 @@ element_of o = option_and_then element_in o
 abbrev pub mark_of : Option Node → Bool
 mark_of o = option_map_or (λ v. v.deleted) o false
 
-pub is_some-mapped : (o : Option (Identifier × ℕ)) → is_some (option_map (λ x. element x.0 x.1) o) ≡ is_some o
-is_some-mapped None = refl
-is_some-mapped (Some x) = refl
+pub is_some-mapped : {A B : Type 0} (f : A → B) (o : Option A) → is_some (option_map f o) ≡ is_some o
+is_some-mapped f None = refl
+is_some-mapped f (Some x) = refl
 
 -- the parent and the character, as they are kept
 pub element_shown : (o : Option (Identifier × ℕ)) → option_map {T = Element} {U = Identifier × ℕ} (λ x. (x.parent, x.ch)) (option_map (λ x. element x.0 x.1) o) ≡ o
-element_shown None = refl
-element_shown (Some x) = refl
-
-pub element_in_new : (v : Node) → v.element ≡ None → element_in v ≡ None
-element_in_new v h = ap (option_map (λ x. element x.0 x.1)) h
+element_shown o = grind arith
 
 none_later : (q : Identifier) (n : Identifier × Node) (ns : Nodes) → AreDistinctNodes (n ∷ ns) → is_id q n.0 ≡ true → lookup (is_id q) ns ≡ None
 unfolding IsDistinct
@@ -76,12 +72,10 @@ find_insertions q (n ∷ ns) h =
     ] refl
   where
     here : (o : Option Element) → is_id q n.0 ≡ true → find id_cmp q (filter_map insertion_in ns) ≡ None → find id_cmp q (cons_option (option_map (λ x. (n.0, x)) o) (filter_map insertion_in ns)) ≡ o
-    here None t none = none
-    here (Some x) t none = ap (λ b. cond b (Some x) (find id_cmp q (filter_map insertion_in ns))) (first_is q n true t)
+    here o t none = grind (arith, first_is q n true t)
 
     there : (o : Option Element) → is_id q n.0 ≡ false → find id_cmp q (cons_option (option_map (λ x. (n.0, x)) o) (filter_map insertion_in ns)) ≡ find id_cmp q (filter_map insertion_in ns)
-    there None t = refl
-    there (Some x) t = ap (λ b. cond b (Some x) (find id_cmp q (filter_map insertion_in ns))) (first_is q n false t)
+    there o t = grind (arith, first_is q n false t)
 
 -- an identifier is inserted as its node says
 pub inserted_at : (ns : Nodes) → AreDistinctNodes ns → (q : Identifier) → finite_map.get (content_of_nodes ns).inserted q ≡ element_of (lookup (is_id q) ns)
@@ -99,12 +93,10 @@ any_where test q (n ∷ ns) h =
     ] refl
   where
     here : (b : Bool) → is_id q n.0 ≡ true → list_any (is q) (ids_where test ns) ≡ false → list_any (is q) (keys_of (cond b (n ∷ filter (λ m. test m.1) ns) (filter (λ m. test m.1) ns))) ≡ b
-    here true t none = ap (λ b. b || list_any (is q) (ids_where test ns)) (first_is q n true t)
-    here false t none = none
+    here b t none = grind (arith, first_is q n true t)
 
     there : (b : Bool) → is_id q n.0 ≡ false → list_any (is q) (keys_of (cond b (n ∷ filter (λ m. test m.1) ns) (filter (λ m. test m.1) ns))) ≡ list_any (is q) (ids_where test ns)
-    there true t = ap (λ b. b || list_any (is q) (ids_where test ns)) (first_is q n false t)
-    there false t = refl
+    there b t = grind (arith, first_is q n false t)
 
 -- and deleted as its node says
 pub deleted_at : (ns : Nodes) → AreDistinctNodes ns → (q : Identifier) → finite_set.contains (content_of_nodes ns).deleted q ≡ mark_of (lookup (is_id q) ns)
@@ -112,15 +104,7 @@ deleted_at ns h q = finite_set.contains-from_list ids_total (marked_ids ns) q �
 
 -- and shown as its node says
 pub shown_at : (ns : Nodes) → AreDistinctNodes ns → (q : Identifier) → shown (content_of_nodes ns) q ≡ char_at (lookup (is_id q) ns)
-shown_at ns h q = (λ k. cond (deleted_at ns h q k) None (option_map (λ x. x.ch) (inserted_at ns h q k))) ∙ found (lookup (is_id q) ns)
-  where
-    kept : (o : Option (Identifier × ℕ)) → option_map {T = Element} {U = ℕ} (λ x. x.ch) (option_map (λ x. element x.0 x.1) o) ≡ option_map (λ x. x.1) o
-    kept None = refl
-    kept (Some x) = refl
-
-    found : (o : Option Node) → cond (mark_of o) None (option_map (λ x. x.ch) (element_of o)) ≡ char_at o
-    found None = refl
-    found (Some v) = ap (cond v.deleted None) (kept v.element)
+shown_at ns h q = (λ k. cond (deleted_at ns h q k) None (option_map (λ x. x.ch) (inserted_at ns h q k))) ∙ grind arith
 
 -- ---- changes
 
@@ -131,20 +115,11 @@ pub record IsPut (ns ms : Nodes) (id : Identifier) (old : Option Node) (new : No
 
 -- what is seen of the nodes is as it was, but at the identifier
 pub seen_now : {A : Type 0} (see : Option Node → A) (ns ms : Nodes) (id : Identifier) (old : Option Node) (new : Node) → IsPut ns ms id old new → (q : Identifier) → see (lookup (is_id q) ms) ≡ cond (is_id id q) (see (Some new)) (see (lookup (is_id q) ns))
-seen_now see ns ms id old new w q = ap see (w.now q) ∙ split (is_id id q)
-  where
-    split : (b : Bool) → see (cond b (Some new) (lookup (is_id q) ns)) ≡ cond b (see (Some new)) (see (lookup (is_id q) ns))
-    split true = refl
-    split false = refl
+seen_now see ns ms id old new w q = grind (arith, w.now q)
 
 -- and at the identifier too, where both nodes show the same
 pub seen_same : {A : Type 0} (see : Option Node → A) (ns ms : Nodes) (id : Identifier) (old : Option Node) (new : Node) → IsPut ns ms id old new → see (Some new) ≡ see old → (q : Identifier) → see (lookup (is_id q) ms) ≡ see (lookup (is_id q) ns)
-seen_same see ns ms id old new w same q =
-    ap see (w.now q)
-    ∙ elim (is_id id q) as (λ b. is_id id q ≡ b → see (cond b (Some new) (lookup (is_id q) ns)) ≡ see (lookup (is_id q) ns)) [
-      | true ↦ λ t. same ∙ ap see (sym w.found) ∙ ap (λ i. see (lookup (is_id i) ns)) (is_id-is id q t)
-      | false ↦ λ t. refl
-    ] refl
+seen_same see ns ms id old new w same q = grind (arith, w.now q, w.found, is_id-is id q, same)
 
 -- ---- a write at a place
 
@@ -177,35 +152,21 @@ one_more n = omega arith
 
 pub place_made : (ns : Nodes) (id : Identifier) (w : Node) → StandsAt (insert_entry is_id ns id w) (position_or_len (is_id id) (keys_of ns)) id
 place_made [] id w = refl
-place_made (n ∷ ns) id w =
-    elim (is_id id n.0) as (λ b. is_id id n.0 ≡ b → StandsAt (cond b ((n.0, w) ∷ ns) (n ∷ insert_entry is_id ns id w)) (cond (not b) (1 + position_or_len (is_id id) (keys_of ns)) 0) id) [
-      | true ↦ λ t. ap Some (sym (is_id-is id n.0 t))
-      | false ↦ λ t. subst (λ i. StandsAt (n ∷ insert_entry is_id ns id w) i id) (one_more (position_or_len (is_id id) (keys_of ns))) (place_made ns id w)
-    ] refl
+place_made (n ∷ ns) id w = grind (arith, is_id-is id n.0, place_made ns id w)
 
 pub places_made : (ns : Nodes) (id : Identifier) (w : Node) (i : ℕ) (q : Identifier) → StandsAt ns i q → StandsAt (insert_entry is_id ns id w) i q
 places_made [] id w i q h = absurd (none-some _ h)
-places_made (n ∷ ns) id w zero q h =
-    elim (is_id id n.0) as (λ b. StandsAt (cond b ((n.0, w) ∷ ns) (n ∷ insert_entry is_id ns id w)) zero q) [ true ↦ h | false ↦ h ]
-places_made (n ∷ ns) id w (suc i) q h =
-    elim (is_id id n.0) as (λ b. StandsAt (cond b ((n.0, w) ∷ ns) (n ∷ insert_entry is_id ns id w)) (suc i) q) [ true ↦ h | false ↦ places_made ns id w i q h ]
+places_made (n ∷ ns) id w zero q h = grind arith
+places_made (n ∷ ns) id w (suc i) q h = grind (arith, places_made ns id w i q)
 
 pub place_found : (ns : Nodes) (id : Identifier) (v : Node) → lookup (is_id id) ns ≡ Some v → StandsAt ns (position_or_len (is_id id) (keys_of ns)) id
 place_found [] id v h = absurd (none-some _ h)
-place_found (n ∷ ns) id v h =
-    elim (is_id id n.0) as (λ b. is_id id n.0 ≡ b → cond b (Some n.1) (lookup (is_id id) ns) ≡ Some v → StandsAt (n ∷ ns) (cond (not b) (1 + position_or_len (is_id id) (keys_of ns)) 0) id) [
-      | true ↦ λ t h. ap Some (sym (is_id-is id n.0 t))
-      | false ↦ λ t h. subst (λ i. StandsAt (n ∷ ns) i id) (one_more (position_or_len (is_id id) (keys_of ns))) (place_found ns id v h)
-    ] refl h
+place_found (n ∷ ns) id v h = grind (arith, is_id-is id n.0, place_found ns id v)
 
 -- the node that was there, put back
 pub put_back : (ns : Nodes) (id : Identifier) (v w : Node) → lookup (is_id id) ns ≡ Some v → set_value_at (insert_entry is_id ns id w) (position_or_len (is_id id) (keys_of ns)) v ≡ ns
 put_back [] id v w h = absurd (none-some _ h)
-put_back (n ∷ ns) id v w h =
-    elim (is_id id n.0) as (λ b. cond b (Some n.1) (lookup (is_id id) ns) ≡ Some v → set_value_at (cond b ((n.0, w) ∷ ns) (n ∷ insert_entry is_id ns id w)) (cond (not b) (1 + position_or_len (is_id id) (keys_of ns)) 0) v ≡ n ∷ ns) [
-      | true ↦ λ h. λ k. (n.0, sym (same_Some _ _ h) k) ∷ ns
-      | false ↦ λ h. ap (λ i. set_value_at (n ∷ insert_entry is_id ns id w) i v) (sym (one_more (position_or_len (is_id id) (keys_of ns)))) ∙ ap (λ r. n ∷ r) (put_back ns id v w h)
-    ] h
+put_back (n ∷ ns) id v w h = grind (arith, put_back ns id v w)
 
 -- ---- what writes do to the content and to the children
 
@@ -262,5 +223,4 @@ module _ (ns ms : Nodes) (id : Identifier) (old : Option Node) (new : Node) (apa
       ∙ sym (finite_set.contains-remove ids_total (content_of_nodes ns).deleted id q))
     where
       apart_then : (here there : Bool) → cond here false there ≡ (not here && there)
-      apart_then true there = refl
-      apart_then false there = refl
+      apart_then here there = grind arith

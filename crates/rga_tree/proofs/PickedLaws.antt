@@ -1,16 +1,15 @@
 -- The identifiers of the nodes that pass a test, gathered node by node.
-use Rattle.std.proofs.Common.{◌≡◌, ℕ, ◌+◌, suc, zero, Bool, true, false, cond, filter, take, slice_get, add-one, List, [], ◌∷◌, ◌++◌, is_some, refl, sym, ap, ◌∙◌, subst}
-use Rattle.std.specs.Prelude.{Option, Some, None}
-use Rattle.std.specs.Option.{option_map_or}
+use Rattle.std.proofs.Common.{arith, ◌≡◌, ℕ, ◌+◌, suc, zero, Bool, true, false, cond, filter, take, slice_get, add-one, [], ◌∷◌, ◌++◌, is_some, ap, ◌∙◌, subst}
+use Rattle.std.specs.Prelude.{Some}
 use Rattle.std.specs.List.{list_any, IsDistinct, AllByRecursion}
-use Rattle.std.specs.Map.{lookup, keys_of}
+use Rattle.std.specs.Map.{keys_of}
 use Rattle.std.specs.FinMap as finite_map
 use Rattle.std.proofs.lemmas.Option.{same_Some, none-some}
 use Rattle.rga_ops.specs.Identifier.{Identifier, is_id}
 use Rattle.rga_ops.proofs.IdentifierLaws.{is}
 use Rattle.rga_tree.specs.declared.nodes.Node.{Node}
 use Rattle.rga_tree.specs.Nodes.{Nodes, ids_where, inserted_ids, content_of_nodes, AreDistinctNodes}
-use Rattle.rga_tree.proofs.NodeLaws.{same_tests, element_of, is_some-mapped, any_where, inserted_at}
+use Rattle.rga_tree.proofs.NodeLaws.{same_tests, any_where, inserted_at}
 
 module _ (test : Node → Bool) where
   -- one more node adds its identifier where it passes
@@ -18,21 +17,12 @@ module _ (test : Node → Bool) where
   picked_step ns i k v h = ap (λ n. ids_where test (take n ns)) (add-one i) ∙ step ns i h
     where
       first : (n : Identifier × Node) → n ≡ (k, v) → ids_where test (n ∷ []) ≡ cond (test v) (k ∷ []) []
-      first n e = ap (λ (m : Identifier × Node). ids_where test (m ∷ [])) e ∙ split (test v)
-        where
-          split : (b : Bool) → keys_of (cond b ((k, v) ∷ []) []) ≡ cond b (k ∷ []) []
-          split true = refl
-          split false = refl
-
-      put : (b : Bool) (n : Identifier × Node) (ns ms : Nodes) (more : List Identifier) → ids_where test ms ≡ ids_where test ns ++ more
-          → keys_of (cond b (n ∷ filter (λ m. test m.1) ms) (filter (λ m. test m.1) ms)) ≡ keys_of (cond b (n ∷ filter (λ m. test m.1) ns) (filter (λ m. test m.1) ns)) ++ more
-      put true n ns ms more h = ap (λ ks. n.0 ∷ ks) h
-      put false n ns ms more h = h
+      first n e = ap (λ (m : Identifier × Node). ids_where test (m ∷ [])) e ∙ grind arith
 
       step : (ns : Nodes) (i : ℕ) → slice_get ns i ≡ Some (k, v) → ids_where test (take (suc i) ns) ≡ ids_where test (take i ns) ++ cond (test v) (k ∷ []) []
       step [] i h = absurd (none-some _ h)
       step (n ∷ ns) zero h = first n (same_Some _ _ h)
-      step (n ∷ ns) (suc i) h = put (test n.1) n (take i ns) (take (suc i) ns) (cond (test v) (k ∷ []) []) (step ns i h)
+      step (n ∷ ns) (suc i) h = grind (arith, step ns i h)
 
   picked_all : (P : Identifier → Type 0) (ns : Nodes) → AllByRecursion P (keys_of ns) → AllByRecursion P (ids_where test ns)
   picked_all P [] h = tt
@@ -49,8 +39,4 @@ module _ (test : Node → Bool) where
 
 -- those with an element are the inserted ones
 pub any_inserted : (ns : Nodes) (q : Identifier) → AreDistinctNodes ns → list_any (is q) (inserted_ids ns) ≡ finite_map.contains_key (content_of_nodes ns).inserted q
-any_inserted ns q h = any_where (λ v. is_some v.element) q ns h ∙ found (lookup (is_id q) ns) ∙ sym (ap is_some (inserted_at ns h q))
-  where
-    found : (o : Option Node) → option_map_or (λ v. is_some v.element) o false ≡ is_some (element_of o)
-    found None = refl
-    found (Some v) = sym (is_some-mapped v.element)
+any_inserted ns q h = any_where (λ v. is_some v.element) q ns h ∙ grind (arith, inserted_at ns h q)

@@ -1,5 +1,5 @@
 -- What stands directly before an element in the order: the last under its next newer sibling, or else its parent.
-use Rattle.std.proofs.Common.{◌≡◌, ℕ, ◌-◌, ◌<◌, ◌≤◌, true, false, cond, not, ◌&&◌, ◌||◌, List, [], ◌∷◌, ◌++◌, filter, length, is_some, refl, sym, ap, ◌∙◌, subst, arith, append_assoc, append-nil, true≢false, inl, inr}
+use Rattle.std.proofs.Common.{◌≡◌, ◌-◌, ◌<◌, true, false, cond, not, ◌&&◌, ◌||◌, List, [], ◌∷◌, ◌++◌, length, is_some, refl, sym, ap, ◌∙◌, subst, arith, append_assoc, append-nil, true≢false, inl, inr}
 use Rattle.std.specs.Prelude.{Option, Some, None, ◌⊎◌, slice_get, nat_le}
 use Rattle.std.specs.Option.{option_map, option_map_or}
 use Rattle.std.specs.Cmp.{tied_itself}
@@ -9,7 +9,7 @@ use Rattle.std.specs.declared.cmp.Ordering.TheVariants.{Less, Equal, Greater}
 use Rattle.std.specs.List.{AllByRecursion}
 use Rattle.std.specs.List.Sorted.{IsStrictlySortedBy}
 use Rattle.std.specs.FinMap as finite_map
-use Rattle.std.proofs.lemmas.Bool.{or_cases, or_left, or_right}
+use Rattle.std.proofs.lemmas.Bool.{false_from_ne_true, or_cases, or_left, or_right}
 use Rattle.std.proofs.lemmas.Bool.Decides.{nat_tests}
 use Rattle.std.proofs.lemmas.Option.{same_Some, none-some}
 use Rattle.rga_ops.specs.Identifier.{Identifier, id_cmp, is_id, is_root, root}
@@ -17,7 +17,7 @@ use Rattle.rga_ops.specs.Content.{Element, Content, IsSound, clock_of}
 use Rattle.rga_ops.specs.RootPath.{Path, path_cmp, root_path, is_complete, IsRootPath}
 use Rattle.rga_ops.specs.RootPath.IsRootPath.{at_root, below}
 use Rattle.rga_ops.specs.Order.{order, Precedes, IsInOrder}
-use Rattle.rga_ops.specs.Places.{is_visible, up_to, place}
+use Rattle.rga_ops.specs.Places.{up_to, place}
 use Rattle.rga_ops.proofs.IdentifierLaws.{ids_total, ids_exact, is_id-is, is_id-itself}
 use Rattle.rga_ops.proofs.MemberLaws.{of_member}
 use Rattle.rga_ops.proofs.PathLaws.{root_path-is, is-root_path, root_path-root, root_path-step, one_path, one_element, ends, is_complete-iff, path_of_complete, not_complete_root}
@@ -80,16 +80,8 @@ from_child p rest o m h =
 
 -- and what stands before one goes on from a newer one
 to_child : (p rest : Path) (m x : Identifier) → path_cmp (p ++ m ∷ rest) (p ++ x ∷ []) ≡ Less → id_cmp x m ≡ Less
-to_child p rest m x h =
-    elim (id_cmp x m) as (λ r. id_cmp x m ≡ r → ordering_then r (path_cmp rest []) ≡ Less → id_cmp x m ≡ Less) [
-      | Less ↦ λ t h. t
-      | Equal ↦ λ t h. absurd (none_below rest h)
-      | Greater ↦ λ t h. not_less Greater refl h
-    ] refl (sym (common p (m ∷ rest) (x ∷ [])) ∙ h)
-  where
-    none_below : (r : Path) → path_cmp r [] ≡ Less → ⊥
-    none_below [] h = equal_less h
-    none_below (y ∷ r) h = not_less Greater refl h
+to_child p [] m x h = grind (arith, common p (m ∷ []) (x ∷ []), h)
+to_child p (y ∷ rest) m x h = grind (arith, common p (m ∷ y ∷ rest) (x ∷ []), h)
 
 never_empty : (p q : Path) (m : Identifier) → p ++ m ∷ q ≡ [] → ⊥
 never_empty [] q m h = cc
@@ -165,14 +157,7 @@ childless (k ∷ ks) m h = absurd (none-some _ (sym h))
 
 newer_none : (ks : List Identifier) (x m : Identifier) → next_newer x ks ≡ None → has_child ks m ≡ true → id_cmp x m ≡ Less → ⊥
 newer_none [] x m h has less = true≢false (sym has)
-newer_none (k ∷ ks) x m h has less =
-    elim (is_lt (id_cmp x k)) as (λ b. is_lt (id_cmp x k) ≡ b → cond b (Some k) (next_newer x ks) ≡ None → ⊥) [
-      | true ↦ λ t h. none-some _ (sym h)
-      | false ↦ λ t h. elim (or_cases (is_id k m) (has_child ks m) has) [
-        | inl s ↦ true≢false (sym (ap is_lt (ap (id_cmp x) (is_id-is k m s) ∙ less)) ∙ t)
-        | inr s ↦ newer_none ks x m h s less
-      ]
-    ] refl h
+newer_none (k ∷ ks) x m h has less = grind (arith, is_id-is k m, newer_none ks x m, h, has, less)
 
 -- the next newer one: it is there, it is newer, and no newer one is less
 record IsNextNewer (ks : List Identifier) (x k : Identifier) : Type 0 where
@@ -181,9 +166,7 @@ record IsNextNewer (ks : List Identifier) (x k : Identifier) : Type 0 where
   pub least : (m : Identifier) → has_child ks m ≡ true → id_cmp x m ≡ Less → (m ≡ k) ⊎ (id_cmp k m ≡ Less)
 
 less_of : (o : Ordering) → is_lt o ≡ true → o ≡ Less
-less_of Less h = refl
-less_of Equal h = absurd (true≢false (sym h))
-less_of Greater h = absurd (true≢false (sym h))
+less_of o h = grind arith
 
 newer_some : (ks : List Identifier) (x k : Identifier) → IsRising ks → next_newer x ks ≡ Some k → IsNextNewer ks x k
 unfolding IsStrictlySortedBy
@@ -318,11 +301,7 @@ module _ (c : Content) (K : Identifier → List Identifier) (w : IsFamily c K) (
   pub descent_smaller : (at o : Identifier) → slice_get (K at) 0 ≡ Some o → clock_of c - o.counter < clock_of c - at.counter
   descent_smaller at o oldest =
       let ch : IsChild c at o = child_in at o (oldest_there (K at) o oldest) in
-      let up : nat_le o.counter at.counter ≡ false = ap (λ (p : Identifier). nat_le o.counter p.counter) (sym ch.parent) ∙ (proper c sound o ch.element ch.found).1 in
-      nearer (clock_of c) o.counter at.counter ((within_clock c).own o ch.element ch.found) up
-    where
-      nearer : (n o a : ℕ) → o ≤ n → nat_le o a ≡ false → n - o < n - a
-      nearer n o a h f = grind (arith, nat_tests)
+      grind (arith, nat_tests, ch.parent, (proper c sound o ch.element ch.found).1, (within_clock c).own o ch.element ch.found)
 
   -- ---- the one directly before
 
@@ -414,25 +393,18 @@ complete_if_pathed c id p path other = λ k. not (other k) && is_some (path k)
 -- ---- the order up to an element
 
 pub tail_in_order : (c : Content) (x : Identifier) (ys : List Identifier) → IsInOrder c (x ∷ ys) → IsInOrder c ys
-tail_in_order c x [] o = tt
-tail_in_order c x (y ∷ ys) o = o.1
+tail_in_order c x ys o = grind arith
 
 -- an element before which nothing stands is the first
 up_to-first : (c : Content) (x : Identifier) (ys : List Identifier) → IsInOrder c ys → has_child ys x ≡ true → ((z : Identifier) → has_child ys z ≡ true → Precedes c z x → ⊥) → up_to x ys ≡ x ∷ []
 up_to-first c x [] o m none = absurd (true≢false (sym m))
-up_to-first c x (y ∷ ys) o m none =
-    elim (is_id y x) as (λ b. is_id y x ≡ b → (b || has_child ys x) ≡ true → cond b (y ∷ []) (y ∷ up_to x ys) ≡ x ∷ []) [
-      | true ↦ λ t m. ap (λ i. i ∷ []) (is_id-is y x t)
-      | false ↦ λ t m. absurd (none y (or_left (is_id y y) (has_child ys y) (is_id-itself y)) (all_of (Precedes c y) ys x (precedes_later c y ys o) m))
-    ] refl m
+up_to-first c x (y ∷ ys) o m none = grind (arith, is_id-is y x, is_id-itself y, none y, all_of (Precedes c y) ys x (precedes_later c y ys o), m)
 
 -- what stands behind the first of a list is up to an element what it is in the rest
 past_first : (c : Content) (y x : Identifier) (ys : List Identifier) → Precedes c y x → has_child (y ∷ ys) x ≡ true → (has_child ys x ≡ true) × (up_to x (y ∷ ys) ≡ y ∷ up_to x ys)
 past_first c y x ys before m =
-    elim (is_id y x) as (λ b. is_id y x ≡ b → (b || has_child ys x) ≡ true → (has_child ys x ≡ true) × (cond b (y ∷ []) (y ∷ up_to x ys) ≡ y ∷ up_to x ys)) [
-      | true ↦ λ t m. absurd (precedes_irreflexive c x (subst (λ i. Precedes c i x) (is_id-is y x t) before))
-      | false ↦ λ t m. (m, refl)
-    ] refl m
+    let other : is_id y x ≡ false = false_from_ne_true (is_id y x) (λ t. precedes_irreflexive c x (subst (λ i. Precedes c i x) (is_id-is y x t) before)) in
+    grind (arith, other, m)
 
 up_to-next : (c : Content) (e x : Identifier) (ys : List Identifier) → IsInOrder c ys → has_child ys e ≡ true → has_child ys x ≡ true → IsJustBefore c e x → up_to x ys ≡ up_to e ys ++ x ∷ []
 up_to-next c e x [] o me mx j = absurd (true≢false (sym me))
@@ -477,7 +449,4 @@ beginning_before c e x j complete =
 
 pub place_by : (c : Content) (id : Identifier) → Stands c id → place c id ≡ Some (length (visible_up_to c id))
 place_by c id h =
-    elim (is_root id) as (λ b. (b ≡ false → is_complete c id ≡ true) → cond b (Some 0) (cond (is_complete c id) (Some (length (filter (is_visible c) (up_to id (order c))))) None) ≡ Some (length (filter (is_visible c) (cond b [] (up_to id (order c)))))) [
-      | true ↦ λ h. refl
-      | false ↦ λ h. ap (λ b. cond b (Some (length (filter (is_visible c) (up_to id (order c))))) None) (h refl)
-    ] h
+    grind (arith, h)

@@ -1,12 +1,12 @@
 -- Where the root has a node and each other node its element, no inserted element waits.
 use Rattle.std.proofs.Common.{◌≡◌, ℕ, ◌+◌, ◌≤◌, ◌<◌, suc, zero, Bool, true, false, cond, not, ◌||◌, List, [], ◌∷◌, filter, length, is_some, refl, sym, ap, ◌∙◌, arith, true≢false, inl, inr}
-use Rattle.std.specs.Prelude.{Option, Some, None, nat_le}
+use Rattle.std.specs.Prelude.{Option, Some, None}
 use Rattle.std.specs.Cmp.{eq_by_cmp_equiv}
 use Rattle.std.specs.Option.{option_map_or}
 use Rattle.std.specs.List.{list_any, IsDistinct, AllByRecursion}
 use Rattle.std.specs.Map.{lookup, keys_of}
 use Rattle.std.specs.FinMap as finite_map
-use Rattle.std.proofs.lemmas.Bool.{or_left, or_right, or_cases, false_from_ne_true}
+use Rattle.std.proofs.lemmas.Bool.{or_cases, false_from_ne_true}
 use Rattle.std.proofs.lemmas.Bool.Decides.{nat_tests}
 use Rattle.std.proofs.lemmas.List.{length-map}
 use Rattle.std.proofs.lemmas.Map.Made.{length-le_from_is_member}
@@ -31,10 +31,8 @@ use Rattle.rga_store.proofs.StepLaws.{len-keys}
 pub seen_there : (see : Option Node → Bool) → see None ≡ false → (q : Identifier) (ns : Nodes) → see (lookup (is_id q) ns) ≡ true → list_any (is q) (keys_of ns) ≡ true
 seen_there see none q [] h = absurd (true≢false (sym h ∙ none))
 seen_there see none q (n ∷ ns) h =
-    elim (is_id q n.0) as (λ b. is_id q n.0 ≡ b → see (cond b (Some n.1) (lookup (is_id q) ns)) ≡ true → (is q n.0 || list_any (is q) (keys_of ns)) ≡ true) [
-      | true ↦ λ t h. or_left (is q n.0) (list_any (is q) (keys_of ns)) ((λ k. sym same_tests k q n.0) ∙ t)
-      | false ↦ λ t h. or_right (is q n.0) (list_any (is q) (keys_of ns)) (seen_there see none q ns h)
-    ] refl h
+    let same : is_id q n.0 ≡ is q n.0 = λ k. same_tests k q n.0 in
+    grind (arith, same, seen_there see none q ns, h)
 
 -- what is no member differs from each member
 apart_from : (k : Identifier) (ks : List Identifier) → list_any (is k) ks ≡ false → AllByRecursion (λ y. is k y ≡ false) ks
@@ -44,10 +42,7 @@ module _ (ns : Nodes) (c : Content) (means : c ≡ content_of_nodes ns) (apart :
   proper : (k : Identifier) (x : Element) → finite_map.get c.inserted k ≡ Some x → (is_root k ≡ false) × (x.parent.counter < k.counter)
   proper k x g =
       let w = well_formed_insertion k x.parent x.ch (sound (Insert k x.parent x.ch) g) in
-      (w.0, below k.counter x.parent.counter w.1)
-    where
-      below : (n m : ℕ) → nat_le n m ≡ false → m < n
-      below n m h = grind (arith, nat_tests)
+      (w.0, grind (arith, nat_tests, w.1))
 
   -- an inserted element has a node, and its parent too
   own_node : (k : Identifier) → list_any (is k) (finite_map.keys c.inserted) ≡ true → list_any (is k) (keys_of ns) ≡ true

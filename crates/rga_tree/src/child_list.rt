@@ -1,9 +1,9 @@
 //! The children of one parent.
-ghost use Rattle.std.specs.Prelude.{◌≡◌, ◌≤◌, ◌++◌, [], length, slice_get, false, IfOk, IfErr, OnOk, OnErr};
+ghost use Rattle.std.specs.Prelude.{◌≡◌, ◌≤◌, [], length, slice_get, false, IfOk, IfErr, OnOk, OnErr};
 ghost use Rattle.std.specs.List.Sorted.{IsPartitionPoint};
 ghost use Rattle.rga_ops.specs.Identifier.{id_cmp};
 ghost use Rattle.rga_store.specs.Rising.{IsRising};
-ghost use Rattle.rga_tree.specs.Children.{has_child, AddsChild, RemovesChild, children_in, next_newer, others_than};
+ghost use Rattle.rga_tree.specs.Children.{has_child, AddsChild, RemovesChild, children_in, next_newer};
 
 use rga_ops::{Id, Refusal};
 use smallvec::SmallVec;
@@ -60,8 +60,10 @@ impl ChildList {
         ensures rising { IsRising (children_in self.new) }
     {
         match self {
-            ChildList::Few(few) => remove_from_few(few, id),
-            ChildList::Many(set) => remove_from_many(set, id),
+            ChildList::Few(few) => few.retain(|child| *child != id),
+            ChildList::Many(set) => {
+                let _was_there = set.remove(&id);
+            }
         }
     }
 
@@ -121,19 +123,6 @@ fn put_among_many(set: &mut BTreeSet<Id>, id: Id) -> Result<(), Refusal>
 {
     set.insert(id)?;
     Ok(())
-}
-
-fn remove_from_few(few: &mut SmallVec<Id, 1>, id: Id)
-    ensures { few.new.items ≡ others_than id few.old.items }
-{
-    few.retain(|child| *child != id);
-}
-
-fn remove_from_many(set: &mut BTreeSet<Id>, id: Id)
-    ensures removed { RemovesChild set.old.keys set.new.keys id }
-    ensures rising { IsRising set.new.keys }
-{
-    let _was_there = set.remove(&id);
 }
 
 /// A tree of these children and one more.

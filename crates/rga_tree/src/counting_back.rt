@@ -23,7 +23,7 @@ pub(crate) fn visible_len(nodes: &IndexMap<Id, Node>) -> usize
     requires few { finite_map.len (content_of_nodes nodes.now.entries).inserted ≤ MAX_LIMIT }
     ensures { result ≡ length (visible (content_of_nodes nodes.now.entries)) }
 {
-    count_up_to(nodes, last_element(nodes))
+    count_up_to(nodes, last_element(nodes, &mut 0))
 }
 
 /// The visible element at an index; none past the end.
@@ -34,8 +34,8 @@ pub(crate) fn element_at(nodes: &IndexMap<Id, Node>, k: usize) -> Option<Id>
     requires few { finite_map.len (content_of_nodes nodes.now.entries).inserted ≤ MAX_LIMIT }
     ensures { result ≡ slice_get (visible (content_of_nodes nodes.now.entries)) k }
 {
-    let mut at = last_element(nodes);
     let mut near = 0;
+    let mut at = last_element(nodes, &mut near);
     let mut count = count_up_to(nodes, at);
     if count <= k {
         return None;
@@ -112,8 +112,8 @@ pub(crate) fn step_back(
     Some((element_before(nodes, near, parent, id), ch))
 }
 
-/// The last element of the order; the root where there is none.
-pub(crate) fn last_element(nodes: &IndexMap<Id, Node>) -> Id
+/// The last element of the order; the root where there is none. It leaves its index at `near`.
+pub(crate) fn last_element(nodes: &IndexMap<Id, Node>, near: &mut usize) -> Id
     requires family { HasFamilies nodes.now.entries }
     requires sound { IsSound (content_of_nodes nodes.now.entries) }
     ensures last { beginning (content_of_nodes nodes.now.entries) result
@@ -121,7 +121,7 @@ pub(crate) fn last_element(nodes: &IndexMap<Id, Node>) -> Id
     ensures complete { is_root result ≡ false →
         is_complete (content_of_nodes nodes.now.entries) result ≡ true }
 {
-    last_under(nodes, Id::ROOT)
+    last_under(nodes, near, Id::ROOT)
 }
 
 /// Whether an identifier is the root or complete: up the parents from it.

@@ -13,7 +13,6 @@ mod merging;
 mod nodes;
 mod operations;
 mod preceding;
-mod telling;
 mod tree_store;
 mod walk;
 

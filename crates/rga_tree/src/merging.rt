@@ -7,7 +7,7 @@ ghost use Rattle.rga_ops.specs.Content.{join, known_count, known_ids};
 ghost use Rattle.rga_ops.specs.ListAnswer.{has_another, least_conflict};
 ghost use Rattle.rga_tree.specs.Nodes.{content_of_nodes, AreDistinctNodes};
 
-use crate::nodes::Node;
+use crate::nodes::{Node, element_of};
 use indexmap::IndexMap;
 use rga_ops::{Id, Op};
 
@@ -54,24 +54,9 @@ fn conflicts(nodes: &IndexMap<Id, Node>, id: Id, node: &Node) -> bool
     ensures { let content = content_of_nodes nodes.now.entries in result
         ≡ option_map_or (λ x. has_another content (Op.Insert id x.0 x.1)) node.now.element false }
 {
-    match node.element {
-        Some(element) => have_another(nodes, id, element),
-        None => false,
-    }
-}
-
-/// Whether the nodes insert another element under this identifier.
-fn have_another(nodes: &IndexMap<Id, Node>, id: Id, element: (Id, char)) -> bool
-    requires { AreDistinctNodes nodes.now.entries }
-    ensures { result
-        ≡ has_another (content_of_nodes nodes.now.entries) (Op.Insert id element.0 element.1) }
-{
-    match nodes.get(&id) {
-        Some(node) => match node.element {
-            Some(present) => present != element,
-            None => false,
-        },
-        None => false,
+    match (element_of(nodes, id), node.element) {
+        (Some(present), Some(element)) => present != element,
+        _ => false,
     }
 }
 

@@ -3,7 +3,7 @@ ghost use Rattle.std.specs.Prelude.{◌≡◌, [], true, false, None, IfOk, IfEr
 ghost use Rattle.std.specs.FinMap as finite_map;
 ghost use Rattle.std.specs.FinSet as finite_set;
 ghost use Rattle.std.specs.Map.{lookup};
-ghost use Rattle.std.specs.Option.{option_copied};
+ghost use Rattle.std.specs.Option.{option_copied, option_map};
 ghost use Rattle.rga_ops.specs.Prelude.{is_id, join, single};
 ghost use Rattle.rga_ops.specs.Found.{facts_of};
 ghost use Rattle.rga_tree.specs.Children.{children_in, has_child};
@@ -219,6 +219,15 @@ pub(crate) fn remove_child(nodes: &mut IndexMap<Id, Node>, parent: Id, id: Id)
         Some(node) => node.children.remove(id),
         None => (),
     }
+}
+
+/// The parent and the character under an identifier, if it is inserted.
+pub(crate) fn element_of(nodes: &IndexMap<Id, Node>, id: Id) -> Option<(Id, char)>
+    requires { AreDistinctNodes nodes.now.entries }
+    ensures { let content = content_of_nodes nodes.now.entries in
+        result ≡ option_map (λ x. (x.parent, x.ch)) (finite_map.get content.inserted id) }
+{
+    nodes.get(&id)?.element
 }
 
 /// The node of an identifier. It is looked for first at the index `near`, whichever that is, which

@@ -1,4 +1,4 @@
-//! A content as a list of operations.
+//! A content as a list of operations, and operations told one by one.
 ghost use Rattle.std.specs.Prelude.{◌≡◌, ◌++◌, map, IfErr, OnOk};
 ghost use Rattle.std.specs.List.{filter_map};
 ghost use Rattle.std.specs.FinMap as finite_map;
@@ -6,9 +6,10 @@ ghost use Rattle.std.specs.FinSet as finite_set;
 ghost use Rattle.rga_ops.specs.Operations.{insertion_at, rising};
 ghost use Rattle.rga_tree.specs.Nodes.{content_of_nodes, inserted_ids, marked_ids, AreDistinctNodes};
 
-use crate::nodes::Node;
+use crate::nodes::{Node, element_of};
 use indexmap::IndexMap;
 use rga_ops::{Id, Op, Refusal};
+use rga_store::Listener;
 use std::alloc::Global;
 
 /// Adds the insertions by rising identifier.
@@ -86,19 +87,16 @@ fn push_insertions(ops: &mut Vec<Op>, nodes: &IndexMap<Id, Node>, ids: &[Id]) ->
     ensures memory { IfErr result (λ e. e ≡ Refusal.Memory) }
 {
     for id in ids {
-        if let Some(op) = insertion_of(nodes, *id) {
-            ops.push(op)?;
+        if let Some(element) = element_of(nodes, *id) {
+            let (parent, ch) = element;
+            ops.push(Op::Insert {
+                id: *id,
+                parent,
+                ch,
+            })?;
         }
     }
     Ok(())
-}
-
-fn insertion_of(nodes: &IndexMap<Id, Node>, id: Id) -> Option<Op>
-    requires { AreDistinctNodes nodes.now.entries }
-    ensures { result ≡ insertion_at (content_of_nodes nodes.now.entries) id }
-{
-    let (parent, ch) = nodes.get(&id)?.element?;
-    Some(Op::Insert { id, parent, ch })
 }
 
 fn push_deletions(ops: &mut Vec<Op>, ids: &[Id]) -> Result<(), Refusal>
@@ -107,6 +105,17 @@ fn push_deletions(ops: &mut Vec<Op>, ids: &[Id]) -> Result<(), Refusal>
 {
     for id in ids {
         ops.push(Op::Delete { id: *id })?;
+    }
+    Ok(())
+}
+
+/// Tells the operations of a list.
+pub(crate) fn tell_each<L: Listener>(ops: &[Op], listener: &mut L) -> Result<(), Refusal>
+    ensures ok { OnOk result (L.hears listener.old ops.now listener.new) }
+    ensures memory { IfErr result (λ e. e ≡ Refusal.Memory) }
+{
+    for op in ops {
+        listener.hear(op)?;
     }
     Ok(())
 }

@@ -26,14 +26,14 @@ pub(crate) fn element_before(nodes: &IndexMap<Id, Node>, near: &mut usize, paren
         is_complete (content_of_nodes nodes.now.entries) result ≡ true }
 {
     match newer_sibling(nodes, near, parent, id) {
-        Some(sibling) => last_under(nodes, sibling),
+        Some(sibling) => last_under(nodes, near, sibling),
         None => parent,
     }
 }
 
 /// The last in the order of the root or a complete element, and of what stands under it: the oldest
-/// child's oldest child, and so on.
-pub(crate) fn last_under(nodes: &IndexMap<Id, Node>, id: Id) -> Id
+/// child's oldest child, and so on. It leaves the index of the last at `near`.
+pub(crate) fn last_under(nodes: &IndexMap<Id, Node>, near: &mut usize, id: Id) -> Id
     requires family { HasFamilies nodes.now.entries }
     requires sound { IsSound (content_of_nodes nodes.now.entries) }
     requires complete { is_root id ≡ false →
@@ -41,20 +41,18 @@ pub(crate) fn last_under(nodes: &IndexMap<Id, Node>, id: Id) -> Id
     ensures { IsLastUnder (content_of_nodes nodes.now.entries) id result }
 {
     let mut last = id;
-    let mut near = 0;
-    while let Some(child) = oldest_child(nodes, &mut near, last) {
+    while let Some(child) = oldest_child(nodes, near, last) {
+        // A child's node mostly stands directly after its parent's.
+        *near = near.wrapping_add(1);
         last = child;
     }
     last
 }
 
-/// It leaves the index after the parent's at `near`: its oldest child's node mostly stands there.
 fn oldest_child(nodes: &IndexMap<Id, Node>, near: &mut usize, parent: Id) -> Option<Id>
     ensures { result ≡ slice_get (children_of nodes.now.entries parent) 0 }
 {
-    let node = find_node(nodes, near, parent)?;
-    *near = near.wrapping_add(1);
-    node.children.oldest()
+    find_node(nodes, near, parent)?.children.oldest()
 }
 
 fn newer_sibling(nodes: &IndexMap<Id, Node>, near: &mut usize, parent: Id, id: Id) -> Option<Id>

@@ -11,9 +11,8 @@ mod whole_list;
 
 use crate::counting_back::{element_at, place_of, visible_len};
 use crate::merging::{count_unknown, knows, least_conflict};
-use crate::nodes::{Node, add_child, ensure_node, found_at, mark, set_element};
-use crate::operations::{list_deletions, list_insertions};
-use crate::telling::{tell_deletions, tell_insertions};
+use crate::nodes::{Node, add_child, element_of, ensure_node, found_at, mark, set_element};
+use crate::operations::{list_deletions, list_insertions, tell_each};
 use crate::walk::{encoded, walked, walked_visible};
 use indexmap::IndexMap;
 use rga_ops::{Found, Id, Op, Refusal, Taken, answer_to};
@@ -123,16 +122,12 @@ impl TreeStore {
         let known = self.known;
         let limit = self.limit;
         match self.nodes.get(&id) {
-            Some(node) => {
-                let element = node.element;
-                let deleted = node.deleted;
-                Found {
-                    element,
-                    deleted,
-                    known,
-                    limit,
-                }
-            }
+            Some(node) => Found {
+                element: node.element,
+                deleted: node.deleted,
+                known,
+                limit,
+            },
             None => Found {
                 element: None,
                 deleted: false,
@@ -218,14 +213,11 @@ impl TextStore for TreeStore {
     }
 
     fn get(&self, id: Id) -> Option<(Id, char)> {
-        self.nodes.get(&id)?.element
+        element_of(&self.nodes, id)
     }
 
     fn is_deleted(&self, id: Id) -> bool {
-        match self.nodes.get(&id) {
-            Some(node) => node.deleted,
-            None => false,
-        }
+        self.find(id).deleted
     }
 
     fn known(&self) -> usize {
@@ -321,10 +313,14 @@ impl TextStore for TreeStore {
 
 impl Teller for TreeStore {
     fn tell_insertions<L: Listener>(&self, listener: &mut L) -> Result<(), Refusal> {
-        tell_insertions(self.alloc, &self.nodes, listener)
+        let mut told = Vec::new(self.alloc);
+        list_insertions(self.alloc, &mut told, &self.nodes)?;
+        tell_each(&told, listener)
     }
 
     fn tell_deletions<L: Listener>(&self, listener: &mut L) -> Result<(), Refusal> {
-        tell_deletions(self.alloc, &self.nodes, listener)
+        let mut told = Vec::new(self.alloc);
+        list_deletions(self.alloc, &mut told, &self.nodes)?;
+        tell_each(&told, listener)
     }
 }

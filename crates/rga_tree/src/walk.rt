@@ -22,8 +22,8 @@ pub(crate) fn walked(alloc: Global, nodes: &IndexMap<Id, Node>) -> Result<Vec<Id
     ensures memory { IfErr result (λ e. e ≡ Refusal.Memory) }
 {
     let mut order = Vec::with_capacity(alloc, nodes.len())?;
-    let mut at = last_element(nodes);
     let mut near = 0;
+    let mut at = last_element(nodes, &mut near);
     while let Some(step) = step_back(nodes, &mut near, at) {
         order.push(at)?;
         at = step.0;
@@ -48,38 +48,16 @@ pub(crate) fn walked_visible(
 {
     let mut ids = Vec::with_capacity(alloc, nodes.len())?;
     let mut chars = Vec::with_capacity(alloc, nodes.len())?;
-    list_back(nodes, &mut ids, &mut chars)?;
+    let mut near = 0;
+    let mut at = last_element(nodes, &mut near);
+    while let Some(step) = step_back(nodes, &mut near, at) {
+        let (before, ch) = step;
+        push_visible(&mut ids, &mut chars, at, ch)?;
+        at = before;
+    }
     ids.reverse();
     chars.reverse();
     Ok((ids, chars))
-}
-
-/// Lists the visible elements from the last to the first, and their characters, in two lists that
-/// are empty.
-fn list_back(
-    nodes: &IndexMap<Id, Node>,
-    ids: &mut Vec<Id>,
-    chars: &mut Vec<char>,
-) -> Result<(), Refusal>
-    requires no_elements { ids.old.items ≡ [] }
-    requires no_characters { chars.old.items ≡ [] }
-    requires apart { AreDistinctNodes nodes.now.entries }
-    requires family { HasFamilies nodes.now.entries }
-    requires sound { IsSound (content_of_nodes nodes.now.entries) }
-    ensures elements { OnOk result
-        (reverse ids.new.items ≡ visible (content_of_nodes nodes.now.entries)) }
-    ensures characters { OnOk result
-        (reverse chars.new.items ≡ text (content_of_nodes nodes.now.entries)) }
-    ensures memory { IfErr result (λ e. e ≡ Refusal.Memory) }
-{
-    let mut at = last_element(nodes);
-    let mut near = 0;
-    while let Some(step) = step_back(nodes, &mut near, at) {
-        let (before, ch) = step;
-        push_visible(ids, chars, at, ch)?;
-        at = before;
-    }
-    Ok(())
 }
 
 /// An element goes to the end if it has a character, which goes there too.

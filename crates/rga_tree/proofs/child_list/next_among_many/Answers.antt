@@ -1,4 +1,4 @@
-use Rattle.std.proofs.Common.{◌≡◌, true, false, cond, ◌&&◌, List, [], ◌∷◌, filter, refl, sym, ◌∙◌}
+use Rattle.std.proofs.Common.{arith, ◌≡◌, true, ◌&&◌, List, [], ◌∷◌, filter, refl, sym, ◌∙◌}
 use Rattle.std.specs.Prelude.{Some, None}
 use Rattle.std.specs.Ordering.{is_lt}
 use Rattle.rga_ops.specs.Identifier.{Identifier, id_cmp}
@@ -11,19 +11,11 @@ newer id ks = filter (λ k. is_lt (id_cmp id k) && true) ks
 -- the first that is left of a filtered list is the first that passes
 first_newer : (id k : Identifier) (ks rest : List Identifier) → newer id ks ≡ k ∷ rest → next_newer id ks ≡ Some k
 first_newer id k [] rest h = absurd (cc)
-first_newer id k (x ∷ ks) rest h =
-    elim (is_lt (id_cmp id x)) as (λ b. cond (b && true) (x ∷ newer id ks) (newer id ks) ≡ k ∷ rest → cond b (Some x) (next_newer id ks) ≡ Some k) [
-      | true ↦ λ h. cc
-      | false ↦ λ h. first_newer id k ks rest h
-    ] h
+first_newer id k (x ∷ ks) rest h = grind (arith, first_newer id k ks rest, h)
 
 none_newer : (id : Identifier) (ks : List Identifier) → newer id ks ≡ [] → next_newer id ks ≡ None
 none_newer id [] h = refl
-none_newer id (x ∷ ks) h =
-    elim (is_lt (id_cmp id x)) as (λ b. cond (b && true) (x ∷ newer id ks) (newer id ks) ≡ [] → cond b (Some x) (next_newer id ks) ≡ None) [
-      | true ↦ λ h. absurd (cc)
-      | false ↦ λ h. none_newer id ks h
-    ] h
+none_newer id (x ∷ ks) h = grind (arith, none_newer id ks, h)
 
 pub returns-in-Some : goal.returns-in-Some
 returns-in-Some c = sym (first_newer c.args.id c.in-Some.child.now c.args.set.now.keys c.next.new.self (sym (c.range.ensures.between tt) ∙ c.in-Some.ensures.steps))

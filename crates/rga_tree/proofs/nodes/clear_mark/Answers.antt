@@ -22,7 +22,7 @@ put c = record { found = found c; now = ((c.get_mut.follows.holds (written c)).3
 
 pub returns-in-Some-clause-inserted : goal.returns-in-Some-clause-inserted
 returns-in-Some-clause-inserted c =
-    c.is_some.ensures ∙ sym (is_some-mapped c.in-Some.node.now.element)
+    c.is_some.ensures ∙ sym (is_some-mapped _ c.in-Some.node.now.element)
     ∙ sym (ap is_some (inserted_at c.args.nodes.now.entries c.get_mut.ensures.unique c.args.id ∙ ap element_of (found c)))
 
 pub returns-in-Some-clause-content : goal.returns-in-Some-clause-content

@@ -1,9 +1,11 @@
-use Rattle.std.proofs.Common.{◌≡◌, sym, ap, ◌∙◌, subst}
+use Rattle.std.proofs.Common.{◌≡◌, ℕ, sym, ap, ◌∙◌, subst}
 use Rattle.std.specs.Prelude.{None}
 use Rattle.indexmap.specs.IndexMap.{insert_entry, set_value_at}
-use Rattle.rga_ops.specs.Identifier.{is_id}
+use Rattle.std.specs.Option.{option_map}
+use Rattle.rga_ops.specs.Identifier.{Identifier, is_id}
+use Rattle.rga_ops.specs.Content.{element}
 use Rattle.rga_tree.specs.Nodes.{Nodes, AreDistinctNodes, StandsAt, content_of_nodes, children_of}
-use Rattle.rga_tree.proofs.NodeLaws.{IsPut, put_back, place_made, places_made, place_found, content_kept, children_kept, element_in_new}
+use Rattle.rga_tree.proofs.NodeLaws.{IsPut, put_back, place_made, places_made, place_found, content_kept, children_kept}
 use Rattle.rga_tree.proofs.nodes.ensure_node.Goals as goal
 
 -- ---- a node is made
@@ -27,7 +29,7 @@ returns-in-Ok-default-None-clause-others c = λ i q h.
 pub returns-in-Ok-default-None-clause-content : goal.returns-in-Ok-default-None-clause-content
 returns-in-Ok-default-None-clause-content c =
     content_kept c.args.nodes.now.entries c.insert_full.new.self.entries c.args.id None c.new.result c.requires c.in-Ok-default-None.ensures.unique (put c)
-    (element_in_new c.new.result c.new.ensures.element) c.new.ensures.unmarked
+    (ap (option_map (λ (x : Identifier × ℕ). element x.0 x.1)) c.new.ensures.element) c.new.ensures.unmarked
 
 pub returns-in-Ok-default-None-clause-children : goal.returns-in-Ok-default-None-clause-children
 returns-in-Ok-default-None-clause-children c =

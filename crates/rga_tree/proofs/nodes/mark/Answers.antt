@@ -20,7 +20,7 @@ apart c = apart_still c.args.nodes.now c.args.index c.args.id c.index_mut-node.r
 
 pub returns-clause-inserted : goal.returns-clause-inserted
 returns-clause-inserted c =
-    c.is_some.ensures ∙ sym (is_some-mapped c.index_mut-node.result.now.element)
+    c.is_some.ensures ∙ sym (is_some-mapped _ c.index_mut-node.result.now.element)
     ∙ sym (ap is_some (inserted_at c.args.nodes.now.entries c.requires.apart c.args.id ∙ ap element_of (put c).found))
 
 pub returns-clause-content : goal.returns-clause-content

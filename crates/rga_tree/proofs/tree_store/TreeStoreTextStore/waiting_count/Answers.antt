@@ -1,4 +1,4 @@
-use Rattle.std.proofs.Common.{◌≡◌, ℕ, ◌+◌, ◌-◌, ◌≤◌, length, ap, ◌∙◌, arith}
+use Rattle.std.proofs.Common.{◌≡◌, ◌+◌, ◌-◌, length, ap, ◌∙◌, arith}
 use Rattle.std.specs.FinMap as finite_map
 use Rattle.rga_ops.specs.Content.{Content}
 use Rattle.rga_ops.specs.Order.{order, waiting}
@@ -12,17 +12,11 @@ use Rattle.rga_tree.proofs.tree_store.TreeStoreTextStore.waiting_count.Goals as 
 all : (c : Content) → length (order c) + length (waiting c) ≡ finite_map.len c.inserted
 all c = ordered_and_waiting c ∙ len-keys c
 
-below : (o w n i s : ℕ) → o + w ≡ n → i ≡ n → s ≡ o → s ≤ i
-below o w n i s p r q = omega arith
-
-left : (o w n i s : ℕ) → o + w ≡ n → i ≡ n → s ≡ o → i - s ≡ w
-left o w n i s p r q = omega arith
-
 pub overflow_sub-result : goal.overflow_sub-result
 overflow_sub-result c =
-    below _ _ _ _ _ (all (content_of_nodes c.self.inside.nodes.entries)) c.self.invariant.counted.inserted (ap length (c.as_slice.ensures.value ∙ c.in_ok-order.ensures.ok))
+    omega (arith, all (content_of_nodes c.self.inside.nodes.entries), c.self.invariant.counted.inserted, ap length (c.as_slice.ensures.value ∙ c.in_ok-order.ensures.ok))
 
 pub returns-clause-ok : goal.returns-clause-ok
 returns-clause-ok c =
-    left _ _ _ _ _ (all (content_of_nodes c.self.inside.nodes.entries)) c.self.invariant.counted.inserted (ap length (c.as_slice.ensures.value ∙ c.in_ok-order.ensures.ok))
+    omega (arith, all (content_of_nodes c.self.inside.nodes.entries), c.self.invariant.counted.inserted, ap length (c.as_slice.ensures.value ∙ c.in_ok-order.ensures.ok))
     ∙ ap (λ (v : Kept). length (waiting v.content)) c.self.view_is

@@ -5,7 +5,7 @@ use Rattle.rga_tree.specs.Nodes.{content_of_nodes}
 use Rattle.rga_tree.specs.Preceding.{beginning, visible_up_to}
 use Rattle.rga_tree.proofs.PrecedingLaws.{Stands}
 use Rattle.rga_tree.proofs.CountingLaws.{chars_up_to}
-use Rattle.rga_tree.proofs.walk.list_back.Given as goal
+use Rattle.rga_tree.proofs.walk.walked_visible.Given as goal
 
 -- what is still to come, and what is listed turned round, are all
 abbrev pub invariant-loop-step : goal.invariant-loop-step

@@ -1,5 +1,5 @@
 use Rattle.std.proofs.Common.{take}
-use Rattle.rga_tree.proofs.telling.tell_each.Given as goal
+use Rattle.rga_tree.proofs.operations.tell_each.Given as goal
 
 -- the operations so far were heard
 abbrev pub invariant-loop-op : goal.invariant-loop-op
