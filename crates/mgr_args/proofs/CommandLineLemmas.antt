@@ -25,7 +25,7 @@ use Rattle.mgr_args.specs.declared.job.JobFault.{JobFault}
 use Rattle.mgr_args.specs.declared.job.JobFault.TheVariants.{Help, Version, Usage, Memory}
 use Rattle.mgr_args.specs.declared.job.Topic.{Topic}
 use Rattle.mgr_args.specs.declared.job.Topic.TheVariants as topic
-use Rattle.mgr_args.specs.CommandLine.{Text, Wish, arguments_wish, asking, command_line, with_help_flag, help, is_help_flag, is_version_flag, mistake, topic_of, topic_of_word, version, wish_of, wish_on, word_of}
+use Rattle.mgr_args.specs.CommandLine.{Text, Wish, arguments_wish, asking, command_line, with_help_flag, help, is_help_flag, is_version_flag, job_topics, mistake, topic_among, topic_of, topic_of_word, version, wish_of, wish_on, word_of}
 
 pub command_line_is_simple : is_simple_and_free command_line ≡ true
 unfolding clap_on_literals
@@ -247,63 +247,38 @@ bytes_eq-swap : (a b : Text) → bytes_eq a b ≡ false → bytes_eq b a ≡ fal
 bytes_eq-swap a b unlike =
     false_from_ne_true (bytes_eq b a) (λ same. both_ways _ unlike ((bytes_eq-Decides a b).1 (sym ((bytes_eq-Decides b a).0 same))))
 
--- the word names no job
-record NamesNone (word : Text) : Type 0 where
-  show : bytes_eq word (codes "show") ≡ false
-  edit : bytes_eq word (codes "edit") ≡ false
-  compact : bytes_eq word (codes "compact") ≡ false
-  join : bytes_eq word (codes "join") ≡ false
-  log : bytes_eq word (codes "log") ≡ false
-  who : bytes_eq word (codes "who") ≡ false
-  claims : bytes_eq word (codes "claims") ≡ false
-  missing : bytes_eq word (codes "missing") ≡ false
-  merge : bytes_eq word (codes "merge") ≡ false
-  mend : bytes_eq word (codes "mend") ≡ false
+-- a wish that begins with the word of that topic is for its job
+abbrev IsWished : Text → Topic → Type 0
+IsWished word on = (rest : List Text) → wish_on on word rest ≡ asking on rest
 
--- it is the word of that topic
-abbrev NamesTopic : Text → Topic → Type 0
-NamesTopic word topic.Program = NamesNone word
-NamesTopic word on = word ≡ word_of on
+-- the word is that of none of these topics
+abbrev NamesNone : Text → List Topic → Type 0
+NamesNone word = AllByRecursion (λ on. bytes_eq (word_of on) word ≡ false)
 
--- a word is that of its topic, by one test after the other
-names_topic : (word : Text) → NamesTopic word (topic_of_word word)
-names_topic word = elim (cases_Bool (bytes_eq word (codes "show"))) [
-  | inl same ↦ rw same ((bytes_eq-Decides word _).0 same)
-  | inr show ↦ elim (cases_Bool (bytes_eq word (codes "edit"))) [
-    | inl same ↦ rw (show, same) ((bytes_eq-Decides word _).0 same)
-    | inr edit ↦ elim (cases_Bool (bytes_eq word (codes "compact"))) [
-      | inl same ↦ rw (show, edit, same) ((bytes_eq-Decides word _).0 same)
-      | inr compact ↦ elim (cases_Bool (bytes_eq word (codes "join"))) [
-        | inl same ↦ rw (show, edit, compact, same) ((bytes_eq-Decides word _).0 same)
-        | inr join ↦ elim (cases_Bool (bytes_eq word (codes "log"))) [
-          | inl same ↦ rw (show, edit, compact, join, same) ((bytes_eq-Decides word _).0 same)
-          | inr log ↦ elim (cases_Bool (bytes_eq word (codes "who"))) [
-            | inl same ↦ rw (show, edit, compact, join, log, same) ((bytes_eq-Decides word _).0 same)
-            | inr who ↦ elim (cases_Bool (bytes_eq word (codes "claims"))) [
-              | inl same ↦ rw (show, edit, compact, join, log, who, same) ((bytes_eq-Decides word _).0 same)
-              | inr claims ↦ elim (cases_Bool (bytes_eq word (codes "missing"))) [
-                | inl same ↦ rw (show, edit, compact, join, log, who, claims, same) ((bytes_eq-Decides word _).0 same)
-                | inr missing ↦ elim (cases_Bool (bytes_eq word (codes "merge"))) [
-                  | inl same ↦ rw (show, edit, compact, join, log, who, claims, missing, same) ((bytes_eq-Decides word _).0 same)
-                  | inr merge ↦ elim (cases_Bool (bytes_eq word (codes "mend"))) [
-                    | inl same ↦ rw (show, edit, compact, join, log, who, claims, missing, merge, same) ((bytes_eq-Decides word _).0 same)
-                    | inr mend ↦ rw (show, edit, compact, join, log, who, claims, missing, merge, mend) (record { show = show; edit = edit; compact = compact; join = join; log = log; who = who; claims = claims; missing = missing; merge = merge; mend = mend })
-                  ]
-                ]
-              ]
-            ]
-          ]
-        ]
-      ]
-    ]
+-- a word is that of its topic, or of none
+abbrev IsNamed : Text → List Topic → Type 0
+IsNamed word ons = ((word ≡ word_of (topic_among ons word)) × IsWished word (topic_among ons word))
+    ⊎ ((topic_among ons word ≡ topic.Program) × NamesNone word ons)
+
+named_among : (word : Text) (ons : List Topic) → AllByRecursion (IsWished word) ons → IsNamed word ons
+named_among word [] wished = inr (refl, tt)
+named_among word (on ∷ more) wished = elim (cases_Bool (bytes_eq word (word_of on))) [
+  | inl same ↦ rw same (inl ((bytes_eq-Decides word _).0 same, wished.0))
+  | inr other ↦ elim (named_among word more wished.1) [
+    | inl job ↦ rw other (inl job)
+    | inr none ↦ rw other (inr (none.0, (bytes_eq-swap word _ other, none.1)))
   ]
 ]
 
-turn_top : (word : Text) → NamesNone word → bytes_eq word (codes "--") ≡ false
+named : (word : Text) → IsNamed word job_topics
+named word = named_among word job_topics
+    (λ _. refl, (λ _. refl, (λ _. refl, (λ _. refl, (λ _. refl, (λ _. refl, (λ _. refl, (λ _. refl, (λ _. refl, (λ _. refl, tt))))))))))
+
+turn_top : (word : Text) → NamesNone word job_topics → bytes_eq word (codes "--") ≡ false
     → turn_fault top top_names (walk_from nothing_held) word ≡ or_else (flag_kinds word) (step_fault top 1 (flag_held word) (flag_step word))
 unfolding clap_on_literals
-turn_top word none unlike =
-    rw (bytes_eq-swap word _ none.show, bytes_eq-swap word _ none.edit, bytes_eq-swap word _ none.compact, bytes_eq-swap word _ none.join, bytes_eq-swap word _ none.log, bytes_eq-swap word _ none.who, bytes_eq-swap word _ none.claims, bytes_eq-swap word _ none.missing, bytes_eq-swap word _ none.merge, bytes_eq-swap word _ none.mend, unlike) refl
+turn_top word (show, (edit, (compact, (join, (log, (who, (claims, (missing, (merge, (mend, end)))))))))) unlike =
+    rw (show, edit, compact, join, log, who, claims, missing, merge, mend, unlike) refl
 
 first_mistake : (ks next : Kinds) → IsMistaken ks → IsMistaken (or_else ks next)
 first_mistake [] next none = absurd (let clash : false ≡ true = none.test in cc)
@@ -351,31 +326,13 @@ top_other word rest none (for_nothing no_help no_version wrong) =
 top_kinds : (words : List Text) → AreTexts words → AtTop words
 unfolding clap_on_literals
 top_kinds [] utf8 = record { test = refl }
-top_kinds (word ∷ rest) utf8 = by_topic (topic_of_word word) refl
-  where
-    -- the words of a job
-    of_job : (on : Topic) → topic_of_word word ≡ on → word ≡ word_of on → wish_on on word rest ≡ asking on rest → AtTop (word ∷ rest)
-    of_job on is named wish =
-        let wished : arguments_wish (word ∷ rest) ≡ asking on rest = ap (λ t. wish_on t word rest) is ∙ wish in
-        subst (λ w. AreKindsOf (topic_of_word word) w (top_fault (word ∷ rest))) (sym wished) (is, ap (λ (w : Text). top_fault (w ∷ rest)) named)
-
-    of_none : NamesNone word → topic_of_word word ≡ topic.Program → (bytes_eq word (codes "--") ≡ true) ⊎ (bytes_eq word (codes "--") ≡ false) → AtTop (word ∷ rest)
-    of_none none is (inl dashes) = subst (λ (w : Text). AtTop (w ∷ rest)) (sym ((bytes_eq-Decides word (codes "--")).0 dashes)) (top_dashes rest)
-    of_none none is (inr unlike) =
-        top_other word rest is (settles word _ (step_fault top 1 (flag_held word)) (turn_top word none unlike) (record { test = refl }) (reads_flag word utf8.0))
-
-    by_topic : (on : Topic) → topic_of_word word ≡ on → AtTop (word ∷ rest)
-    by_topic topic.Program is = of_none (subst (NamesTopic word) is (names_topic word)) is (cases_Bool (bytes_eq word (codes "--")))
-    by_topic topic.Show is = of_job topic.Show is (subst (NamesTopic word) is (names_topic word)) refl
-    by_topic topic.Edit is = of_job topic.Edit is (subst (NamesTopic word) is (names_topic word)) refl
-    by_topic topic.Compact is = of_job topic.Compact is (subst (NamesTopic word) is (names_topic word)) refl
-    by_topic topic.Join is = of_job topic.Join is (subst (NamesTopic word) is (names_topic word)) refl
-    by_topic topic.Log is = of_job topic.Log is (subst (NamesTopic word) is (names_topic word)) refl
-    by_topic topic.Who is = of_job topic.Who is (subst (NamesTopic word) is (names_topic word)) refl
-    by_topic topic.Claims is = of_job topic.Claims is (subst (NamesTopic word) is (names_topic word)) refl
-    by_topic topic.Missing is = of_job topic.Missing is (subst (NamesTopic word) is (names_topic word)) refl
-    by_topic topic.Merge is = of_job topic.Merge is (subst (NamesTopic word) is (names_topic word)) refl
-    by_topic topic.Mend is = of_job topic.Mend is (subst (NamesTopic word) is (names_topic word)) refl
+top_kinds (word ∷ rest) utf8 = elim (named word) [
+  | inl job ↦ subst (λ w. AreKindsOf (topic_of_word word) w (top_fault (word ∷ rest))) (sym (job.1 rest)) (refl, ap (λ (w : Text). top_fault (w ∷ rest)) job.0)
+  | inr none ↦ elim (cases_Bool (bytes_eq word (codes "--"))) [
+    | inl dashes ↦ subst (λ (w : Text). AtTop (w ∷ rest)) (sym ((bytes_eq-Decides word (codes "--")).0 dashes)) (top_dashes rest)
+    | inr unlike ↦ top_other word rest none.0 (settles word _ (step_fault top 1 (flag_held word)) (turn_top word none.1 unlike) (record { test = refl }) (reads_flag word utf8.0))
+  ]
+]
 
 -- ---- what the functions of the crate need
 
@@ -513,34 +470,19 @@ chooses_wish mistake on ks found are none entered = absurd (both_ways _ (ap is_m
 -- the words of a wish for a job are those after its word
 entered_by : (behind : List Text) (on : Topic) (words : List Text) → arguments_wish behind ≡ asking on words → behind ≡ word_of on ∷ words
 entered_by [] on words is = absurd (let clash : mistake ≡ asking on words = is in cc)
-entered_by (word ∷ rest) on words is = by_topic (topic_of_word word) refl
+entered_by (word ∷ rest) on words is = elim (named word) [
+  | inl job ↦
+      let same : asking (topic_of_word word) rest ≡ asking on words = sym (job.1 rest) ∙ is in
+      let topics : topic_of_word word ≡ on = cc in
+      let texts : rest ≡ words = cc in
+      ap₂ (λ (w : Text) (ws : List Text). w ∷ ws) (job.0 ∙ ap word_of topics) texts
+  | inr none ↦ absurd (of_flag (is_help_flag word) (is_version_flag word) (ap (λ t. wish_on t word rest) (sym none.0) ∙ is))
+]
   where
-    of_job : (t : Topic) → word ≡ word_of t → asking t rest ≡ asking on words → word ∷ rest ≡ word_of on ∷ words
-    of_job t named same =
-        let topics : t ≡ on = cc in
-        let texts : rest ≡ words = cc in
-        ap₂ (λ (w : Text) (ws : List Text). w ∷ ws) (named ∙ ap word_of topics) texts
-
     of_flag : (h v : Bool) → (if h then help else if v then version else mistake) ≡ asking on words → ⊥
     of_flag true v same = let clash : help ≡ asking on words = same in absurd cc
     of_flag false true same = let clash : version ≡ asking on words = same in absurd cc
     of_flag false false same = let clash : mistake ≡ asking on words = same in absurd cc
-
-    wished : (t : Topic) → topic_of_word word ≡ t → wish_on t word rest ≡ asking on words
-    wished t is_t = ap (λ t. wish_on t word rest) (sym is_t) ∙ is
-
-    by_topic : (t : Topic) → topic_of_word word ≡ t → word ∷ rest ≡ word_of on ∷ words
-    by_topic topic.Program is_t = absurd (of_flag (is_help_flag word) (is_version_flag word) (wished topic.Program is_t))
-    by_topic topic.Show is_t = of_job topic.Show (subst (NamesTopic word) is_t (names_topic word)) (wished topic.Show is_t)
-    by_topic topic.Edit is_t = of_job topic.Edit (subst (NamesTopic word) is_t (names_topic word)) (wished topic.Edit is_t)
-    by_topic topic.Compact is_t = of_job topic.Compact (subst (NamesTopic word) is_t (names_topic word)) (wished topic.Compact is_t)
-    by_topic topic.Join is_t = of_job topic.Join (subst (NamesTopic word) is_t (names_topic word)) (wished topic.Join is_t)
-    by_topic topic.Log is_t = of_job topic.Log (subst (NamesTopic word) is_t (names_topic word)) (wished topic.Log is_t)
-    by_topic topic.Who is_t = of_job topic.Who (subst (NamesTopic word) is_t (names_topic word)) (wished topic.Who is_t)
-    by_topic topic.Claims is_t = of_job topic.Claims (subst (NamesTopic word) is_t (names_topic word)) (wished topic.Claims is_t)
-    by_topic topic.Missing is_t = of_job topic.Missing (subst (NamesTopic word) is_t (names_topic word)) (wished topic.Missing is_t)
-    by_topic topic.Merge is_t = of_job topic.Merge (subst (NamesTopic word) is_t (names_topic word)) (wished topic.Merge is_t)
-    by_topic topic.Mend is_t = of_job topic.Mend (subst (NamesTopic word) is_t (names_topic word)) (wished topic.Mend is_t)
 
 -- of all words, as they were given to clap
 pub chooses : (app : App) (words : List (String Global)) (given : List Text) (on : Topic) (found : Option (List Row)) → app ≡ command_line

@@ -42,19 +42,19 @@ word_of topic.Missing = codes "missing"
 word_of topic.Merge = codes "merge"
 word_of topic.Mend = codes "mend"
 
+abbrev pub job_topics : List Topic
+job_topics =
+    topic.Show ∷ topic.Edit ∷ topic.Compact ∷ topic.Join ∷ topic.Log ∷ topic.Who ∷ topic.Claims ∷ topic.Missing
+    ∷ topic.Merge ∷ topic.Mend ∷ []
+
+-- the first of these topics whose word it is, or the program
+abbrev pub topic_among : List Topic → Text → Topic
+topic_among [] word = topic.Program
+topic_among (on ∷ more) word = if bytes_eq word (word_of on) then on else topic_among more word
+
 -- the job of a word, or the program
 abbrev pub topic_of_word : Text → Topic
-topic_of_word word =
-    if bytes_eq word (codes "show") then topic.Show
-    else if bytes_eq word (codes "edit") then topic.Edit
-    else if bytes_eq word (codes "compact") then topic.Compact
-    else if bytes_eq word (codes "join") then topic.Join
-    else if bytes_eq word (codes "log") then topic.Log
-    else if bytes_eq word (codes "who") then topic.Who
-    else if bytes_eq word (codes "claims") then topic.Claims
-    else if bytes_eq word (codes "missing") then topic.Missing
-    else if bytes_eq word (codes "merge") then topic.Merge
-    else if bytes_eq word (codes "mend") then topic.Mend else topic.Program
+topic_of_word word = topic_among job_topics word
 
 -- what a word and those behind it ask for, if the first is of that topic
 abbrev pub wish_on : Topic → Text → List Text → Wish

@@ -43,13 +43,6 @@ edit_app = with_rules (new_app (codes "edit")) edit_rules
 
 -- ---- what it was given, by the rows of what clap found
 
--- the four that have to stand there
-pub record GivesNumbers (rows : List Row) (n : ℕ × ℕ × ℕ × ℕ) : Type 0 where
-  pub replica : GivesNumber 16 rows (codes "replica") n.0
-  pub rows_of : GivesNumber 16 rows (codes "rows") n.1
-  pub columns : GivesNumber 16 rows (codes "cols") n.2
-  pub fill : GivesNumber 16 rows (codes "fill") n.3
-
 -- what stands there beside the name
 pub record GivesOptions (rows : List Row) (v : Values) : Type 0 where
   pub replica : GivesNumber 16 rows (codes "replica") v.replica

@@ -90,13 +90,6 @@ IsFaultOf wish (Version text) = wish ≡ version
 IsFaultOf wish (Usage text) = wish ≡ mistake
 IsFaultOf wish Memory = Unit {0}
 
--- the fault of a wrong command line, or memory
-abbrev pub IsUsage : JobFault → Type 0
-IsUsage (Help on text) = ⊥
-IsUsage (Version text) = ⊥
-IsUsage (Usage text) = Unit {0}
-IsUsage Memory = Unit {0}
-
 -- ---- of what clap found
 
 -- the rows behind the job's word

@@ -1,5 +1,5 @@
 -- What clap is told of a command and its arguments.
-use Rattle.std.specs.Prelude.{◌≡◌, ℕ, Bool, true, false, List, [], ◌∷◌, ◌++◌, codes, map, Some}
+use Rattle.std.specs.Prelude.{◌≡◌, ℕ, true, false, List, [], ◌∷◌, codes, Some}
 use Rattle.clap.specs.Lexer.{usize_max}
 use Rattle.clap.specs.Simple.{App, app_of, new_app, new_rule, with_rule, with_subcommand}
 use Rattle.clap.specs.Walk.{Rule, rule_of}
@@ -69,21 +69,6 @@ show_app = with_rules (new_app (codes "show")) show_rules
 abbrev pub IsLocal : Rule → Arg → Type 0
 IsLocal rule a = (rule_of a ≡ rule) × (a.global ≡ false)
 
--- the rules of arguments, and whether they hold for subcommands too
-abbrev pub told_rules : List Arg → List (Rule × Bool)
-told_rules args = map (λ a. (rule_of a, a.global)) args
-
--- rules that hold for one command alone
-abbrev pub local : List Rule → List (Rule × Bool)
-local rules = map (λ r. (r, false)) rules
-
-abbrev pub IsToldOf : List Arg → List Rule → Type 0
-IsToldOf args rules = told_rules args ≡ local rules
-
--- `new` is `old` with arguments of these rules behind
-pub record AddsArguments (old new : List Arg) (rules : List Rule) : Type 0 where
-  pub told : told_rules new ≡ told_rules old ++ local rules
-
 -- that command, and nothing of it holds for subcommands
 abbrev pub IsPlain : App → Command → Type 0
 IsPlain app c = (app_of c ≡ app) × ((fields_of c).has_globals ≡ false)
@@ -92,14 +77,3 @@ IsPlain app c = (app_of c ≡ app) × ((fields_of c).has_globals ≡ false)
 abbrev pub with_jobs : App → List App → App
 with_jobs app [] = app
 with_jobs app (job ∷ jobs) = with_jobs (with_subcommand app job.top) jobs
-
--- what commands are, and whether anything of them holds for subcommands
-abbrev pub sketched : List Command → List (App × Bool)
-sketched commands = map (λ c. (app_of c, (fields_of c).has_globals)) commands
-
-abbrev pub AreJobs : List Command → List App → Type 0
-AreJobs commands jobs = sketched commands ≡ map (λ job. (job, false)) jobs
-
--- `new` is `old` with such jobs behind
-pub record AddsJobs (old new : List Command) (jobs : List App) : Type 0 where
-  pub sketched : sketched new ≡ sketched old ++ map (λ job. (job, false)) jobs

@@ -1,10 +1,9 @@
 //! The words of the command line.
-ghost use Rattle.std.specs.Prelude.{◌≡◌, ◌≢◌, IfErr};
+ghost use Rattle.std.specs.Prelude.{IfErr};
 ghost use Rattle.mgr_args.specs.CommandLine.{mistake};
 ghost use Rattle.mgr_args.specs.Job.{IsFaultOf};
 
-use crate::job::{JobFault, fault_of_bytes};
-use std::alloc::Global;
+use crate::job::{JobFault, mistake};
 use std::io::ErrorKind;
 use std::rt::Env;
 
@@ -15,17 +14,10 @@ pub fn words<R: Env + AllocGlobal>(rt: &R) -> Result<Vec<String>, JobFault>
 {
     match std::env::args(rt) {
         Ok(args) => Ok(args.collect(rt.alloc())?),
-        Err(error) => Err(fault_of_reading(rt.alloc(), error.kind())),
-    }
-}
-
-/// std answers `InvalidData` for bytes that are not UTF-8, and fails otherwise for memory alone.
-fn fault_of_reading(alloc: Global, kind: ErrorKind) -> JobFault
-    ensures bytes { IsFaultOf mistake result }
-    ensures memory { kind ≢ ErrorKind.InvalidData → result ≡ JobFault.Memory }
-{
-    match kind {
-        ErrorKind::InvalidData => fault_of_bytes(alloc),
-        _ => JobFault::Memory,
+        // std answers `InvalidData` for bytes that are not UTF-8, and fails otherwise for memory alone
+        Err(error) => Err(match error.kind() {
+            ErrorKind::InvalidData => mistake(rt.alloc(), "an argument is not UTF-8"),
+            _ => JobFault::Memory,
+        }),
     }
 }

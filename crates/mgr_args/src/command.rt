@@ -1,13 +1,12 @@
 //! The command line as clap is told of it.
-ghost use Rattle.std.specs.Prelude.{◌≡◌, IfOk, OnOk};
+ghost use Rattle.std.specs.Prelude.{◌≡◌, IfOk};
 ghost use Rattle.clap.specs.Simple.{app_of};
-ghost use Rattle.mgr_args.specs.CommandLine.{command_line, job_apps, program_alone};
-ghost use Rattle.mgr_args.specs.Rules.{AddsJobs};
+ghost use Rattle.mgr_args.specs.CommandLine.{command_line, program_alone};
 
 use crate::edit::edit;
 use crate::logs::{join, merge, show};
 use crate::note::{claims, compact, log, mend, missing, who};
-use crate::part::{described, push};
+use crate::part::described;
 use clap::Command;
 use std::alloc::{AllocError, Global};
 
@@ -31,27 +30,19 @@ fn program<'a>(alloc: Global) -> Command<'a>
         .disable_help_subcommand(true)
 }
 
-/// The jobs of the program.
-fn add_jobs<'a>(alloc: Global, jobs: &mut Vec<Command<'a>>) -> Result<(), AllocError>
-    ensures { OnOk result (AddsJobs jobs.old.items jobs.new.items job_apps) }
-{
-    push(jobs, show(alloc)?)?;
-    push(jobs, edit(alloc)?)?;
-    push(jobs, compact(alloc)?)?;
-    push(jobs, join(alloc)?)?;
-    push(jobs, log(alloc)?)?;
-    push(jobs, who(alloc)?)?;
-    push(jobs, claims(alloc)?)?;
-    push(jobs, missing(alloc)?)?;
-    push(jobs, merge(alloc)?)?;
-    push(jobs, mend(alloc)?)
-}
-
 /// The program with its jobs.
 pub(crate) fn command<'a>(alloc: Global) -> Result<Command<'a>, AllocError>
     ensures { IfOk result (λ c. app_of c ≡ command_line) }
 {
-    let mut jobs = Vec::new(alloc);
-    add_jobs(alloc, &mut jobs)?;
-    program(alloc).subcommands(jobs)
+    program(alloc)
+        .subcommand(show(alloc)?)?
+        .subcommand(edit(alloc)?)?
+        .subcommand(compact(alloc)?)?
+        .subcommand(join(alloc)?)?
+        .subcommand(log(alloc)?)?
+        .subcommand(who(alloc)?)?
+        .subcommand(claims(alloc)?)?
+        .subcommand(missing(alloc)?)?
+        .subcommand(merge(alloc)?)?
+        .subcommand(mend(alloc)?)
 }

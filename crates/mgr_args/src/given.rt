@@ -3,7 +3,7 @@ ghost use Rattle.std.specs.Prelude.{◌≡◌, None, IfOk, IfSome, codes, map, s
 ghost use Rattle.clap.specs.Matches.{found_of};
 ghost use Rattle.clap.specs.Walk.{rows_of, texts};
 ghost use Rattle.mg_screen.specs.Settings.{Values};
-ghost use Rattle.mgr_args.specs.Edit.{GivesNumbers, GivesOptions, GivesSettings};
+ghost use Rattle.mgr_args.specs.Edit.{GivesOptions, GivesSettings};
 ghost use Rattle.mgr_args.specs.Given.{GivesFlag, GivesLogs, GivesMerging, GivesNameIf, GivesNote};
 ghost use Rattle.mgr_args.specs.Given.{GivesNoteNameIf, GivesNumberIf, GivesShown};
 
@@ -170,12 +170,11 @@ fn values_of(name: String, found: &ArgMatches<'_>) -> Option<Values>
     ensures none { result ≡ None →
         (v : Values) → GivesOptions (rows_of (found_of found.now)) v → ⊥ }
 {
-    let (replica, rows, columns, fill) = numbers_of(found)?;
     Some(Values {
-        replica,
-        rows: usize::from(rows),
-        columns: usize::from(columns),
-        fill,
+        replica: number(found, "replica")?,
+        rows: usize::from(number(found, "rows")?),
+        columns: usize::from(number(found, "cols")?),
+        fill: number(found, "fill")?,
         port: number(found, "port"),
         trace: has_flag(found, "trace"),
         live: has_flag(found, "live"),
@@ -186,20 +185,6 @@ fn values_of(name: String, found: &ArgMatches<'_>) -> Option<Values>
         limit: MAX_LIMIT,
         name,
     })
-}
-
-/// The numbers that have to stand there: the replica, the rows, the columns and the fill column.
-fn numbers_of(found: &ArgMatches<'_>) -> Option<(u16, u16, u16, u16)>
-    ensures some { IfSome result (GivesNumbers (rows_of (found_of found.now))) }
-    ensures none { result ≡ None →
-        (v : Values) → GivesOptions (rows_of (found_of found.now)) v → ⊥ }
-{
-    Some((
-        number(found, "replica")?,
-        number(found, "rows")?,
-        number(found, "cols")?,
-        number(found, "fill")?,
-    ))
 }
 
 /// Whether the flag of an id stands there.

@@ -5,7 +5,7 @@ ghost use Rattle.clap.specs.Values.{kind_of};
 ghost use Rattle.clap.specs.Walk.{rows_of, texts};
 ghost use Rattle.mgr_args.specs.CommandLine.{mistake, topic_of, wish_of, with_help_flag};
 ghost use Rattle.mgr_args.specs.Job.{FoundGives, GivesJob, IsFaultOf, IsFaultOfKind, IsJobOf};
-ghost use Rattle.mgr_args.specs.Job.{IsNotChosen, IsUsage, job_status_of, rows_behind};
+ghost use Rattle.mgr_args.specs.Job.{IsNotChosen, job_status_of, rows_behind};
 ghost use Rattle.mgr_args.specs.declared.job.JobFault.TheVariants.{Memory};
 
 use crate::command::command;
@@ -252,26 +252,15 @@ fn fault_of(error: Error, topic: Topic) -> JobFault
     }
 }
 
-/// The fault of a command line with a word that is not UTF-8: `Usage`, or `Memory`.
-pub(crate) fn fault_of_bytes(alloc: Global) -> JobFault
+/// `Usage` with a reason of the program's own, or `Memory`.
+pub(crate) fn mistake(alloc: Global, reason: &str) -> JobFault
     ensures { IsFaultOf mistake result }
 {
-    mistake(alloc, "an argument is not UTF-8")
-}
-
-/// `Usage` with a reason of the program's own, or `Memory`.
-fn mistake(alloc: Global, reason: &str) -> JobFault
-    ensures { IsUsage result }
-{
-    match error_of(alloc, reason) {
+    let Ok(mut command) = command(alloc) else {
+        return JobFault::Memory;
+    };
+    match command.error(ErrorKind::InvalidValue, reason) {
         Ok(error) => JobFault::Usage(error),
         Err(_) => JobFault::Memory,
-    }
-}
-
-fn error_of(alloc: Global, reason: &str) -> Result<Error, AllocError> {
-    match command(alloc) {
-        Ok(mut command) => command.error(ErrorKind::InvalidValue, reason),
-        Err(error) => Err(error),
     }
 }

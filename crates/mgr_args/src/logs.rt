@@ -1,9 +1,9 @@
 //! The subcommands that read logs as they came: `show`, `join` and `merge`.
 ghost use Rattle.std.specs.Prelude.{IfOk};
-ghost use Rattle.mgr_args.specs.Rules.{IsLocal, IsPlain, join_app, logs_rule, merge_app};
-ghost use Rattle.mgr_args.specs.Rules.{optional_logs_rule, optional_name_rule, show_app};
+ghost use Rattle.mgr_args.specs.Rules.{IsLocal, IsPlain, join_app, merge_app};
+ghost use Rattle.mgr_args.specs.Rules.{optional_logs_rule, show_app};
 
-use crate::part::{add_flag, add_name, described, number, push};
+use crate::part::{described, flag, name, number};
 use clap::{Arg, ArgAction, Command};
 use std::alloc::{AllocError, Global};
 
@@ -32,45 +32,35 @@ LOG a text NAME that is missing is put.";
 pub(crate) fn show<'a>(alloc: Global) -> Result<Command<'a>, AllocError>
     ensures { IfOk result (IsPlain show_app) }
 {
+    let name = Arg::new(alloc, "name")
+        .action(ArgAction::Set)
+        .value_name("NAME")
+        .help("The note whose log NAME.ops is read");
     let help = "Only what the first N lines make: an older text";
-    let mut args = Vec::new(alloc);
-    push(&mut args, optional_name(alloc))?;
-    push(&mut args, number(alloc, "lines", 0, u64::MAX).help(help))?;
     let about = "Read operation lines and write the text that they make";
-    described(alloc, "show", about, SHOW_HELP).args(args)
+    described(alloc, "show", about, SHOW_HELP)
+        .arg(name)?
+        .arg(number(alloc, "lines", 0, u64::MAX, help))
 }
 
 /// `join`, with the words of its help.
 pub(crate) fn join<'a>(alloc: Global) -> Result<Command<'a>, AllocError>
     ensures { IfOk result (IsPlain join_app) }
 {
-    let mut args = Vec::new(alloc);
-    let logs = optional_logs(alloc, "The logs to join");
-    push(&mut args, logs.required(true))?;
     let about = "Write the log that logs make together";
-    described(alloc, "join", about, JOIN_HELP).args(args)
+    let logs = optional_logs(alloc, "The logs to join");
+    described(alloc, "join", about, JOIN_HELP).arg(logs.required(true))
 }
 
 /// `merge`, with the words of its help.
 pub(crate) fn merge<'a>(alloc: Global) -> Result<Command<'a>, AllocError>
     ensures { IfOk result (IsPlain merge_app) }
 {
-    let mut args = Vec::new(alloc);
-    add_name(alloc, &mut args)?;
-    push(&mut args, optional_logs(alloc, "The logs to merge"))?;
-    add_flag(alloc, &mut args, "adopt", "Take logs of another note, too")?;
     let about = "Merge logs into a text and its log";
-    described(alloc, "merge", about, MERGE_HELP).args(args)
-}
-
-/// The name of a note, which may be left out.
-fn optional_name<'a>(alloc: Global) -> Arg<'a>
-    ensures { IsLocal optional_name_rule result }
-{
-    Arg::new(alloc, "name")
-        .action(ArgAction::Set)
-        .value_name("NAME")
-        .help("The note whose log NAME.ops is read")
+    described(alloc, "merge", about, MERGE_HELP)
+        .arg(name(alloc))?
+        .arg(optional_logs(alloc, "The logs to merge"))?
+        .arg(flag(alloc, "adopt", "Take logs of another note, too"))
 }
 
 /// Paths, which may be left out, with the words of their help.

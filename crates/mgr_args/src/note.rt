@@ -1,10 +1,10 @@
 //! The subcommands that take a note and a flag, `compact`, `log` and `who`, or a note alone,
 //! `claims`, `missing` and `mend`.
 ghost use Rattle.std.specs.Prelude.{codes, IfOk};
-ghost use Rattle.mgr_args.specs.Rules.{IsPlain, IsToldOf, name_app, note_app, note_rules};
+ghost use Rattle.mgr_args.specs.Rules.{IsPlain, name_app, note_app};
 
-use crate::part::{add_flag, add_name, described};
-use clap::{Arg, Command};
+use crate::part::{described, flag, name};
+use clap::Command;
 use std::alloc::{AllocError, Global};
 
 const COMPACT_HELP: &str =
@@ -49,18 +49,22 @@ What is left out goes to NAME.ops.refused, and the old log to NAME.ops~.";
 pub(crate) fn compact<'a>(alloc: Global) -> Result<Command<'a>, AllocError>
     ensures { IfOk result (IsPlain (note_app (codes "compact") (codes "dels"))) }
 {
-    let args = name_and_flag(alloc, "dels", "Write deletions in runs, too")?;
+    let help = "Write deletions in runs, too";
     let about = "Write the log of a text anew, in fewer lines";
-    described(alloc, "compact", about, COMPACT_HELP).args(args)
+    described(alloc, "compact", about, COMPACT_HELP)
+        .arg(name(alloc))?
+        .arg(flag(alloc, "dels", help))
 }
 
 /// `log`, with the words of its help.
 pub(crate) fn log<'a>(alloc: Global) -> Result<Command<'a>, AllocError>
     ensures { IfOk result (IsPlain (note_app (codes "log") (codes "json"))) }
 {
-    let args = name_and_flag(alloc, "json", "Write one JSON object")?;
+    let help = "Write one JSON object";
     let about = "Count what stands in the log of a text";
-    described(alloc, "log", about, LOG_HELP).args(args)
+    described(alloc, "log", about, LOG_HELP)
+        .arg(name(alloc))?
+        .arg(flag(alloc, "json", help))
 }
 
 /// `who`, with the words of its help.
@@ -68,9 +72,10 @@ pub(crate) fn who<'a>(alloc: Global) -> Result<Command<'a>, AllocError>
     ensures { IfOk result (IsPlain (note_app (codes "who") (codes "lines"))) }
 {
     let help = "Write the lines of the text, with the replicas that wrote in each";
-    let args = name_and_flag(alloc, "lines", help)?;
     let about = "Write a text with the replicas that wrote it";
-    described(alloc, "who", about, WHO_HELP).args(args)
+    described(alloc, "who", about, WHO_HELP)
+        .arg(name(alloc))?
+        .arg(flag(alloc, "lines", help))
 }
 
 /// `claims`, with the words of its help.
@@ -78,7 +83,7 @@ pub(crate) fn claims<'a>(alloc: Global) -> Result<Command<'a>, AllocError>
     ensures { IfOk result (IsPlain (name_app (codes "claims"))) }
 {
     let about = "Write what the log of a text has, in short";
-    name_alone(alloc, "claims", about, CLAIMS_HELP)
+    described(alloc, "claims", about, CLAIMS_HELP).arg(name(alloc))
 }
 
 /// `missing`, with the words of its help.
@@ -86,7 +91,7 @@ pub(crate) fn missing<'a>(alloc: Global) -> Result<Command<'a>, AllocError>
     ensures { IfOk result (IsPlain (name_app (codes "missing"))) }
 {
     let about = "Write the operations that another log of a text lacks";
-    name_alone(alloc, "missing", about, MISSING_HELP)
+    described(alloc, "missing", about, MISSING_HELP).arg(name(alloc))
 }
 
 /// `mend`, with the words of its help.
@@ -94,33 +99,5 @@ pub(crate) fn mend<'a>(alloc: Global) -> Result<Command<'a>, AllocError>
     ensures { IfOk result (IsPlain (name_app (codes "mend"))) }
 {
     let about = "Make a refused or torn log one that is read";
-    name_alone(alloc, "mend", about, MEND_HELP)
-}
-
-/// A command that takes a name, with the words of its help.
-fn name_alone<'a>(
-    alloc: Global,
-    job: &'a str,
-    about: &'a str,
-    more: &'a str,
-) -> Result<Command<'a>, AllocError>
-    ensures { IfOk result (IsPlain (name_app job.entry.now)) }
-{
-    let mut args = Vec::new(alloc);
-    add_name(alloc, &mut args)?;
-    described(alloc, job, about, more).args(args)
-}
-
-/// A name, and a flag with the words of its help.
-fn name_and_flag<'a>(
-    alloc: Global,
-    flag: &'a str,
-    help: &'a str,
-) -> Result<Vec<Arg<'a>>, AllocError>
-    ensures { IfOk result (λ args. IsToldOf args.items (note_rules flag.entry.now)) }
-{
-    let mut args = Vec::new(alloc);
-    add_name(alloc, &mut args)?;
-    add_flag(alloc, &mut args, flag, help)?;
-    Ok(args)
+    described(alloc, "mend", about, MEND_HELP).arg(name(alloc))
 }

@@ -1,9 +1,8 @@
-use Rattle.std.proofs.Common.{codes}
 use Rattle.std.proofs.lemmas.Result.{IfOk-weaker}
-use Rattle.mgr_args.specs.Rules.{note_rules}
-use Rattle.mgr_args.proofs.Adding.{takes_all}
+use Rattle.mgr_args.proofs.Adding.{takes}
 use Rattle.mgr_args.proofs.note.who.Goals as goal
 
 pub returns : goal.returns
 returns c =
-    IfOk-weaker c.args-2.result _ _ (λ d is. takes_all _ d _ _ (note_rules (codes "lines")) is c.described.ensures c.in_ok-args.ensures) c.args-2.ensures
+    let named = takes _ _ _ _ _ c.in_ok-arg.ensures c.described.ensures c.name.ensures in
+    IfOk-weaker c.arg-2.result _ _ (λ d is. takes _ d _ _ _ is named c.flag.ensures) c.arg-2.ensures
