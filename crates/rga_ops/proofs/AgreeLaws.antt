@@ -1,17 +1,15 @@
 -- Which contents and lists of operations agree.
-use Rattle.std.proofs.Common.{◌≡◌, ℕ, true, false, not, List, [], ◌∷◌, refl, sym, ap, ◌∙◌, subst, inl, inr, true≢false}
-use Rattle.std.specs.Prelude.{Option, Some, None, Contains, ◌↔◌, ◌≢◌}
-use Rattle.std.specs.Option.{option_map_or}
+use Rattle.std.proofs.Common.{◌≡◌, ℕ, true, false, List, [], ◌∷◌, sym, ◌∙◌, subst, inl, inr, arith}
+use Rattle.std.specs.Prelude.{Contains, ◌↔◌}
 use Rattle.std.specs.FinMap as finite_map
-use Rattle.std.proofs.lemmas.Bool.{false_from_ne_true, not-true, not-false, not_from_false}
-use Rattle.std.proofs.lemmas.Option.{same_Some, none-some}
+use Rattle.std.proofs.lemmas.Bool.{false_from_ne_true}
+use Rattle.std.proofs.lemmas.Option.{none-some}
 use Rattle.rga_ops.specs.Identifier.{Identifier, id_cmp}
-use Rattle.rga_ops.specs.Content.{Element, element, Content, nothing, join, single, content_of, Holds, HasAnother, Agree, IsAgreed, IsWithin}
-use Rattle.rga_ops.specs.Answer.{is_element}
+use Rattle.rga_ops.specs.Content.{element, Content, nothing, join, single, content_of, Holds, HasAnother, Agree, IsAgreed, IsWithin}
 use Rattle.rga_ops.specs.ListAnswer.{has_another, IsJoinable}
 use Rattle.rga_ops.proofs.ContentLaws.{get-join, either_option, within_itself, within_join, within_join_second}
 use Rattle.rga_ops.proofs.OperationLaws.{Contains-first, Contains-later, Contains-cases, Contains-nil, single_holds, single_inserted, content_inserted, inserted-iff}
-use Rattle.rga_ops.proofs.AnswerLaws.{is_element-is, is_element-itself}
+use Rattle.rga_ops.proofs.AnswerLaws.{is_element-is, another}
 use Rattle.rga_ops.proofs.TakenLaws.{held_stays}
 use Rattle.rga_ops.specs.declared.op.Op.{Op}
 use Rattle.rga_ops.specs.declared.op.Op.TheVariants.{Insert, Delete}
@@ -36,39 +34,24 @@ agree_joined c d e h k id x y f g =
 -- ---- an operation and a content
 
 pub has_another-iff : (c : Content) (op : Op) → (has_another c op ≡ true) ↔ HasAnother c op
-has_another-iff c (Insert id parent ch) = (λ h. tells (finite_map.get c.inserted id) refl h, λ (x, g, other). ap (λ o. option_map_or (λ x. not (is_element x parent ch)) o false) g ∙ leads x other)
-  where
-    tells : (o : Option Element) → finite_map.get c.inserted id ≡ o → option_map_or (λ x. not (is_element x parent ch)) o false ≡ true → (x : Element) × (finite_map.get c.inserted id ≡ Some x) × (x ≢ element parent ch)
-    tells None g h = absurd (true≢false (sym h))
-    tells (Some x) g h = (x, g, λ e. true≢false (sym (ap (λ y. is_element y parent ch) e ∙ is_element-itself parent ch) ∙ not-true (is_element x parent ch) h))
-
-    leads : (x : Element) → x ≢ element parent ch → not (is_element x parent ch) ≡ true
-    leads x other = not_from_false (is_element x parent ch) (false_from_ne_true (is_element x parent ch) (λ t. other (is_element-is x parent ch t)))
-has_another-iff c (Delete id) = (λ h. true≢false (sym h), λ h. absurd h)
+has_another-iff c op = (another c op, λ h. grind (arith, is_element-is))
 
 -- a content has no other insertion of the operation's identifier exactly where it agrees with the operation
 pub no_other-iff : (c : Content) (op : Op) → (has_another c op ≡ false) ↔ Agree c (single op)
-no_other-iff c op = (agrees op, λ h. false_from_ne_true (has_another c op) (λ t. clash op h ((has_another-iff c op).0 t)))
+no_other-iff c op = (
+  λ h id x y f g. grind (arith, single_inserted, is_element-is),
+  λ h. false_from_ne_true (has_another c op) (λ t. clash op h (another c op t)),
+)
   where
     clash : (op : Op) → Agree c (single op) → HasAnother c op → ⊥
     clash (Insert id parent ch) h (x, g, other) = other (h id x (element parent ch) g (single_holds (Insert id parent ch)))
     clash (Delete id) h other = other
 
-    same : (x : Element) (parent : Identifier) (ch : ℕ) → not (is_element x parent ch) ≡ false → x ≡ element parent ch
-    same x parent ch h = is_element-is x parent ch (not-false (is_element x parent ch) h)
-
-    agrees : (op : Op) → has_another c op ≡ false → Agree c (single op)
-    agrees op h id x y f g =
-        let it_is : op ≡ Insert id y.parent y.ch = single_inserted op id y g in
-        same x y.parent y.ch (sym (ap (λ o. option_map_or (λ x. not (is_element x y.parent y.ch)) o false) f) ∙ sym (ap (has_another c) it_is) ∙ h)
-
 -- ---- lists of operations
 
 -- operations that one content has agree
 pub held_agree : (c : Content) (ops : List Op) → ((id parent : Identifier) (ch : ℕ) → Contains ops (Insert id parent ch) → Holds c (Insert id parent ch)) → IsAgreed ops
-held_agree c ops held id parent other ch char a b =
-    let same : element parent ch ≡ element other char = same_Some _ _ (sym (held id parent ch a) ∙ held id other char b) in
-    (ap (λ (x : Element). x.parent) same, ap (λ (x : Element). x.ch) same)
+held_agree c ops held id parent other ch char a b = grind (arith, held id parent ch a, held id other char b)
 
 pub agreed_later : (op : Op) (ops : List Op) → IsAgreed (op ∷ ops) → IsAgreed ops
 agreed_later op ops agreed id parent other ch char a b =

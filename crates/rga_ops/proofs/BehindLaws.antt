@@ -1,6 +1,6 @@
 -- How a new element goes into the order: what stands before its parent stays, and what stands behind that is changed as
 -- the paths there say.
-use Rattle.std.proofs.Common.{◌≡◌, ℕ, true, false, cond, not, ◌&&◌, is_some, T, List, [], ◌∷◌, ◌++◌, map, refl, sym, ap, ◌∙◌, subst, true≢false, append_assoc}
+use Rattle.std.proofs.Common.{◌≡◌, ℕ, true, false, cond, not, ◌&&◌, is_some, T, List, [], ◌∷◌, ◌++◌, map, refl, sym, ap, ◌∙◌, subst, true≢false, append_assoc, arith}
 use Rattle.std.specs.Prelude.{Some, None}
 use Rattle.std.specs.Cmp.{tied_itself}
 use Rattle.std.specs.Ordering.{eq_by_cmp, is_eq, is_lt, ordering_then, ordering_reverse}
@@ -9,7 +9,7 @@ use Rattle.std.specs.declared.cmp.Ordering.TheVariants.{Less, Greater}
 use Rattle.std.specs.FinMap as finite_map
 use Rattle.std.specs.FinMap.{find, is_sorted}
 use Rattle.std.specs.FinMap.Entries.{put, by_order, below_all}
-use Rattle.std.proofs.lemmas.Bool.{false_from_ne_true, or_parts}
+use Rattle.std.proofs.lemmas.Bool.{false_from_ne_true}
 use Rattle.std.proofs.lemmas.Option.{same_Some, none-some}
 use Rattle.rga_ops.specs.Identifier.{Identifier, is_id, is_root}
 use Rattle.rga_ops.specs.Content.{Content, join, single}
@@ -70,11 +70,7 @@ all_later p (e ∷ es) h =
 -- what is found stands behind a path that all of the list stand behind
 pub found_later : (p q : Path) (v : Identifier) (es : List Entry) → find path_cmp q es ≡ Some v → AreLater p es → path_cmp p q ≡ Less
 found_later p q v [] h later = absurd (none-some _ h)
-found_later p q v (e ∷ es) h later =
-    elim (eq_by_cmp path_cmp q e.0) as (λ b. eq_by_cmp path_cmp q e.0 ≡ b → cond b (Some e.1) (find path_cmp q es) ≡ Some v → path_cmp p q ≡ Less) [
-      | true ↦ λ t h. ap (path_cmp p) (same_path q e.0 t) ∙ later.0
-      | false ↦ λ t h. found_later p q v es h later.1
-    ] refl h
+found_later p q v (e ∷ es) h later = grind (arith, found_later p q v es, same_path q e.0, later.0, later.1)
 
 -- ---- the new element
 
@@ -148,10 +144,7 @@ module _ (c : Content) (id parent : Identifier) (ch : ℕ) (w : IsNewLeaf c id) 
 -- what is not in the list has nothing behind it
 change_after-absent : (parent : Identifier) (change : List Identifier → List Identifier) (xs : List Identifier) → list_any (is parent) xs ≡ false → change_after parent change xs ≡ xs
 change_after-absent parent change [] h = refl
-change_after-absent parent change (x ∷ xs) h =
-    let parts : (is parent x ≡ false) × (list_any (is parent) xs ≡ false) = or_parts (is parent x) (list_any (is parent) xs) h in
-    ap (λ b. cond b (x ∷ change xs) (x ∷ change_after parent change xs)) (is_id-same x parent ∙ parts.0)
-    ∙ ap (λ r. x ∷ r) (change_after-absent parent change xs parts.1)
+change_after-absent parent change (x ∷ xs) h = grind (arith, change_after-absent parent change xs, is_id-same x parent)
 
 -- a new element goes in behind its parent, or waits as its parent does
 pub order-change :

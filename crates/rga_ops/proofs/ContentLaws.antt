@@ -1,13 +1,11 @@
 -- Laws of contents: what a join has, that it is a least upper bound, and that within is an order.
-use Rattle.std.proofs.Common.{◌≡◌, Bool, true, false, cond, ◌||◌, List, [], ◌∷◌, ◌++◌, refl, sym, ap, ◌∙◌, subst, inl, inr}
+use Rattle.std.proofs.Common.{◌≡◌, Bool, cond, ◌||◌, List, [], ◌∷◌, ◌++◌, refl, sym, ap, ◌∙◌, subst, arith}
 use Rattle.std.specs.Prelude.{Option, Some, None}
 use Rattle.std.specs.Option.{option_or}
-use Rattle.std.specs.Cmp.{both_ways}
 use Rattle.std.specs.FinMap as finite_map
 use Rattle.std.specs.FinSet as finite_set
 use Rattle.std.specs.FinMap.{FinMap, find, same_map}
 use Rattle.std.specs.FinSet.{same_set, contains-union, contains-empty}
-use Rattle.std.proofs.lemmas.Bool.{or_cases, or_left}
 use Rattle.std.proofs.Math.Bool as bool
 use Rattle.rga_ops.specs.Identifier.{Identifier, id_cmp}
 use Rattle.rga_ops.specs.Content.{Element, Content, nothing, union, join, Agree, IsWithin}
@@ -15,9 +13,7 @@ use Rattle.rga_ops.proofs.IdentifierLaws.{ids_total, ids_exact, is}
 
 -- two options that give the same values are the same
 pub same_option : {A : Type 0} (a b : Option A) → ((x : A) → a ≡ Some x → b ≡ Some x) → ((x : A) → b ≡ Some x → a ≡ Some x) → a ≡ b
-same_option None None f g = refl
-same_option None (Some y) f g = g y refl
-same_option (Some x) b f g = sym (f x refl)
+same_option a b f g = grind arith
 
 -- contents with the same insertions and deletions are one
 pub same_content : (c d : Content) → ((id : Identifier) → finite_map.get c.inserted id ≡ finite_map.get d.inserted id) → ((id : Identifier) → finite_set.contains c.deleted id ≡ finite_set.contains d.deleted id) → c ≡ d
@@ -27,8 +23,7 @@ same_content c d i x =
     λ k. record { inserted = p k; deleted = q k }
 
 pub or_cond : {A : Type 0} (b : Bool) (x : A) (o r : Option A) → option_or (cond b (Some x) o) r ≡ cond b (Some x) (option_or o r)
-or_cond true x o r = refl
-or_cond false x o r = refl
+or_cond b x o r = grind arith
 
 find-append : (es fs : List (Identifier × Element)) (q : Identifier) → find id_cmp q (es ++ fs) ≡ option_or (find id_cmp q es) (find id_cmp q fs)
 find-append [] fs q = refl
@@ -41,26 +36,14 @@ get-union m n q =
     ∙ (λ k. option_or (sym (finite_map.get-entries m q) k) (sym (finite_map.get-entries n q) k))
 
 or_assoc : {A : Type 0} (a b c : Option A) → option_or (option_or a b) c ≡ option_or a (option_or b c)
-or_assoc None b c = refl
-or_assoc (Some x) b c = refl
+or_assoc a b c = grind arith
 
 pub or_none : {A : Type 0} (a : Option A) → option_or a None ≡ a
-or_none None = refl
-or_none (Some x) = refl
-
-or_same : {A : Type 0} (a : Option A) → option_or a a ≡ a
-or_same None = refl
-or_same (Some x) = refl
-
-or_swap : {A : Type 0} (a b : Option A) → ((x y : A) → a ≡ Some x → b ≡ Some y → x ≡ y) → option_or a b ≡ option_or b a
-or_swap None b h = sym (or_none b)
-or_swap (Some x) None h = refl
-or_swap (Some x) (Some y) h = ap Some (h x y refl refl)
+or_none a = grind arith
 
 -- the value of the first, or else of the second
 pub either_option : {A : Type 0} (a b : Option A) (x : A) {P : Type 0} → (a ≡ Some x → P) → (b ≡ Some x → P) → option_or a b ≡ Some x → P
-either_option None b x f g h = g h
-either_option (Some y) b x f g h = f h
+either_option a b x f g h = grind arith
 
 pub get-join : (c d : Content) (q : Identifier) → finite_map.get (join c d).inserted q ≡ option_or (finite_map.get c.inserted q) (finite_map.get d.inserted q)
 get-join c d q = get-union c.inserted d.inserted q
@@ -69,31 +52,19 @@ pub contains-join : (c d : Content) (q : Identifier) → finite_set.contains (jo
 contains-join c d q = contains-union ids_total c.deleted d.deleted q
 
 pub join_assoc : (c d e : Content) → join (join c d) e ≡ join c (join d e)
-join_assoc c d e = same_content _ _
-    (λ q. get-join (join c d) e q ∙ ap (λ o. option_or o (finite_map.get e.inserted q)) (get-join c d q)
-    ∙ or_assoc (finite_map.get c.inserted q) (finite_map.get d.inserted q) (finite_map.get e.inserted q)
-    ∙ sym (get-join c (join d e) q ∙ ap (option_or (finite_map.get c.inserted q)) (get-join d e q)))
-    (λ q. contains-join (join c d) e q ∙ ap (λ o. o || finite_set.contains e.deleted q) (contains-join c d q)
-    ∙ bool.or_assoc (finite_set.contains c.deleted q) (finite_set.contains d.deleted q) (finite_set.contains e.deleted q)
-    ∙ sym (contains-join c (join d e) q ∙ ap (λ o. finite_set.contains c.deleted q || o) (contains-join d e q)))
+join_assoc c d e = same_content _ _ (λ q. simp (get-join, or_assoc)) (λ q. simp (contains-join, bool.or_assoc))
 
 pub join_same : (c : Content) → join c c ≡ c
-join_same c = same_content _ _ (λ q. get-join c c q ∙ or_same _) (λ q. contains-join c c q ∙ bool.or_self _)
+join_same c = same_content _ _ (λ q. grind (arith, get-join)) (λ q. grind (arith, contains-join))
 
 pub join_swap : (c d : Content) → Agree c d → join c d ≡ join d c
-join_swap c d h = same_content _ _
-    (λ q. get-join c d q ∙ or_swap _ _ (λ x y. h q x y) ∙ sym (get-join d c q))
-    (λ q. contains-join c d q ∙ bool.or_comm (finite_set.contains c.deleted q) (finite_set.contains d.deleted q) ∙ sym (contains-join d c q))
+join_swap c d h = same_content _ _ (λ q. grind (arith, get-join, h q)) (λ q. grind (arith, contains-join))
 
 pub join_nothing : (c : Content) → join c nothing ≡ c
-join_nothing c = same_content _ _
-    (λ q. get-join c nothing q ∙ ap (option_or (finite_map.get c.inserted q)) (finite_map.get-empty id_cmp q) ∙ or_none _)
-    (λ q. contains-join c nothing q ∙ ap (λ o. finite_set.contains c.deleted q || o) (contains-empty id_cmp q) ∙ bool.or-false _)
+join_nothing c = same_content _ _ (λ q. simp (get-join, finite_map.get-empty, or_none)) (λ q. simp (contains-join, contains-empty, bool.or-false))
 
 pub nothing_join : (c : Content) → join nothing c ≡ c
-nothing_join c = same_content _ _
-    (λ q. get-join nothing c q ∙ ap (λ o. option_or o (finite_map.get c.inserted q)) (finite_map.get-empty id_cmp q))
-    (λ q. contains-join nothing c q ∙ ap (λ o. o || finite_set.contains c.deleted q) (contains-empty id_cmp q))
+nothing_join c = same_content _ _ (λ q. simp (get-join, finite_map.get-empty)) (λ q. simp (contains-join, contains-empty))
 
 -- ---- the order of contents
 
@@ -104,16 +75,11 @@ pub within_chain : (c d e : Content) → IsWithin c d → IsWithin d e → IsWit
 within_chain c d e v w = record { inserted = λ id x h. w.inserted id x (v.inserted id x h); deleted = λ id h. w.deleted id (v.deleted id h) }
 
 pub within_both : (c d : Content) → IsWithin c d → IsWithin d c → c ≡ d
-within_both c d v w = same_content c d
-    (λ id. same_option (finite_map.get c.inserted id) (finite_map.get d.inserted id) (v.inserted id) (w.inserted id))
-    (λ id. both_ways (finite_set.contains c.deleted id) (finite_set.contains d.deleted id) (v.deleted id) (w.deleted id))
+within_both c d v w = same_content c d (λ id. grind (arith, v.inserted id, w.inserted id)) (λ id. grind (arith, v.deleted id, w.deleted id))
 
 -- a content is within its join with any other
 pub within_join : (c d : Content) → IsWithin c (join c d)
-within_join c d = record {
-  inserted = λ id x h. get-join c d id ∙ ap (λ o. option_or o (finite_map.get d.inserted id)) h;
-  deleted = λ id h. contains-join c d id ∙ or_left (finite_set.contains c.deleted id) (finite_set.contains d.deleted id) h;
-}
+within_join c d = record { inserted = λ id x h. grind (arith, get-join); deleted = λ id h. grind (arith, contains-join) }
 
 -- and the second is within it where they agree
 pub within_join_second : (c d : Content) → Agree c d → IsWithin d (join c d)
@@ -122,9 +88,6 @@ within_join_second c d agree = subst (λ e. IsWithin d e) (sym (join_swap c d ag
 -- it is within all that both are within
 pub join_least : (c d e : Content) → IsWithin c e → IsWithin d e → IsWithin (join c d) e
 join_least c d e v w = record {
-  inserted = λ id x h. either_option (finite_map.get c.inserted id) (finite_map.get d.inserted id) x (v.inserted id x) (w.inserted id x) (sym (get-join c d id) ∙ h);
-  deleted = λ id h. elim (or_cases (finite_set.contains c.deleted id) (finite_set.contains d.deleted id) (sym (contains-join c d id) ∙ h)) [
-    | inl a ↦ v.deleted id a
-    | inr b ↦ w.deleted id b
-  ];
+  inserted = λ id x h. grind (arith, get-join c d id, v.inserted id x, w.inserted id x);
+  deleted = λ id h. grind (arith, contains-join c d id, v.deleted id, w.deleted id);
 }

@@ -1,10 +1,10 @@
 -- How many identifiers a set has once others are added.
-use Rattle.std.proofs.Common.{◌≡◌, ◌+◌, Bool, true, false, cond, not, ◌&&◌, ◌||◌, List, [], ◌∷◌, filter, length, refl, sym, ap, ◌∙◌, arith, true≢false}
+use Rattle.std.proofs.Common.{◌≡◌, ◌+◌, Bool, true, false, cond, not, ◌&&◌, ◌||◌, List, [], ◌∷◌, filter, length, sym, ap, ◌∙◌, arith}
 use Rattle.std.specs.List.{list_any, IsDistinct}
 use Rattle.std.specs.FinSet as finite_set
 use Rattle.std.specs.FinSet.{FinSet}
 use Rattle.std.proofs.Math.Bool.{or-false}
-use Rattle.std.proofs.lemmas.Bool.{or_right, or_from, not-true, and_parts}
+use Rattle.std.proofs.lemmas.Bool.{not-true, and_parts}
 use Rattle.std.proofs.lemmas.Map.Views.{any-filter_same}
 use Rattle.rga_ops.specs.Identifier.{Identifier, id_cmp}
 use Rattle.rga_ops.specs.Content.{Content, known_ids, join}
@@ -25,25 +25,10 @@ len-added s u (k ∷ ks) distinct apart members =
     omega (arith, one_more, rest)
   where
     later : (q : Identifier) → list_any (is q) ks ≡ true → finite_set.contains (finite_set.insert s k) q ≡ false
-    later q m =
-        finite_set.contains-insert ids_total s k q
-        ∙ or_from (is q k) (finite_set.contains s q)
-        (elim (is q k) as (λ b. is q k ≡ b → b ≡ false) [
-          | true ↦ λ t. absurd (true≢false (sym m ∙ ap (λ x. list_any (is x) ks) (same_id q k t) ∙ none_among k ks distinct.0))
-          | false ↦ λ _. refl
-        ] refl)
-        (apart q (or_right (is q k) (list_any (is q) ks) m))
-
-    moved : (a b c : Bool) → (a || (b || c)) ≡ ((b || a) || c)
-    moved true true c = refl
-    moved true false c = refl
-    moved false true c = refl
-    moved false false c = refl
+    later q m = grind (arith, finite_set.contains-insert ids_total s k q, apart q, same_id q k, none_among k ks distinct.0, m)
 
     members_later : (q : Identifier) → finite_set.contains u q ≡ (finite_set.contains (finite_set.insert s k) q || list_any (is q) ks)
-    members_later q =
-        members q ∙ moved (finite_set.contains s q) (is q k) (list_any (is q) ks)
-        ∙ ap (λ b. b || list_any (is q) ks) (sym (finite_set.contains-insert ids_total s k q))
+    members_later q = grind (arith, members q, finite_set.contains-insert ids_total s k q)
 
 -- a join knows what the first knows, and each identifier that the second alone knows
 pub len-known_join : (c d : Content) (ks : List Identifier) → IsDistinct is ks → ((q : Identifier) → finite_set.contains (known_ids d) q ≡ list_any (is q) ks) → finite_set.len (known_ids (join c d)) ≡ finite_set.len (known_ids c) + length (filter (λ q. not (finite_set.contains (known_ids c) q)) ks)
@@ -58,12 +43,5 @@ len-known_join c d ks distinct members = len-added (known_ids c) (known_ids (joi
     apart : (q : Identifier) → list_any (is q) (filter unknown ks) ≡ true → finite_set.contains (known_ids c) q ≡ false
     apart q m = not-true (finite_set.contains (known_ids c) q) ((and_parts (unknown q) (list_any (is q) ks) (sym (kept q) ∙ m)).0)
 
-    either : (a b : Bool) → (a || b) ≡ (a || (not a && b))
-    either true b = refl
-    either false b = refl
-
     joined : (q : Identifier) → finite_set.contains (known_ids (join c d)) q ≡ (finite_set.contains (known_ids c) q || list_any (is q) (filter unknown ks))
-    joined q =
-        contains-known_join c d q ∙ ap (λ b. finite_set.contains (known_ids c) q || b) (members q)
-        ∙ either (finite_set.contains (known_ids c) q) (list_any (is q) ks)
-        ∙ ap (λ b. finite_set.contains (known_ids c) q || b) (sym (kept q))
+    joined q = grind (arith, contains-known_join c d q, members q, kept q)

@@ -1,12 +1,12 @@
 -- A content with one deletion more: the insertions and the order stay, and the element is no longer visible.
-use Rattle.std.proofs.Common.{◌≡◌, ℕ, ◌+◌, ◌≤◌, true, false, cond, not, ◌||◌, List, [], ◌∷◌, ◌++◌, map, filter, take, drop, refl, sym, ap, ◌∙◌, arith}
-use Rattle.std.specs.Prelude.{Some, max}
-use Rattle.std.specs.Option.{option_map, option_or}
+use Rattle.std.proofs.Common.{◌≡◌, ℕ, ◌+◌, ◌≤◌, true, ◌||◌, List, [], ◌∷◌, ◌++◌, map, filter, take, drop, refl, sym, ap, ◌∙◌, arith}
+use Rattle.std.specs.Prelude.{Some}
+use Rattle.std.specs.Option.{option_map}
 use Rattle.std.specs.List.{slice_get}
 use Rattle.std.specs.FinMap as finite_map
 use Rattle.std.specs.FinSet as finite_set
 use Rattle.std.specs.FinMap.{same_map}
-use Rattle.rga_ops.specs.Identifier.{Identifier, id_cmp, is_id}
+use Rattle.rga_ops.specs.Identifier.{Identifier}
 use Rattle.rga_ops.specs.Content.{Element, Content, join, single, clock_of}
 use Rattle.rga_ops.specs.RootPath.{is_complete}
 use Rattle.rga_ops.specs.Order.{order, text}
@@ -14,7 +14,7 @@ use Rattle.rga_ops.specs.Placement.{without}
 use Rattle.rga_ops.specs.Places.{visible, character}
 use Rattle.rga_ops.proofs.PathLaws.{inserted_if_complete}
 use Rattle.rga_ops.proofs.IdentifierLaws.{ids_total, ids_exact, is, is_swap, is_id-same}
-use Rattle.rga_ops.proofs.ContentLaws.{get-join, contains-join, or_none}
+use Rattle.rga_ops.proofs.ContentLaws.{get-join, contains-join}
 use Rattle.rga_ops.proofs.OperationLaws.{contains-single}
 use Rattle.rga_ops.proofs.VisibleLaws.{is_kept, visible_is, text_is, visible_distinct, own_index}
 use Rattle.rga_ops.proofs.PlacementLaws.{without-at}
@@ -27,11 +27,10 @@ module _ (c : Content) (id : Identifier) where
   d = join c (single (Delete id))
 
   pub inserted-deletion : d.inserted ≡ c.inserted
-  inserted-deletion = same_map ids_total ids_exact _ _ (λ q.
-      get-join c (single (Delete id)) q ∙ ap (option_or (finite_map.get c.inserted q)) (finite_map.get-empty id_cmp q) ∙ or_none (finite_map.get c.inserted q))
+  inserted-deletion = same_map ids_total ids_exact _ _ (λ q. grind (arith, get-join c (single (Delete id)) q, finite_map.get-empty))
 
   pub contains-deletion : (q : Identifier) → finite_set.contains d.deleted q ≡ (finite_set.contains c.deleted q || is q id)
-  contains-deletion q = contains-join c (single (Delete id)) q ∙ ap (λ b. finite_set.contains c.deleted q || b) (contains-single id q)
+  contains-deletion q = grind (arith, contains-join c (single (Delete id)) q, contains-single id q)
 
   pub order-deletion : order d ≡ order c
   order-deletion = ap (λ m. order (record { inserted = m; deleted = c.deleted })) inserted-deletion
@@ -40,12 +39,7 @@ module _ (c : Content) (id : Identifier) where
 
   kept_among : (xs : List Identifier) → filter (is_kept d) xs ≡ without id (filter (is_kept c) xs)
   kept_among [] = refl
-  kept_among (x ∷ xs) =
-      ap (λ b. cond (not b) (x ∷ filter (is_kept d) xs) (filter (is_kept d) xs)) (contains-deletion x ∙ ap (λ b. finite_set.contains c.deleted x || b) (is_swap x id ∙ sym (is_id-same x id)))
-      ∙ elim (finite_set.contains c.deleted x) as (λ b. cond (not (b || is_id x id)) (x ∷ filter (is_kept d) xs) (filter (is_kept d) xs) ≡ without id (cond (not b) (x ∷ filter (is_kept c) xs) (filter (is_kept c) xs))) [
-        | true ↦ kept_among xs
-        | false ↦ ap (λ r. cond (not (is_id x id)) (x ∷ r) r) (kept_among xs)
-      ]
+  kept_among (x ∷ xs) = grind (arith, kept_among xs, contains-deletion x, is_swap x id, is_id-same x id)
 
   pub visible-deletion : visible d ≡ without id (visible c)
   visible-deletion =
@@ -66,10 +60,7 @@ module _ (c : Content) (id : Identifier) where
   -- ---- the clock
 
   pub clock-deletion : id.counter ≤ clock_of c → clock_of d ≡ clock_of c
-  clock-deletion within = clock_deletion c id ∙ no_more (clock_of c) id.counter within
-    where
-      no_more : (m n : ℕ) → n ≤ m → max m n ≡ m
-      no_more m n h = omega arith
+  clock-deletion within = omega (arith, clock_deletion c id)
 
   pub clock-deletion_inserted : (x : Element) → finite_map.get c.inserted id ≡ Some x → clock_of d ≡ clock_of c
   clock-deletion_inserted x g = clock-deletion ((within_clock c).own id x g)

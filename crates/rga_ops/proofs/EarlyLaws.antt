@@ -1,12 +1,11 @@
 -- The first conflict in front of all that a list inserts anew.
-use Rattle.std.proofs.Common.{◌≡◌, ℕ, Bool, false, cond, not, List, [], ◌∷◌, ◌++◌, drop, is_some, refl, sym, ap, ◌∙◌}
+use Rattle.std.proofs.Common.{◌≡◌, ℕ, Bool, false, cond, not, List, [], ◌∷◌, ◌++◌, drop, is_some, sym, ap, ◌∙◌, arith}
 use Rattle.std.specs.Prelude.{Option, Some, None, Ok}
 use Rattle.std.specs.Option.{option_or}
 use Rattle.std.specs.List.{prefix_len, take_while}
 use Rattle.std.specs.FinMap as finite_map
 use Rattle.std.proofs.lemmas.List.{take-append-drop}
 use Rattle.std.proofs.lemmas.List.Sums.{take_while-cons}
-use Rattle.std.proofs.lemmas.Option.{none-some}
 use Rattle.rga_ops.specs.Identifier.{Identifier}
 use Rattle.rga_ops.specs.Content.{Content, join, content_of}
 use Rattle.rga_ops.specs.ListAnswer.{first_conflict, inserts_anew, early_conflict, list_answer, IsFirstConflict}
@@ -17,8 +16,7 @@ use Rattle.rga_ops.specs.declared.op.Op.TheVariants.{Insert}
 
 -- where neither of two is there, the first is not
 pub first_none : {A : Type 0} (a b : Option A) → option_or a b ≡ None → a ≡ None
-first_none None b h = refl
-first_none (Some x) b h = absurd (none-some _ (sym h))
+first_none a b h = grind arith
 
 -- a list has no conflict in front of where it has none
 free_before : (c : Content) (xs ys : List Op) → first_conflict c (xs ++ ys) ≡ None → first_conflict c xs ≡ None

@@ -1,14 +1,15 @@
 -- The order of a content within a larger one.
-use Rattle.std.proofs.Common.{◌≡◌, true, false, cond, ◌&&◌, List, [], ◌∷◌, filter, refl, sym, ap, ◌∙◌}
+use Rattle.std.proofs.Common.{◌≡◌, true, false, cond, List, [], ◌∷◌, filter, refl, sym, ap, ◌∙◌, arith}
 use Rattle.std.specs.List.{list_any, AllByRecursion}
-use Rattle.std.proofs.lemmas.Map.Views.{any-filter_same}
 use Rattle.rga_ops.specs.Identifier.{Identifier}
 use Rattle.rga_ops.specs.Content.{Content, IsWithin}
 use Rattle.rga_ops.specs.RootPath.{Path, is_complete, IsRootPath, root_path}
 use Rattle.rga_ops.specs.Order.{order, Precedes, IsInOrder}
-use Rattle.rga_ops.proofs.IdentifierLaws.{is, same_id}
+use Rattle.rga_ops.proofs.IdentifierLaws.{is, same_id, ids_total}
 use Rattle.rga_ops.proofs.PathLaws.{path_stays, path_of_complete, complete_of_path, not_complete_root, is_complete-iff, is-root_path}
 use Rattle.rga_ops.proofs.OrderLaws.{precedes_later, order_unique, order_list}
+use Rattle.std.specs.Cmp.{eq_by_cmp_equiv}
+use Rattle.std.proofs.lemmas.Map.Made.{is_member-filter}
 
 module _ (c d : Content) (w : IsWithin c d) where
   path : (id : Identifier) → is_complete c id ≡ true → (p : Path) × IsRootPath c id p
@@ -62,11 +63,7 @@ module _ (c d : Content) (w : IsWithin c d) where
 
   kept_elements : (id : Identifier) → list_any (is id) (filter (is_complete c) (order d)) ≡ is_complete c id
   kept_elements id =
-      any-filter_same (is id) (is_complete c) (is_complete c id) (λ x t. ap (is_complete c) (sym (same_id id x t))) (order d)
-      ∙ (elim (is_complete c id) as (λ b. is_complete c id ≡ b → (b && list_any (is id) (order d)) ≡ b) [
-        | true ↦ λ t. (order_list d).elements id ∙ complete_stays id t
-        | false ↦ λ f. refl
-      ] refl)
+      grind (arith, is_member-filter (eq_by_cmp_equiv ids_total) (is_complete c) id (λ x t. ap (is_complete c) (same_id id x t)) (order d), (order_list d).elements id, complete_stays id)
 
   pub order_within : order c ≡ filter (is_complete c) (order d)
   order_within = sym (order_unique c (filter (is_complete c) (order d)) (record {

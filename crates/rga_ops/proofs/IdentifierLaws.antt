@@ -1,10 +1,10 @@
 -- Laws of identifiers and of their order.
-use Rattle.std.proofs.Common.{◌≡◌, ℕ, Bool, true, ◌==◌, sym, ap, ◌∙◌}
-use Rattle.std.specs.Cmp.{IsTotalOrder, then_total, on_total, nat_cmp_total, eq_by_cmp_equiv, Equal-is, tied_itself, unsigned_ties, both_tied}
-use Rattle.std.specs.Ordering.{eq_by_cmp, nat_cmp, is_eq}
+use Rattle.std.proofs.Common.{◌≡◌, Bool, true, ap, arith}
+use Rattle.std.specs.Cmp.{IsTotalOrder, then_total, on_total, nat_cmp_total, eq_by_cmp_equiv, Equal-is, tied_itself}
+use Rattle.std.specs.Ordering.{eq_by_cmp, is_eq}
 use Rattle.std.specs.FinMap.{IsAntisymmetric}
-use Rattle.std.proofs.lemmas.Map.Lookups.{exact_pairs, exact_unsigned}
-use Rattle.rga_ops.specs.Identifier.{Identifier, identifier, id_cmp, is_id}
+use Rattle.rga_ops.specs.Identifier.{Identifier, id_cmp, is_id}
+use Rattle.std.proofs.lemmas.Bool.Decides.{nat_tests}
 
 -- the order of identifiers is total
 pub ids_total : IsTotalOrder id_cmp
@@ -12,7 +12,7 @@ ids_total = then_total (on_total (λ s. s.counter) nat_cmp_total) (on_total (λ 
 
 -- identifiers that compare alike are one
 pub ids_exact : IsAntisymmetric id_cmp
-ids_exact a b h = ap (λ (p : ℕ × ℕ). identifier p.0 p.1) (exact_pairs nat_cmp nat_cmp exact_unsigned exact_unsigned (a.counter, a.replica) (b.counter, b.replica) h)
+ids_exact a b h = grind arith
 
 -- whether two identifiers compare alike
 abbrev pub is : Identifier → Identifier → Bool
@@ -29,12 +29,10 @@ is_swap a b = (eq_by_cmp_equiv ids_total).symm a b
 
 -- the test of the fields is that of the order, either way round
 pub is_id-same : (x q : Identifier) → is_id x q ≡ is q x
-is_id-same x q =
-    both_tied (x.counter == q.counter) (x.replica == q.replica) (nat_cmp x.counter q.counter) (nat_cmp x.replica q.replica) (unsigned_ties x.counter q.counter) (unsigned_ties x.replica q.replica)
-    ∙ is_swap x q
+is_id-same x q = grind (arith, nat_tests)
 
 pub is_id-is : (a b : Identifier) → is_id a b ≡ true → a ≡ b
-is_id-is a b e = sym (same_id b a (sym (is_id-same a b) ∙ e))
+is_id-is a b e = grind arith
 
 pub is_id-itself : (a : Identifier) → is_id a a ≡ true
-is_id-itself a = is_id-same a a ∙ is_itself a
+is_id-itself a = grind (arith, nat_tests)

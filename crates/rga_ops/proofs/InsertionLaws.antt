@@ -17,7 +17,7 @@ use Rattle.rga_ops.specs.RootPath.{Path, path_cmp, root_path, is_complete, IsRoo
 use Rattle.rga_ops.specs.Order.{by_path, order}
 use Rattle.rga_ops.proofs.IdentifierLaws.{is, same_id, is_itself}
 use Rattle.rga_ops.proofs.BeforeLaws.{paths_total, paths_exact}
-use Rattle.rga_ops.proofs.ContentLaws.{same_option, get-join, contains-join, or_none, within_join}
+use Rattle.rga_ops.proofs.ContentLaws.{same_option, get-join, contains-join, within_join}
 use Rattle.rga_ops.proofs.OperationLaws.{get-single}
 use Rattle.rga_ops.proofs.PathLaws.{root_path-is, is-root_path, one_path, one_element, path_stays, root_path-root, root_path-absent}
 use Rattle.rga_ops.proofs.PlacedLaws.{same_path, IsPlaced, get-by_path, by_path-get}
@@ -38,10 +38,7 @@ abbrev pub is_root_or_complete : Content → Identifier → Bool
 is_root_or_complete c parent = is_root parent || is_complete c parent
 
 pub root_or_complete-is : (c : Content) (parent : Identifier) → is_root_or_complete c parent ≡ is_some (root_path c parent)
-root_or_complete-is c parent = elim (is_root parent) as (λ b. is_root parent ≡ b → (b || (not b && is_some (root_path c parent))) ≡ is_some (root_path c parent)) [
-  | true ↦ λ t. sym (ap is_some (root_path-root c parent t))
-  | false ↦ λ f. refl
-] refl
+root_or_complete-is c parent = grind (arith, root_path-root c parent)
 
 module _ (c : Content) (id parent : Identifier) (ch : ℕ) where
   abbrev d : Content
@@ -51,20 +48,14 @@ module _ (c : Content) (id parent : Identifier) (ch : ℕ) where
   get-insertion q = get-join c (single (Insert id parent ch)) q ∙ ap (option_or (finite_map.get c.inserted q)) (get-single id parent ch q)
 
   pub contains-insertion : (q : Identifier) → finite_set.contains d.deleted q ≡ finite_set.contains c.deleted q
-  contains-insertion q =
-      contains-join c (single (Insert id parent ch)) q
-      ∙ ap (λ b. finite_set.contains c.deleted q || b) (finite_set.contains-empty id_cmp q) ∙ or-false (finite_set.contains c.deleted q)
+  contains-insertion q = grind (arith, contains-join c (single (Insert id parent ch)) q, finite_set.contains-empty id_cmp q)
 
   -- at other identifiers nothing is new
   pub get-elsewhere : (q : Identifier) → is q id ≡ false → finite_map.get d.inserted q ≡ finite_map.get c.inserted q
-  get-elsewhere q f =
-      get-insertion q ∙ ap (λ b. option_or (finite_map.get c.inserted q) (cond b (Some (element parent ch)) None)) f
-      ∙ or_none (finite_map.get c.inserted q)
+  get-elsewhere q f = grind (arith, get-insertion q)
 
   pub get-inserted : finite_map.get c.inserted id ≡ None → finite_map.get d.inserted id ≡ Some (element parent ch)
-  get-inserted absent =
-      get-insertion id ∙ ap (λ o. option_or o (cond (is id id) (Some (element parent ch)) None)) absent
-      ∙ ap (λ b. cond b (Some (element parent ch)) None) (is_itself id)
+  get-inserted absent = grind (arith, get-insertion id, is_itself id)
 
   grows : IsWithin c d
   grows = within_join c (single (Insert id parent ch))

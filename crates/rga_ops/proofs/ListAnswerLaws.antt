@@ -1,5 +1,5 @@
 -- The answers to a list that is taken whole or not at all: which of them comes exactly when.
-use Rattle.std.proofs.Common.{◌≡◌, ℕ, ◌<◌, ◌≤◌, Bool, true, false, cond, List, [], ◌∷◌, ◌++◌, refl, sym, ap, ◌∙◌, subst, nat_le, leb-true, leb-false, le-leb, arith, inl, inr, true≢false}
+use Rattle.std.proofs.Common.{◌≡◌, ℕ, ◌<◌, ◌≤◌, true, false, cond, List, [], ◌∷◌, ◌++◌, refl, sym, ap, ◌∙◌, subst, arith, inl, inr, true≢false}
 use Rattle.std.specs.Prelude.{Option, Some, None, Ok, Err, ◌⊎◌, ◌↔◌}
 use Rattle.std.specs.Option.{option_or}
 use Rattle.std.specs.FinSet as finite_set
@@ -9,7 +9,7 @@ use Rattle.rga_ops.specs.Operation.{checked, id_of}
 use Rattle.rga_ops.specs.Content.{Content, nothing, known_ids, join, single, content_of, HasAnother, IsAgreed}
 use Rattle.rga_ops.specs.Answer.{taken_one_by_one}
 use Rattle.rga_ops.specs.ListAnswer.{Verdict, and_check, all_checked, has_another, first_conflict, union_answer, list_answer, AreWellFormed, IsJoinable, IsFirstIllFormed, IsFirstConflict}
-use Rattle.rga_ops.proofs.ContentLaws.{join_assoc, join_nothing}
+use Rattle.rga_ops.proofs.ContentLaws.{join_assoc, join_nothing, or_cond}
 use Rattle.rga_ops.proofs.OperationLaws.{Contains-first, Contains-later, Contains-cases, Contains-nil, content_inserted}
 use Rattle.rga_ops.proofs.AnswerLaws.{passed, bad, IsOfOperation, ill_formed-iff, IsAnswered}
 use Rattle.rga_ops.proofs.TakenLaws.{AreTaken, taken_list_is, taken_list_agrees}
@@ -19,20 +19,18 @@ use Rattle.rga_ops.specs.declared.op.Op.{Op}
 use Rattle.rga_ops.specs.declared.op.Op.TheVariants.{Insert}
 use Rattle.rga_ops.specs.declared.refusal.Refusal.{Refusal}
 use Rattle.rga_ops.specs.declared.refusal.Refusal.TheVariants.{Conflict, Full}
+use Rattle.std.proofs.lemmas.Bool.Decides.{nat_tests}
 
 -- ---- two verdicts, one after the other
 
 and_check-ok : (v r : Verdict) → (and_check v r ≡ Ok tt) ↔ ((v ≡ Ok tt) × (r ≡ Ok tt))
-and_check-ok (Ok u) r = (λ h. (refl, h), λ (first, h). h)
-and_check-ok (Err e) r = (λ h. let clash : bad e ≡ passed = h in absurd (cc), λ (first, h). let clash : bad e ≡ passed = first in absurd (cc))
+and_check-ok v r = (λ h. grind arith, λ h. grind arith)
 
 and_check-err : (v r : Verdict) (e : Refusal) → (and_check v r ≡ Err e) ↔ ((v ≡ Err e) ⊎ ((v ≡ Ok tt) × (r ≡ Err e)))
-and_check-err (Ok u) r e = (λ h. inr (refl, h), λ s. elim s [ inl first ↦ let clash : passed ≡ bad e = first in absurd (cc) | inr later ↦ later.1 ])
-and_check-err (Err f) r e = (λ h. inl h, λ s. elim s [ inl first ↦ first | inr later ↦ let clash : bad f ≡ passed = later.0 in absurd (cc) ])
+and_check-err v r e = (λ h. grind arith, λ h. grind arith)
 
 and_check-assoc : (u v r : Verdict) → and_check (and_check u v) r ≡ and_check u (and_check v r)
-and_check-assoc (Ok t) v r = refl
-and_check-assoc (Err e) v r = refl
+and_check-assoc u v r = grind arith
 
 -- ---- well-formed lists
 
@@ -56,10 +54,7 @@ all_checked-append (x ∷ xs) ys = ap (and_check (checked x)) (all_checked-appen
 
 -- the first that is ill-formed is refused
 pub all_checked_refused : (xs ys : List Op) (op : Op) (e : Refusal) → all_checked xs ≡ Ok tt → checked op ≡ Err e → all_checked (xs ++ op ∷ ys) ≡ Err e
-all_checked_refused xs ys op e well refused =
-    all_checked-append xs (op ∷ ys)
-    ∙ ap (λ v. and_check v (and_check (checked op) (all_checked ys))) well
-    ∙ ap (λ v. and_check v (all_checked ys)) refused
+all_checked_refused xs ys op e well refused = grind (arith, all_checked-append xs (op ∷ ys))
 
 pub first_ill_formed-iff : (ops : List Op) (e : Refusal) → (all_checked ops ≡ Err e) ↔ IsFirstIllFormed ops e
 first_ill_formed-iff ops e = (tells ops, leads)
@@ -117,19 +112,11 @@ pub first_conflict-append : (c : Content) (xs ys : List Op) → first_conflict c
 first_conflict-append c [] ys = ap (λ d. first_conflict d ys) (sym (join_nothing c))
 first_conflict-append c (x ∷ xs) ys =
     ap (here_or c x) (first_conflict-append (join c (single x)) xs ys ∙ ap (λ d. option_or (first_conflict (join c (single x)) xs) (first_conflict d ys)) (join_assoc c (single x) (content_of xs)))
-    ∙ either (has_another c x)
-  where
-    either : (b : Bool) → cond b (Some (id_of x)) (option_or (first_conflict (join c (single x)) xs) (first_conflict (join c (content_of (x ∷ xs))) ys)) ≡ option_or (cond b (Some (id_of x)) (first_conflict (join c (single x)) xs)) (first_conflict (join c (content_of (x ∷ xs))) ys)
-    either true = refl
-    either false = refl
+    ∙ sym (or_cond (has_another c x) (id_of x) (first_conflict (join c (single x)) xs) (first_conflict (join c (content_of (x ∷ xs))) ys))
 
 -- the first that conflicts is named
 pub first_conflict_found : (c : Content) (xs ys : List Op) (op : Op) → first_conflict c xs ≡ None → has_another (join c (content_of xs)) op ≡ true → first_conflict c (xs ++ op ∷ ys) ≡ Some (id_of op)
-first_conflict_found c xs ys op free another =
-    let d : Content = join c (content_of xs) in
-    first_conflict-append c xs (op ∷ ys)
-    ∙ ap (λ o. option_or o (first_conflict d (op ∷ ys))) free
-    ∙ ap (λ b. cond b (Some (id_of op)) (first_conflict (join d (single op)) ys)) another
+first_conflict_found c xs ys op free another = grind (arith, first_conflict-append c xs (op ∷ ys))
 
 pub first_conflict-iff : (c : Content) (ops : List Op) (id : Identifier) → (first_conflict c ops ≡ Some id) ↔ IsFirstConflict c ops id
 first_conflict-iff c ops id = (tells c ops, leads)
@@ -172,49 +159,23 @@ first_conflict-iff c ops id = (tells c ops, leads)
 
 -- ---- a conflict, or too many identifiers
 
-abbrev none : Option Identifier
-none = None
-
 pub union_taken-iff : (limit : ℕ) (o : Option Identifier) (c : Content) → (union_answer limit o c ≡ Ok tt) ↔ ((o ≡ None) × (finite_set.len (known_ids c) ≤ limit))
-union_taken-iff limit (Some id) c = (λ h. let clash : bad (Conflict id) ≡ passed = h in absurd (cc), λ (h, fits). absurd (none-some _ (sym h)))
-union_taken-iff limit None c =
-    elim (nat_le (finite_set.len (known_ids c)) limit) as (λ b. nat_le (finite_set.len (known_ids c)) limit ≡ b → (cond b (Ok tt) (Err Full) ≡ passed) ↔ ((none ≡ None) × (finite_set.len (known_ids c) ≤ limit))) [
-      | true ↦ λ t. (λ h. (refl, leb-true (finite_set.len (known_ids c)) limit t), λ w. refl)
-      | false ↦ λ f. (λ h. let clash : bad Full ≡ passed = h in absurd (cc), λ (h, fits). absurd (true≢false (sym (le-leb (finite_set.len (known_ids c)) limit fits) ∙ f)))
-    ] refl
+union_taken-iff limit o c = (λ h. grind (arith, nat_tests), λ h. grind (arith, nat_tests))
 
 pub union_conflict-iff : (limit : ℕ) (o : Option Identifier) (c : Content) (id : Identifier) → (union_answer limit o c ≡ Err (Conflict id)) ↔ (o ≡ Some id)
-union_conflict-iff limit (Some i) c id = (λ h. let same : bad (Conflict i) ≡ bad (Conflict id) = h in ap Some (cc), λ h. ap (λ i. bad (Conflict i)) (same_Some _ _ h))
-union_conflict-iff limit None c id =
-    elim (nat_le (finite_set.len (known_ids c)) limit) as (λ b. (cond b (Ok tt) (Err Full) ≡ bad (Conflict id)) ↔ (None ≡ Some id)) [
-      | true ↦ (λ h. let clash : passed ≡ bad (Conflict id) = h in absurd (cc), λ h. absurd (none-some _ h))
-      | false ↦ (λ h. let clash : bad Full ≡ bad (Conflict id) = h in absurd (cc), λ h. absurd (none-some _ h))
-    ]
+union_conflict-iff limit o c id = (λ h. grind arith, λ h. grind arith)
 
 pub union_full-iff : (limit : ℕ) (o : Option Identifier) (c : Content) → (union_answer limit o c ≡ Err Full) ↔ ((o ≡ None) × (limit < finite_set.len (known_ids c)))
-union_full-iff limit (Some id) c = (λ h. let clash : bad (Conflict id) ≡ bad Full = h in absurd (cc), λ (h, more). absurd (none-some _ (sym h)))
-union_full-iff limit None c =
-    elim (nat_le (finite_set.len (known_ids c)) limit) as (λ b. nat_le (finite_set.len (known_ids c)) limit ≡ b → (cond b (Ok tt) (Err Full) ≡ bad Full) ↔ ((none ≡ None) × (limit < finite_set.len (known_ids c)))) [
-      | true ↦ λ t. (λ h. let clash : passed ≡ bad Full = h in absurd (cc), λ (h, more). let fits = leb-true (finite_set.len (known_ids c)) limit t in absurd (omega (arith, more, fits)))
-      | false ↦ λ f. (λ h. (refl, leb-false (finite_set.len (known_ids c)) limit f), λ w. refl)
-    ] refl
+union_full-iff limit o c = (λ h. grind (arith, nat_tests), λ h. grind (arith, nat_tests))
 
 -- no other refusal is of a union
 pub union_refusal : (limit : ℕ) (o : Option Identifier) (c : Content) (e : Refusal) → union_answer limit o c ≡ Err e → ((id : Identifier) × (e ≡ Conflict id)) ⊎ (e ≡ Full)
-union_refusal limit (Some id) c e h = let same : bad (Conflict id) ≡ bad e = h in inl (id, cc)
-union_refusal limit None c e h =
-    elim (nat_le (finite_set.len (known_ids c)) limit) as (λ b. cond b (Ok tt) (Err Full) ≡ bad e → ((id : Identifier) × (e ≡ Conflict id)) ⊎ (e ≡ Full)) [
-      | true ↦ λ h. let clash : passed ≡ bad e = h in absurd (cc)
-      | false ↦ λ h. let same : bad Full ≡ bad e = h in inr (cc)
-    ] h
+union_refusal limit o c e h = grind arith
 
 -- ---- the answer to a list
 
 of_one_or_other : (e : Refusal) → IsOfOperation e → ((id : Identifier) × (e ≡ Conflict id)) ⊎ (e ≡ Full) → ⊥
-of_one_or_other e own of_union = elim of_union [
-  | inl conflict ↦ let is : e ≡ Conflict conflict.0 = conflict.1 in elim own [ inl b ↦ absurd (cc) | inr b ↦ absurd (cc) ]
-  | inr full ↦ elim own [ inl b ↦ absurd (cc) | inr b ↦ absurd (cc) ]
-]
+of_one_or_other e own of_union = grind arith
 
 -- a refusal of the union comes where all is well-formed
 past_checks : (limit : ℕ) (c : Content) (ops : List Op) (e : Refusal) → ((id : Identifier) × (e ≡ Conflict id)) ⊎ (e ≡ Full) → (list_answer limit c ops ≡ Err e) ↔ (AreWellFormed ops × (union_answer limit (first_conflict c ops) (join c (content_of ops)) ≡ Err e))
@@ -275,13 +236,7 @@ list_full-iff limit c ops = (
 )
 
 pub no_other_list_refusal : (limit : ℕ) (c : Content) (ops : List Op) (e : Refusal) → list_answer limit c ops ≡ Err e → IsAnswered e
-no_other_list_refusal limit c ops e h = elim ((and_check-err (all_checked ops) (union_answer limit (first_conflict c ops) (join c (content_of ops))) e).0 h) [
-  | inl first ↦ elim (ill_formed_refusal ops e first) [ inl b ↦ subst IsAnswered (sym b) tt | inr b ↦ subst IsAnswered (sym b) tt ]
-  | inr later ↦ elim (union_refusal limit (first_conflict c ops) (join c (content_of ops)) e later.1) [
-    | inl conflict ↦ subst IsAnswered (sym conflict.1) tt
-    | inr full ↦ subst IsAnswered (sym full) tt
-  ]
-]
+no_other_list_refusal limit c ops e h = grind (arith, ill_formed_refusal ops e)
 
 -- a list that is taken whole leads to the same as its operations one by one
 pub list_one_by_one : (limit : ℕ) (c : Content) (ops : List Op) → list_answer limit c ops ≡ Ok tt → taken_one_by_one limit c ops ≡ Ok (join c (content_of ops))

@@ -1,7 +1,6 @@
 -- A list of operations, one operation on.
-use Rattle.std.proofs.Common.{◌≡◌, ℕ, ◌+◌, ◌<◌, Bool, true, false, cond, List, [], ◌∷◌, ◌++◌, drop, length, get_or, refl, sym, ap, ◌∙◌, inl, inr}
+use Rattle.std.proofs.Common.{◌≡◌, ℕ, ◌+◌, ◌<◌, false, cond, List, [], ◌∷◌, ◌++◌, drop, length, get_or, sym, ap, ◌∙◌, arith}
 use Rattle.std.specs.Prelude.{Some, None, Err, ◌≢◌}
-use Rattle.std.specs.Option.{option_or}
 use Rattle.std.specs.FinMap as finite_map
 use Rattle.std.specs.FinSet as finite_set
 use Rattle.std.proofs.lemmas.List.{drop_more}
@@ -10,7 +9,7 @@ use Rattle.rga_ops.specs.Operation.{id_of}
 use Rattle.rga_ops.specs.Content.{element, Content, known_ids, join, single, content_of}
 use Rattle.rga_ops.specs.ListAnswer.{all_checked, has_another, first_conflict}
 use Rattle.rga_ops.proofs.IdentifierLaws.{is, same_id}
-use Rattle.rga_ops.proofs.ContentLaws.{get-join, join_assoc, join_nothing, or_none}
+use Rattle.rga_ops.proofs.ContentLaws.{get-join, join_assoc, join_nothing}
 use Rattle.rga_ops.proofs.OperationLaws.{get-single, content_of-append}
 use Rattle.rga_ops.proofs.KnownLaws.{known_taken}
 use Rattle.rga_ops.proofs.DeletionLaws.{inserted-deletion}
@@ -34,13 +33,7 @@ known_more c ops op = ap known_ids (join_more c ops op) ∙ known_taken (join c 
 
 -- an insertion of an identifier that is not inserted
 pub get-insertion : (c : Content) (id parent : Identifier) (ch : ℕ) (q : Identifier) → finite_map.get c.inserted id ≡ None → finite_map.get (join c (single (Insert id parent ch))).inserted q ≡ cond (is q id) (Some (element parent ch)) (finite_map.get c.inserted q)
-get-insertion c id parent ch q absent =
-    get-join c (single (Insert id parent ch)) q ∙ ap (option_or (finite_map.get c.inserted q)) (get-single id parent ch q)
-    ∙ by (is q id) (λ t. ap (finite_map.get c.inserted) (same_id q id t) ∙ absent)
-  where
-    by : (b : Bool) → (b ≡ true → finite_map.get c.inserted q ≡ None) → option_or (finite_map.get c.inserted q) (cond b (Some (element parent ch)) None) ≡ cond b (Some (element parent ch)) (finite_map.get c.inserted q)
-    by true h = ap (λ o. option_or o (Some (element parent ch))) (h refl)
-    by false h = or_none (finite_map.get c.inserted q)
+get-insertion c id parent ch q absent = grind (arith, get-join c (single (Insert id parent ch)) q, get-single id parent ch q, same_id q id)
 
 -- a deletion leaves the insertions
 pub get-deletion : (c : Content) (id q : Identifier) → finite_map.get (join c (single (Delete id))).inserted q ≡ finite_map.get c.inserted q
@@ -48,15 +41,8 @@ get-deletion c id q = ap (λ inserted. finite_map.get inserted q) (inserted-dele
 
 -- no conflict comes with an operation that does not conflict
 pub free_more : (c : Content) (ops : List Op) (op : Op) → first_conflict c ops ≡ None → has_another (join c (content_of ops)) op ≡ false → first_conflict c (ops ++ op ∷ []) ≡ None
-free_more c ops op free other =
-    let d : Content = join c (content_of ops) in
-    first_conflict-append c ops (op ∷ [])
-    ∙ ap (λ o. option_or o (first_conflict d (op ∷ []))) free
-    ∙ ap (λ b. cond b (Some (id_of op)) None) other
+free_more c ops op free other = grind (arith, first_conflict-append c ops (op ∷ []))
 
 -- an ill-formed operation is never refused for want of memory
 pub checked_without_memory : (ops : List Op) → all_checked ops ≢ Err Memory
-checked_without_memory ops h = elim (ill_formed_refusal ops Memory h) [
-  | inl b ↦ absurd (cc)
-  | inr b ↦ absurd (cc)
-]
+checked_without_memory ops h = grind (arith, ill_formed_refusal ops Memory h)

@@ -1,10 +1,10 @@
 -- The answers to a merge: which of them comes exactly when.
-use Rattle.std.proofs.Common.{◌≡◌, ℕ, ◌<◌, ◌≤◌, Bool, true, false, cond, ◌||◌, T, List, [], ◌∷◌, map, refl, sym, ap, ◌∙◌, subst, true≢false, find}
+use Rattle.std.proofs.Common.{◌≡◌, ℕ, ◌<◌, ◌≤◌, Bool, true, false, cond, T, List, [], ◌∷◌, map, refl, sym, ap, ◌∙◌, subst, true≢false, find, arith}
 use Rattle.std.specs.Prelude.{Option, Some, None, Ok, Err, ◌⊎◌, ◌↔◌}
 use Rattle.std.specs.Option.{option_map_or}
 use Rattle.std.specs.List.{list_any}
 use Rattle.std.specs.Cmp.{tied_itself}
-use Rattle.std.specs.Ordering.{is_lt, ordering_reverse}
+use Rattle.std.specs.Ordering.{ordering_reverse}
 use Rattle.std.specs.declared.cmp.Ordering.TheVariants.{Less, Equal, Greater}
 use Rattle.std.specs.FinMap as finite_map
 use Rattle.std.specs.FinSet as finite_set
@@ -20,29 +20,19 @@ use Rattle.rga_ops.proofs.ContentLaws.{same_option}
 use Rattle.rga_ops.proofs.OperationLaws.{single_holds}
 use Rattle.rga_ops.specs.Operations.{operations}
 use Rattle.rga_ops.proofs.OperationsLaws.{content_of-operations, operations_hold, operations_agree}
-use Rattle.rga_ops.proofs.SortedLaws.{both_so, less_of}
+use Rattle.rga_ops.proofs.SortedLaws.{both_so}
 use Rattle.rga_ops.proofs.PathLaws.{key_of}
-use Rattle.rga_ops.proofs.AgreeLaws.{has_another-iff, no_other-iff}
+use Rattle.rga_ops.proofs.AgreeLaws.{no_other-iff}
 use Rattle.rga_ops.proofs.ListAnswerLaws.{list_taken-iff, union_taken-iff, union_conflict-iff, union_full-iff, union_refusal}
 use Rattle.rga_ops.specs.declared.op.Op.TheVariants.{Insert}
 use Rattle.rga_ops.specs.declared.refusal.Refusal.{Refusal}
 use Rattle.rga_ops.specs.declared.refusal.Refusal.TheVariants.{Conflict, Full}
+use Rattle.rga_ops.proofs.AnswerLaws.{is_element-is, is_element-itself}
 
 -- ---- a conflict
 
 pub is_conflict-iff : (c d : Content) (id : Identifier) → (is_conflict c d id ≡ true) ↔ IsConflict c d id
-is_conflict-iff c d id = (tells (finite_map.get c.inserted id) refl, leads)
-  where
-    tells : (o : Option Element) → finite_map.get c.inserted id ≡ o → option_map_or (λ x. has_another d (Insert id x.parent x.ch)) o false ≡ true → IsConflict c d id
-    tells None g h = absurd (true≢false (sym h))
-    tells (Some x) g h =
-        let (y, there, other) = (has_another-iff d (Insert id x.parent x.ch)).0 h in
-        record { here = x; there = y; inserted_here = g; inserted_there = there; differ = λ e. other (sym e) }
-
-    leads : IsConflict c d id → is_conflict c d id ≡ true
-    leads w =
-        ap (λ o. option_map_or (λ x. has_another d (Insert id x.parent x.ch)) o false) w.inserted_here
-        ∙ (has_another-iff d (Insert id w.here.parent w.here.ch)).1 (w.there, w.inserted_there, λ e. w.differ (sym e))
+is_conflict-iff c d id = (λ h. grind (arith, is_element-itself), λ w. grind (arith, is_element-is))
 
 -- what is inserted in both is the same where it is no conflict
 same_element : (c d : Content) (id : Identifier) (x y : Element) → finite_map.get c.inserted id ≡ Some x → finite_map.get d.inserted id ≡ Some y → is_conflict c d id ≡ false → x ≡ y
@@ -62,17 +52,10 @@ agree-iff c d = (
 -- where a search finds nothing, nothing passes
 none_passes : (p : Identifier → Bool) (ks : List Identifier) → find p ks ≡ None → (q : Identifier) → list_any (is q) ks ≡ true → p q ≡ false
 none_passes p [] h q m = absurd (true≢false (sym m))
-none_passes p (k ∷ ks) h q m =
-    elim (p k) as (λ b. p k ≡ b → cond b (Some k) (find p ks) ≡ None → p q ≡ false) [
-      | true ↦ λ t h. absurd (none-some _ (sym h))
-      | false ↦ λ f h. elim (is q k) as (λ b. is q k ≡ b → (b || list_any (is q) ks) ≡ true → p q ≡ false) [
-        | true ↦ λ t m. ap p (same_id q k t) ∙ f
-        | false ↦ λ _ m. none_passes p ks h q m
-      ] refl m
-    ] refl h
+none_passes p (k ∷ ks) h q m = grind (arith, none_passes p ks, same_id q k)
 
 not_both_less : (a b : Identifier) → id_cmp a b ≡ Less → id_cmp b a ≡ Less → ⊥
-not_both_less a b h k = let clash : Less ≡ ordering_reverse Less = sym h ∙ ids_total.antisymm a b ∙ ap ordering_reverse k in absurd (cc)
+not_both_less a b h k = grind arith
 
 not_less_itself : (a : Identifier) → id_cmp a a ≡ Less → ⊥
 not_less_itself a h = let clash : Less ≡ Equal = sym h ∙ tied_itself ids_total a in absurd (cc)
@@ -80,12 +63,7 @@ not_less_itself a h = let clash : Less ≡ Equal = sym h ∙ tied_itself ids_tot
 -- a key is below those behind it
 below_later : (k : Identifier) (es : List (Identifier × Element)) → T (below_all id_cmp k es) → (q : Identifier) → list_any (is q) (map (λ e. e.0) es) ≡ true → id_cmp k q ≡ Less
 below_later k [] h q m = absurd (true≢false (sym m))
-below_later k (e ∷ es) h q m =
-    let s : T (is_lt (id_cmp k e.0)) × T (below_all id_cmp k es) = both_so (is_lt (id_cmp k e.0)) (below_all id_cmp k es) h in
-    elim (is q e.0) as (λ b. is q e.0 ≡ b → (b || list_any (is q) (map (λ e. e.0) es)) ≡ true → id_cmp k q ≡ Less) [
-      | true ↦ λ t m. ap (id_cmp k) (same_id q e.0 t) ∙ less_of (id_cmp k e.0) s.0
-      | false ↦ λ _ m. below_later k es s.1 q m
-    ] refl m
+below_later k (e ∷ es) h q m = grind (arith, below_later k es, same_id q e.0)
 
 -- what passes, and no smaller key does
 record IsLeast (p : Identifier → Bool) (ks : List Identifier) (k : Identifier) : Type 0 where
@@ -106,21 +84,14 @@ found_least p (e ∷ es) k sorted h =
     first t below same = record {
       passes = ap p (sym same) ∙ t;
       least = λ q m _ less.
-          let under : id_cmp q e.0 ≡ Less = ap (id_cmp q) same ∙ less in
-          elim (is q e.0) as (λ b. is q e.0 ≡ b → (b || list_any (is q) (map (λ e. e.0) es)) ≡ true → ⊥) [
-            | true ↦ λ t _. not_less_itself e.0 (ap (λ x. id_cmp x e.0) (sym (same_id q e.0 t)) ∙ under)
-            | false ↦ λ _ m. not_both_less e.0 q (below_later e.0 es below q m) under
-          ] refl m;
+          grind (arith, same_id q e.0, below_later e.0 es below q, not_both_less e.0 q, not_less_itself e.0, same);
     }
 
     later : p e.0 ≡ false → IsLeast p (map (λ e. e.0) es) k → IsLeast p (map (λ e. e.0) (e ∷ es)) k
     later f w = record {
       passes = w.passes;
       least = λ q m t less.
-          elim (is q e.0) as (λ b. is q e.0 ≡ b → (b || list_any (is q) (map (λ e. e.0) es)) ≡ true → ⊥) [
-            | true ↦ λ same _. true≢false (sym t ∙ ap p (same_id q e.0 same) ∙ f)
-            | false ↦ λ _ m. w.least q m t less
-          ] refl m;
+          grind (arith, same_id q e.0, w.least q);
     }
 
 -- there is none exactly where the contents agree

@@ -1,34 +1,20 @@
 -- The operations of a list that are new where they are taken.
-use Rattle.std.proofs.Common.{◌≡◌, ℕ, Bool, true, false, cond, List, [], ◌∷◌, ◌++◌, refl, sym, ap, ◌∙◌, subst, inl, inr, ◌⊎◌, true≢false}
-use Rattle.std.specs.Prelude.{Option, Some, None, Ok, Contains, ◌↔◌}
-use Rattle.std.specs.Option.{option_map_or, option_or}
-use Rattle.std.specs.FinMap as finite_map
-use Rattle.std.specs.FinSet as finite_set
-use Rattle.std.proofs.lemmas.Bool.{or_cases}
-use Rattle.rga_ops.specs.Identifier.{Identifier}
-use Rattle.rga_ops.specs.Content.{Element, element, Content, join, single, content_of, Holds}
-use Rattle.rga_ops.specs.Answer.{answer, is_element}
+use Rattle.std.proofs.Common.{◌≡◌, ℕ, Bool, true, false, cond, List, [], ◌∷◌, ◌++◌, refl, sym, ap, ◌∙◌, subst, inl, inr, ◌⊎◌, true≢false, arith}
+use Rattle.std.specs.Prelude.{Ok, Contains, ◌↔◌}
+use Rattle.rga_ops.specs.Content.{Content, join, single, content_of, Holds}
+use Rattle.rga_ops.specs.Answer.{answer}
 use Rattle.rga_ops.specs.NewOperations.{holds, new_operations}
 use Rattle.rga_ops.proofs.ContentLaws.{get-join, contains-join, join_assoc, join_nothing, within_join}
 use Rattle.rga_ops.proofs.OperationLaws.{Contains-first, Contains-later, Contains-cases, Contains-nil, single_inserted, single_deleted}
 use Rattle.rga_ops.proofs.AnswerLaws.{is_element-is, is_element-itself, known-iff, new-iff}
 use Rattle.rga_ops.proofs.TakenLaws.{held_adds_nothing, held_stays}
 use Rattle.rga_ops.specs.declared.op.Op.{Op}
-use Rattle.rga_ops.specs.declared.op.Op.TheVariants.{Insert, Delete}
 use Rattle.rga_ops.specs.declared.refusal.Taken.TheVariants.{New, Known}
 
 -- ---- whether an operation is held
 
-held_element : (o : Option Element) (parent : Identifier) (ch : ℕ) → option_map_or (λ x. is_element x parent ch) o false ≡ true → o ≡ Some (element parent ch)
-held_element None parent ch h = absurd (true≢false (sym h))
-held_element (Some x) parent ch h = ap Some (is_element-is x parent ch h)
-
 pub holds-iff : (c : Content) (op : Op) → (holds c op ≡ true) ↔ Holds c op
-holds-iff c (Insert id parent ch) = (
-  held_element (finite_map.get c.inserted id) parent ch,
-  λ h. ap (λ o. option_map_or (λ x. is_element x parent ch) o false) h ∙ is_element-itself parent ch,
-)
-holds-iff c (Delete id) = (λ h. h, λ h. h)
+holds-iff c op = (λ h. grind (arith, is_element-is), λ h. grind (arith, is_element-itself))
 
 -- ---- those that are new
 
@@ -74,16 +60,7 @@ new_not_held c (x ∷ ops) op =
 
 -- what is held once an operation is joined was held before, or is that operation
 held_by_join : (c : Content) (x op : Op) → Holds (join c (single x)) op → Holds c op ⊎ (x ≡ op)
-held_by_join c x (Insert id parent ch) h =
-    elim (finite_map.get c.inserted id) as (λ o. finite_map.get c.inserted id ≡ o → option_or o (finite_map.get (single x).inserted id) ≡ Some (element parent ch) → (finite_map.get c.inserted id ≡ Some (element parent ch)) ⊎ (x ≡ Insert id parent ch)) [
-      | None ↦ λ g e. inr (single_inserted x id (element parent ch) e)
-      | Some y ↦ λ g e. inl (g ∙ e)
-    ] refl (sym (get-join c (single x) id) ∙ h)
-held_by_join c x (Delete id) h =
-    elim (or_cases (finite_set.contains c.deleted id) (finite_set.contains (single x).deleted id) (sym (contains-join c (single x) id) ∙ h)) [
-      | inl held ↦ inl held
-      | inr joined ↦ inr (single_deleted x id joined)
-    ]
+held_by_join c x op h = grind (arith, get-join, contains-join, single_inserted, single_deleted)
 
 pub held_or_new : (c : Content) (ops : List Op) (op : Op) → Contains ops op → Holds c op ⊎ Contains (new_operations c ops) op
 held_or_new c [] op m = absurd (Contains-nil op m)

@@ -1,19 +1,19 @@
 -- An insertion whose counter is above all others: it goes in directly behind its parent.
-use Rattle.std.proofs.Common.{◌≡◌, ℕ, ◌<◌, ◌≤◌, ◌==◌, true, false, cond, is_some, [], ◌∷◌, ◌++◌, refl, sym, ap, ◌∙◌, true≢false, arith, lt-ltb}
-use Rattle.std.specs.Prelude.{Some, None}
+use Rattle.std.proofs.Common.{◌≡◌, ℕ, ◌<◌, true, false, [], ◌∷◌, ◌++◌, refl, ap, arith}
+use Rattle.std.specs.Prelude.{None}
 use Rattle.std.specs.List.{list_any, AllByRecursion}
-use Rattle.std.specs.Ordering.{nat_cmp, ordering_then}
-use Rattle.std.specs.declared.cmp.Ordering.TheVariants.{Less, Equal, Greater}
+use Rattle.std.specs.Ordering.{ordering_then}
+use Rattle.std.specs.declared.cmp.Ordering.TheVariants.{Less}
 use Rattle.std.specs.FinMap as finite_map
 use Rattle.std.specs.FinSet as finite_set
 use Rattle.std.specs.FinMap.Entries.{put, by_order}
 use Rattle.std.proofs.lemmas.Bool.{false_from_ne_true}
-use Rattle.rga_ops.specs.Identifier.{Identifier, id_cmp, root, is_root}
+use Rattle.rga_ops.specs.Identifier.{Identifier, id_cmp, is_root}
 use Rattle.rga_ops.specs.Content.{Content, join, single, clock_of, HasCountersWithin}
-use Rattle.rga_ops.specs.RootPath.{Path, path_cmp, newest_first, IsRootPath}
+use Rattle.rga_ops.specs.RootPath.{Path, path_cmp, IsRootPath}
 use Rattle.rga_ops.specs.Order.{order}
 use Rattle.rga_ops.specs.Placement.{put_behind}
-use Rattle.rga_ops.proofs.IdentifierLaws.{is, same_id, is_id-is}
+use Rattle.rga_ops.proofs.IdentifierLaws.{is}
 use Rattle.rga_ops.proofs.PathLaws.{on_path}
 use Rattle.rga_ops.proofs.MemberLaws.{all_members}
 use Rattle.rga_ops.proofs.ClockLaws.{within_clock}
@@ -22,54 +22,34 @@ use Rattle.rga_ops.proofs.BehindLaws.{ids, GoesIn, order-change}
 use Rattle.rga_ops.specs.declared.op.Op.TheVariants.{Insert}
 
 pub lower_counter : (a b : Identifier) → a.counter < b.counter → id_cmp a b ≡ Less
-lower_counter a b h =
-    ap (λ t. ordering_then (cond t Less (cond (a.counter == b.counter) Equal Greater)) (nat_cmp a.replica b.replica)) (lt-ltb a.counter b.counter h)
+lower_counter a b h = grind arith
 
 -- before what stands behind its beginning, where all identifiers on that are smaller
 before_later : (above q : Path) (id : Identifier) → AllByRecursion (λ k. id_cmp k id ≡ Less) q → path_cmp above q ≡ Less → path_cmp (above ++ id ∷ []) q ≡ Less
 before_later [] [] id small h = absurd (cc)
 before_later [] (k ∷ q) id small h = ap (λ o. ordering_then o (path_cmp [] q)) small.0
 before_later (a ∷ above) [] id small h = absurd (cc)
-before_later (a ∷ above) (k ∷ q) id small h =
-    elim (newest_first a k) as (λ o. ordering_then o (path_cmp above q) ≡ Less → ordering_then o (path_cmp (above ++ id ∷ []) q) ≡ Less) [
-      | Less ↦ λ h. refl
-      | Equal ↦ λ h. before_later above q id small.1 h
-      | Greater ↦ λ h. absurd (cc)
-    ] h
+before_later (a ∷ above) (k ∷ q) id small h = grind (arith, before_later above q id small.1)
 
 module _ (c : Content) (id : Identifier) (newer : clock_of c < id.counter) where
   bound : HasCountersWithin c (clock_of c)
   bound = within_clock c
 
   pub newest_element : is_root id ≡ false
-  newest_element = false_from_ne_true (is_root id) (λ t.
-      let zero_counter : id.counter ≡ 0 = ap (λ (i : Identifier). i.counter) (is_id-is id root t) in
-      omega (arith, newer, zero_counter))
+  newest_element = grind (arith, newer)
 
   pub newest_absent : finite_map.get c.inserted id ≡ None
-  newest_absent = elim (finite_map.get c.inserted id) as (λ o. finite_map.get c.inserted id ≡ o → o ≡ None) [
-    | None ↦ λ g. refl
-    | Some x ↦ λ g. absurd (omega (arith, newer, bound.own id x g))
-  ] refl
+  newest_absent = grind (arith, newer, bound.own id)
 
   pub newest_kept : finite_set.contains c.deleted id ≡ false
   newest_kept = false_from_ne_true (finite_set.contains c.deleted id) (λ t. omega (arith, newer, bound.deleted id t))
 
   -- it is not inserted, and nothing waits for it
   pub newest_leaf : IsNewLeaf c id
-  newest_leaf = record {
-    element = newest_element;
-    absent = newest_absent;
-    childless = λ k x g. false_from_ne_true (is x.parent id) (λ t.
-        let same : x.parent.counter ≡ id.counter = ap (λ (i : Identifier). i.counter) (same_id x.parent id t) in
-        omega (arith, newer, same, bound.parents k x g));
-  }
+  newest_leaf = record { element = newest_element; absent = newest_absent; childless = λ k x g. grind (arith, newer, bound.parents k x g) }
 
   inserted_smaller : (k : Identifier) → list_any (is k) (finite_map.keys c.inserted) ≡ true → id_cmp k id ≡ Less
-  inserted_smaller k m = elim (finite_map.get c.inserted k) as (λ o. finite_map.get c.inserted k ≡ o → is_some o ≡ true → id_cmp k id ≡ Less) [
-    | None ↦ λ g h. absurd (true≢false (sym h))
-    | Some x ↦ λ g h. let within : k.counter ≤ clock_of c = bound.own k x g in lower_counter k id (omega (arith, newer, within))
-  ] refl (finite_map.contains_key-keys c.inserted k ∙ m)
+  inserted_smaller k m = grind (arith, finite_map.contains_key-keys c.inserted k, bound.own k, newer)
 
   path_smaller : {k : Identifier} {p : Path} → IsRootPath c k p → AllByRecursion (λ q. id_cmp q id ≡ Less) p
   path_smaller {k} {p} s = all_members (λ q. id_cmp q id ≡ Less) p (λ q on. inserted_smaller q (on_path s q on).inserted)

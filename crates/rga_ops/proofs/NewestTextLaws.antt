@@ -1,11 +1,10 @@
 -- An insertion whose counter is above all others: which elements are complete and visible then, and the text as a splice.
-use Rattle.std.proofs.Common.{◌≡◌, ℕ, ◌+◌, ◌<◌, ◌≤◌, Bool, true, false, cond, not, ◌&&◌, ◌||◌, nat_le, ◌∷◌, ◌++◌, map, filter, take, drop, refl, sym, ap, ◌∙◌, arith, true≢false, inl, inr}
-use Rattle.std.specs.Prelude.{Some, Ok, Err, max}
+use Rattle.std.proofs.Common.{◌≡◌, ℕ, ◌+◌, ◌<◌, ◌≤◌, Bool, true, false, cond, not, ◌&&◌, ◌||◌, ◌∷◌, ◌++◌, map, filter, take, drop, refl, sym, ap, ◌∙◌, arith, true≢false, inl, inr}
+use Rattle.std.specs.Prelude.{Some, Ok}
 use Rattle.std.specs.Option.{option_map}
 use Rattle.std.specs.List.{slice_get}
 use Rattle.std.specs.FinMap as finite_map
 use Rattle.std.proofs.lemmas.Bool.{and_parts, or_cases, or_left, or_right}
-use Rattle.std.proofs.lemmas.Bool.Decides.{nat_tests}
 use Rattle.rga_ops.specs.Identifier.{Identifier, root, is_root}
 use Rattle.rga_ops.specs.Operation.{checked}
 use Rattle.rga_ops.specs.Content.{Element, element, Content, join, single, clock_of}
@@ -23,7 +22,6 @@ use Rattle.rga_ops.proofs.PlacementLaws.{member_at, change_after-at, filter-put_
 use Rattle.rga_ops.proofs.SpliceLaws.{same_characters, characters_with}
 use Rattle.rga_ops.proofs.NewestLaws.{newest_element, newest_absent, newest_kept, order-newest}
 use Rattle.rga_ops.specs.declared.op.Op.TheVariants.{Insert}
-use Rattle.rga_ops.specs.declared.refusal.Refusal.TheVariants.{BadId, BadOrder}
 
 -- what stands at an index of the visible elements is visible
 pub visible_at : (c : Content) (i : ℕ) (id : Identifier) → slice_get (visible c) i ≡ Some id → (is_complete c id ≡ true) × (is_kept c id ≡ true)
@@ -43,10 +41,7 @@ module _ (c : Content) (id parent : Identifier) (ch : ℕ) (newer : clock_of c <
   -- ---- what the new content has
 
   pub clock-newest_falls : parent.counter ≤ id.counter → clock_of d ≡ id.counter
-  clock-newest_falls falls = clock_insertion c id (element parent ch) (newest_absent c id newer) falls ∙ larger (clock_of c) id.counter newer
-    where
-      larger : (m n : ℕ) → m < n → max m n ≡ n
-      larger m n h = omega arith
+  clock-newest_falls falls = omega (arith, clock_insertion c id (element parent ch) (newest_absent c id newer) falls, newer)
 
   pub get-newest : finite_map.get d.inserted id ≡ Some (element parent ch)
   get-newest = get-inserted c id parent ch (newest_absent c id newer)
@@ -113,12 +108,7 @@ module _ (c : Content) (id parent : Identifier) (ch : ℕ) (newer : clock_of c <
     lower = root_or_complete_within c parent stands
 
     pub newest_well_formed : checked (Insert id parent ch) ≡ Ok tt
-    newest_well_formed =
-        ap (λ b. cond b (Err BadId) (cond (nat_le id.counter parent.counter) (Err BadOrder) (Ok tt))) (newest_element c id newer)
-        ∙ ap (λ b. cond b (Err BadOrder) (Ok tt)) (above id.counter parent.counter (omega (arith, newer, lower)))
-      where
-        above : (m n : ℕ) → n < m → nat_le m n ≡ false
-        above m n h = grind (arith, nat_tests)
+    newest_well_formed = grind (arith, newest_element c id newer, lower, newer)
 
     pub clock-newest : clock_of d ≡ id.counter
     clock-newest = clock-newest_falls (omega (arith, newer, lower))

@@ -1,44 +1,37 @@
 -- The content of a list of operations: what is in it, and that it depends on the operations as a set alone.
-use Rattle.std.proofs.Common.{◌≡◌, ℕ, zero, suc, true, false, cond, ◌||◌, List, [], ◌∷◌, ◌++◌, refl, sym, ap, ◌∙◌, subst, arith, inl, inr, true≢false}
+use Rattle.std.proofs.Common.{◌≡◌, ℕ, zero, suc, true, cond, ◌||◌, List, [], ◌∷◌, ◌++◌, refl, sym, ap, ◌∙◌, subst, arith, inl, inr, true≢false}
 use Rattle.std.specs.Prelude.{Some, None, ◌⊎◌, ◌↔◌, Contains}
-use Rattle.std.specs.Option.{option_or}
 use Rattle.std.specs.Cmp.{both_ways}
 use Rattle.std.specs.FinMap as finite_map
 use Rattle.std.specs.FinSet as finite_set
 use Rattle.std.proofs.Math.Bool.{or-false}
 use Rattle.std.proofs.lemmas.Bool.{or_cases, or_left, or_right}
-use Rattle.std.proofs.lemmas.Option.{same_Some, none-some}
+use Rattle.std.proofs.lemmas.Option.{none-some}
 use Rattle.rga_ops.specs.Identifier.{Identifier, id_cmp}
 use Rattle.rga_ops.specs.Content.{Element, element, join, single, content_of, Holds, IsAgreed, HasSameOperations}
 use Rattle.rga_ops.proofs.IdentifierLaws.{ids_total, is, same_id, is_itself}
 use Rattle.rga_ops.proofs.ContentLaws.{same_content, same_option, get-join, contains-join, join_assoc, nothing_join, either_option}
 use Rattle.rga_ops.specs.declared.op.Op.{Op}
 use Rattle.rga_ops.specs.declared.op.Op.TheVariants.{Insert, Delete}
+use Rattle.std.proofs.lemmas.List.Elements.{Contains-append_cases}
 
 -- ---- membership
 
-pub Contains-first : (op : Op) (ops : List Op) → Contains (op ∷ ops) op
-Contains-first op ops = (0, omega arith, refl)
+pub Contains-first : {A : Type 0} (x : A) (xs : List A) → Contains (x ∷ xs) x
+Contains-first x xs = (0, omega arith, refl)
 
-pub Contains-later : (x op : Op) (ops : List Op) → Contains ops op → Contains (x ∷ ops) op
-Contains-later x op ops (k, within, e) = (suc k, omega (arith, within), e)
+pub Contains-later : {A : Type 0} (x y : A) (xs : List A) → Contains xs y → Contains (x ∷ xs) y
+Contains-later x y xs (k, within, e) = (suc k, omega (arith, within), e)
 
-pub Contains-cases : (x op : Op) (ops : List Op) → Contains (x ∷ ops) op → (x ≡ op) ⊎ Contains ops op
-Contains-cases x op ops (zero, within, e) = inl e
-Contains-cases x op ops (suc k, within, e) = inr (k, omega (arith, within), e)
+pub Contains-cases : {A : Type 0} (x y : A) (xs : List A) → Contains (x ∷ xs) y → (x ≡ y) ⊎ Contains xs y
+Contains-cases x y xs (zero, within, e) = inl e
+Contains-cases x y xs (suc k, within, e) = inr (k, omega (arith, within), e)
 
-pub Contains-nil : (op : Op) → Contains [] op → ⊥
-Contains-nil op (k, within, e) = omega (arith, within)
+pub Contains-nil : {A : Type 0} (x : A) → Contains [] x → ⊥
+Contains-nil x (k, within, e) = omega (arith, within)
 
 pub Contains-append : (xs ys : List Op) (op : Op) → Contains (xs ++ ys) op → Contains xs op ⊎ Contains ys op
-Contains-append [] ys op m = inr m
-Contains-append (x ∷ xs) ys op m = elim (Contains-cases x op (xs ++ ys) m) [
-  | inl here ↦ inl (subst (λ o. Contains (x ∷ xs) o) here (Contains-first x xs))
-  | inr later ↦ elim (Contains-append xs ys op later) [
-    | inl first ↦ inl (Contains-later x op xs first)
-    | inr second ↦ inr second
-  ]
-]
+Contains-append = Contains-append_cases
 
 -- ---- one operation
 
@@ -59,13 +52,7 @@ single_holds (Delete id) = contains-single id id ∙ is_itself id
 -- ---- what the content of a list has
 
 pub single_inserted : (op : Op) (id : Identifier) (x : Element) → finite_map.get (single op).inserted id ≡ Some x → op ≡ Insert id x.parent x.ch
-single_inserted (Insert i parent ch) id x h =
-    elim (is id i) as (λ b. is id i ≡ b → cond b (Some (element parent ch)) None ≡ Some x → Insert i parent ch ≡ Insert id x.parent x.ch) [
-      | true ↦ λ t h.
-          let same : element parent ch ≡ x = same_Some _ _ h in
-          λ k. Insert (sym (same_id id i t) k) (same k).parent (same k).ch
-      | false ↦ λ f h. absurd (none-some _ h)
-    ] refl (sym (get-single i parent ch id) ∙ h)
+single_inserted (Insert i parent ch) id x h = grind (arith, get-single i parent ch id, same_id id i)
 single_inserted (Delete i) id x h = absurd (none-some _ (sym (finite_map.get-empty id_cmp id) ∙ h))
 
 pub content_inserted : (ops : List Op) (id : Identifier) (x : Element) → finite_map.get (content_of ops).inserted id ≡ Some x → Contains ops (Insert id x.parent x.ch)
@@ -92,15 +79,7 @@ content_deleted (op ∷ ops) id h =
 some_inserted : (ops : List Op) (id parent : Identifier) (ch : ℕ) → Contains ops (Insert id parent ch) → (x : Element) × (finite_map.get (content_of ops).inserted id ≡ Some x)
 some_inserted [] id parent ch h = absurd (Contains-nil _ h)
 some_inserted (op ∷ ops) id parent ch h =
-    elim (finite_map.get (single op).inserted id) as (λ o. finite_map.get (single op).inserted id ≡ o → (x : Element) × (finite_map.get (content_of (op ∷ ops)).inserted id ≡ Some x)) [
-      | Some y ↦ λ e. (y, get-join (single op) (content_of ops) id ∙ ap (λ o. option_or o (finite_map.get (content_of ops).inserted id)) e)
-      | None ↦ λ e. elim (Contains-cases op (Insert id parent ch) ops h) [
-        | inl same ↦ absurd (none-some _ (sym e ∙ ap (λ o. finite_map.get (single o).inserted id) same ∙ single_holds (Insert id parent ch)))
-        | inr later ↦
-            let w : (x : Element) × (finite_map.get (content_of ops).inserted id ≡ Some x) = some_inserted ops id parent ch later in
-            (w.0, get-join (single op) (content_of ops) id ∙ ap (λ o. option_or o (finite_map.get (content_of ops).inserted id)) e ∙ w.1)
-      ]
-    ] refl
+    grind (arith, get-join (single op) (content_of ops) id, Contains-cases op (Insert id parent ch) ops h, some_inserted ops id parent ch, single_holds (Insert id parent ch))
 
 -- the insertions of a list that agrees are its content's, and its deletions always are
 pub inserted-iff : (ops : List Op) → IsAgreed ops → (id : Identifier) (x : Element) → (finite_map.get (content_of ops).inserted id ≡ Some x) ↔ Contains ops (Insert id x.parent x.ch)

@@ -5,12 +5,11 @@ use Rattle.std.specs.Option.{option_map, option_or}
 use Rattle.std.specs.List.{list_any, filter_map, cons_option, AllByRecursion}
 use Rattle.std.proofs.Math.Bool.{or-false}
 use Rattle.std.proofs.lemmas.Bool.{or_left, or_right}
-use Rattle.std.proofs.lemmas.Option.{same_Some}
 use Rattle.std.specs.FinMap as finite_map
 use Rattle.std.specs.FinSet as finite_set
 use Rattle.std.specs.FinMap.{find}
 use Rattle.rga_ops.specs.Identifier.{Identifier, id_cmp}
-use Rattle.rga_ops.specs.Content.{Element, element, Content, nothing, known_ids, single, content_of, Holds, IsSound, IsAgreed}
+use Rattle.rga_ops.specs.Content.{Element, Content, nothing, known_ids, single, content_of, Holds, IsSound, IsAgreed}
 use Rattle.rga_ops.specs.Operations.{insertion_of, insertion_at, alone, rising, insertions, deletions, operations}
 use Rattle.rga_ops.proofs.IdentifierLaws.{ids_total, is, is_itself}
 use Rattle.rga_ops.proofs.ContentLaws.{same_content, get-join, contains-join, or_cond, or_none}
@@ -20,6 +19,8 @@ use Rattle.rga_ops.proofs.KnownLaws.{takeable_from_nothing}
 use Rattle.rga_ops.specs.Answer.{taken_one_by_one}
 use Rattle.rga_ops.specs.declared.op.Op.{Op}
 use Rattle.rga_ops.specs.declared.op.Op.TheVariants.{Insert, Delete}
+use Rattle.std.specs.FinMap.Entries.{is_some-find}
+use Rattle.rga_ops.proofs.AgreeLaws.{held_agree}
 
 get-insertions : (es : List (Identifier × Element)) (q : Identifier) → finite_map.get (content_of (map insertion_of es)).inserted q ≡ find id_cmp q es
 get-insertions [] q = finite_map.get-empty id_cmp q
@@ -43,19 +44,16 @@ deleted-deletions (k ∷ ks) q =
     contains-join (single (Delete k)) (content_of (map Delete ks)) q
     ∙ (λ i. (finite_set.contains-insert ids_total finite_set.empty k q ∙ ap (λ b. is q k || b) (finite_set.contains-empty id_cmp q) ∙ or-false (is q k)) i || deleted-deletions ks q i)
 
-is_some-paired : (ks : List Identifier) (q : Identifier) → is_some (find id_cmp q (map alone ks)) ≡ list_any (is q) ks
-is_some-paired [] q = refl
-is_some-paired (k ∷ ks) q = elim (is q k) as (λ b. is_some (cond b (Some tt) (find id_cmp q (map alone ks))) ≡ (b || list_any (is q) ks)) [
-  | true ↦ refl
-  | false ↦ is_some-paired ks q
-]
+keys_alone : (ks : List Identifier) → map (λ (e : Identifier × Unit {0}). e.0) (map alone ks) ≡ ks
+keys_alone [] = refl
+keys_alone (k ∷ ks) = ap (λ r. k ∷ r) (keys_alone ks)
 
 -- in their order they are the same identifiers
 pub any-rising : (ks : List Identifier) (q : Identifier) → list_any (is q) (rising ks) ≡ list_any (is q) ks
 any-rising ks q =
     sym (finite_map.contains_key-keys (finite_map.from_entries {R = id_cmp} (map alone ks)) q)
     ∙ ap is_some (finite_map.get-from_entries ids_total (map alone ks) q)
-    ∙ is_some-paired ks q
+    ∙ is_some-find id_cmp q (map alone ks) ∙ ap (list_any (is q)) (keys_alone ks)
 
 -- a content is that of its operations
 pub content_of-operations : (c : Content) → content_of (operations c) ≡ c
@@ -99,9 +97,7 @@ operations_hold c op m = elim (Contains-append (insertions c) (deletions c) op m
 ]
 
 pub operations_agree : (c : Content) → IsAgreed (operations c)
-operations_agree c id parent other ch char a b =
-    let same : element parent ch ≡ element other char = same_Some _ _ (sym (operations_hold c (Insert id parent ch) a) ∙ operations_hold c (Insert id other char) b) in
-    (ap (λ (x : Element). x.parent) same, ap (λ (x : Element). x.ch) same)
+operations_agree c = held_agree c (operations c) (λ id parent ch m. operations_hold c (Insert id parent ch) m)
 
 -- the insertions, found one by one by the identifiers in their order
 find_later : (c : Content) (es : List (Identifier × Element)) → AllByRecursion (λ (e : Identifier × Element). finite_map.get c.inserted e.0 ≡ Some e.1) es → filter_map (insertion_at c) (map (λ e. e.0) es) ≡ map insertion_of es

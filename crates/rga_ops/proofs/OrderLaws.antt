@@ -1,16 +1,16 @@
 -- The order list: the function gives it, nothing else is one, and what precedes what is a strict total order.
-use Rattle.std.proofs.Common.{◌≡◌, true, false, cond, not, ◌&&◌, ◌||◌, T, List, [], ◌∷◌, map, refl, sym, ap, ◌∙◌, subst, is_some, true≢false, inl, inr}
-use Rattle.std.specs.Prelude.{Some, None, ◌⊎◌, ◌≢◌, unwrap_or}
+use Rattle.std.proofs.Common.{◌≡◌, true, false, not, ◌&&◌, T, List, [], ◌∷◌, map, refl, sym, ap, ◌∙◌, subst, is_some, true≢false, inl, inr, arith}
+use Rattle.std.specs.Prelude.{Some, ◌⊎◌, ◌≢◌, unwrap_or}
 use Rattle.std.specs.Cmp.{both_ways, tied_itself}
-use Rattle.std.specs.Ordering.{eq_by_cmp, is_lt}
+use Rattle.std.specs.Ordering.{is_lt}
 use Rattle.std.specs.List.{list_any, filter_map, cons_option, AllByRecursion, IsDistinct}
 use Rattle.std.specs.declared.cmp.Ordering.TheVariants.{Less}
 use Rattle.std.specs.FinMap as finite_map
 use Rattle.std.specs.FinMap.{find, is_sorted}
 use Rattle.std.specs.FinMap.Entries.{below_all}
-use Rattle.std.proofs.lemmas.Bool.{false_from_ne_true, or_left, or_right}
+use Rattle.std.proofs.lemmas.Bool.{false_from_ne_true}
 use Rattle.std.proofs.lemmas.Option.{same_Some, none-some}
-use Rattle.rga_ops.specs.Identifier.{Identifier, is_root}
+use Rattle.rga_ops.specs.Identifier.{Identifier}
 use Rattle.rga_ops.specs.Content.{Content}
 use Rattle.rga_ops.specs.RootPath.{Path, path_cmp, root_path, is_complete, IsComplete, IsRootPath}
 use Rattle.rga_ops.specs.Order.{placed, by_path, order, Precedes, IsInOrder, IsOrderList}
@@ -71,14 +71,7 @@ path_of c id = unwrap_or (root_path c id) []
 
 complete-placed : (c : Content) (id : Identifier) → is_complete c id ≡ true → IsPlaced c id (path_of c id)
 unfolding path_of
-complete-placed c id h =
-    elim (is_root id) as (λ b. is_root id ≡ b → (not b && is_some (root_path c id)) ≡ true → IsPlaced c id (unwrap_or (root_path c id) [])) [
-      | true ↦ λ r h. absurd (true≢false (sym h))
-      | false ↦ λ r h. elim (root_path c id) as (λ o. root_path c id ≡ o → is_some o ≡ true → IsPlaced c id (unwrap_or o [])) [
-        | None ↦ λ f h. absurd (true≢false (sym h))
-        | Some p ↦ λ f h. record { element = r; path = root_path-is f }
-      ] refl h
-    ] refl h
+complete-placed c id h = grind (arith, λ (p : Path) (e : root_path c id ≡ Some p). root_path-is {c = c} {id = id} {p = p} e)
 
 placed-complete : (c : Content) (id : Identifier) (p : Path) → IsPlaced c id p → is_complete c id ≡ true
 placed-complete c id p h = (λ k. not (h.element k) && is_some (is-root_path h.path k))
@@ -135,19 +128,11 @@ order_distinct c (x ∷ xs) o = (apart xs (precedes_later c x xs o), order_disti
 
 found_value : (es : List (Path × Identifier)) (p : Path) (id : Identifier) → find path_cmp p es ≡ Some id → list_any (is id) (map (λ e. e.1) es) ≡ true
 found_value [] p id h = absurd (none-some _ h)
-found_value (e ∷ es) p id h =
-    elim (eq_by_cmp path_cmp p e.0) as (λ b. cond b (Some e.1) (find path_cmp p es) ≡ Some id → (is id e.1 || list_any (is id) (map (λ e. e.1) es)) ≡ true) [
-      | true ↦ λ h. or_left (is id e.1) (list_any (is id) (map (λ e. e.1) es)) (ap (is id) (same_Some _ _ h) ∙ is_itself id)
-      | false ↦ λ h. or_right (is id e.1) (list_any (is id) (map (λ e. e.1) es)) (found_value es p id h)
-    ] h
+found_value (e ∷ es) p id h = grind (arith, found_value es p id, is_itself id)
 
 value_complete : (c : Content) (es : List (Path × Identifier)) (id : Identifier) → AllByRecursion (λ (e : Path × Identifier). IsPlaced c e.1 e.0) es → list_any (is id) (map (λ e. e.1) es) ≡ true → is_complete c id ≡ true
 value_complete c [] id h m = absurd (true≢false (sym m))
-value_complete c (e ∷ es) id h m =
-    elim (is id e.1) as (λ b. is id e.1 ≡ b → (b || list_any (is id) (map (λ e. e.1) es)) ≡ true → is_complete c id ≡ true) [
-      | true ↦ λ t m. ap (is_complete c) (same_id id e.1 t) ∙ placed-complete c e.1 e.0 h.0
-      | false ↦ λ t m. value_complete c es id h.1 m
-    ] refl m
+value_complete c (e ∷ es) id h m = grind (arith, value_complete c es id h.1, same_id id e.1, placed-complete c e.1 e.0 h.0)
 
 in_order_of : (c : Content) (es : List (Path × Identifier)) → AllByRecursion (λ (e : Path × Identifier). IsPlaced c e.1 e.0) es → T (is_sorted path_cmp es) → IsInOrder c (map (λ e. e.1) es)
 in_order_of c [] h s = tt

@@ -184,13 +184,7 @@ pub is_complete-iff : (c : Content) (id : Identifier) → (is_complete c id ≡ 
 is_complete-iff c id = (there, back)
   where
     there : is_complete c id ≡ true → IsComplete c id
-    there h = elim (is_root id) as (λ b. is_root id ≡ b → (not b && is_some (root_path c id)) ≡ true → IsComplete c id) [
-      | true ↦ λ r h. absurd (true≢false (sym h))
-      | false ↦ λ r h. elim (root_path c id) as (λ o. root_path c id ≡ o → is_some o ≡ true → IsComplete c id) [
-        | None ↦ λ f h. absurd (true≢false (sym h))
-        | Some p ↦ λ f h. complete_of_path r (root_path-is f)
-      ] refl h
-    ] refl h
+    there h = grind (arith, λ (p : Path) (e : root_path c id ≡ Some p) (f : is_root id ≡ false). complete_of_path f (root_path-is {c = c} {id = id} {p = p} e))
 
     back : IsComplete c id → is_complete c id ≡ true
     back s =

@@ -9,11 +9,11 @@ use Rattle.std.specs.FinSet as finite_set
 use Rattle.std.proofs.lemmas.Bool.{false_from_ne_true}
 use Rattle.std.proofs.lemmas.List.{map-append, take-map, drop-map}
 use Rattle.std.proofs.lemmas.Option.{same_Some, none-some}
-use Rattle.rga_ops.specs.Identifier.{Identifier, is_id, is_root}
+use Rattle.rga_ops.specs.Identifier.{Identifier}
 use Rattle.rga_ops.specs.Content.{Element, Content, join, single, IsWithin}
 use Rattle.rga_ops.specs.RootPath.{is_complete}
 use Rattle.rga_ops.specs.Order.{order, text}
-use Rattle.rga_ops.specs.Places.{is_visible, visible, character, up_to, place}
+use Rattle.rga_ops.specs.Places.{is_visible, visible, character, place}
 use Rattle.rga_ops.specs.Placement.{without}
 use Rattle.rga_ops.specs.Splice.{spliced}
 use Rattle.rga_ops.specs.Answer.{answer}
@@ -42,16 +42,7 @@ index_in id (x ∷ xs) m = elim (is id x) as (λ b. is id x ≡ b → (b || list
 
 twice_filtered : (p q : Identifier → Bool) (xs : List Identifier) → filter p (filter q xs) ≡ filter q (filter p xs)
 twice_filtered p q [] = refl
-twice_filtered p q (x ∷ xs) = elim (p x) as (λ b. p x ≡ b → filter p (cond (q x) (x ∷ filter q xs) (filter q xs)) ≡ filter q (cond b (x ∷ filter p xs) (filter p xs))) [
-  | true ↦ λ t. elim (q x) as (λ b. filter p (cond b (x ∷ filter q xs) (filter q xs)) ≡ cond b (x ∷ filter q (filter p xs)) (filter q (filter p xs))) [
-    | true ↦ ap (λ b. cond b (x ∷ filter p (filter q xs)) (filter p (filter q xs))) t ∙ ap (λ r. x ∷ r) (twice_filtered p q xs)
-    | false ↦ twice_filtered p q xs
-  ]
-  | false ↦ λ f. elim (q x) as (λ b. filter p (cond b (x ∷ filter q xs) (filter q xs)) ≡ filter q (filter p xs)) [
-    | true ↦ ap (λ b. cond b (x ∷ filter p (filter q xs)) (filter p (filter q xs))) f ∙ twice_filtered p q xs
-    | false ↦ twice_filtered p q xs
-  ]
-] refl
+twice_filtered p q (x ∷ xs) = grind (arith, twice_filtered p q xs)
 
 no_longer : (p : Identifier → Bool) (xs : List Identifier) → length (filter p xs) ≤ length xs
 no_longer p xs = omega (arith, length-filter p xs, count_by-le-length p xs)
@@ -59,26 +50,13 @@ no_longer p xs = omega (arith, length-filter p xs, count_by-le-length p xs)
 -- a filter that leaves as many leaves all
 all_left : (p : Identifier → Bool) (xs : List Identifier) → length xs ≡ length (filter p xs) → xs ≡ filter p xs
 all_left p [] h = refl
-all_left p (x ∷ xs) h =
-    let rest = no_longer p xs in
-    elim (p x) as (λ b. suc (length xs) ≡ length (cond b (x ∷ filter p xs) (filter p xs)) → x ∷ xs ≡ cond b (x ∷ filter p xs) (filter p xs)) [
-      | true ↦ λ e. ap (λ r. x ∷ r) (all_left p xs (omega (arith, e)))
-      | false ↦ λ e. absurd (omega (arith, e, rest))
-    ] h
+all_left p (x ∷ xs) h = grind (arith, all_left p xs, no_longer p xs)
 
 -- what does not pass is left out
 shorter : (p : Identifier → Bool) (xs : List Identifier) (k : ℕ) (id : Identifier) → slice_get xs k ≡ Some id → p id ≡ false → length (filter p xs) < length xs
 shorter p [] k id h out = absurd (none-some _ h)
-shorter p (x ∷ xs) zero id h out =
-    let rest = no_longer p xs in
-    let this : length (filter p (x ∷ xs)) ≡ length (filter p xs) = ap (λ b. length (cond b (x ∷ filter p xs) (filter p xs))) (ap p (same_Some x id h) ∙ out) in
-    omega (arith, this, rest)
-shorter p (x ∷ xs) (suc k) id h out =
-    let rest = shorter p xs k id h out in
-    elim (p x) as (λ b. length (cond b (x ∷ filter p xs) (filter p xs)) < suc (length xs)) [
-      | true ↦ omega (arith, rest)
-      | false ↦ omega (arith, rest)
-    ]
+shorter p (x ∷ xs) zero id h out = grind (arith, no_longer p xs)
+shorter p (x ∷ xs) (suc k) id h out = grind (arith, shorter p xs k id h out)
 
 -- where one item alone is left out, the list is the filtered one with that item put in at its index
 one_left_out : (p : Identifier → Bool) (xs : List Identifier) (k : ℕ) (id : Identifier) → slice_get xs k ≡ Some id → p id ≡ false → length xs ≡ suc (length (filter p xs)) → xs ≡ spliced (filter p xs) k k (id ∷ [])
@@ -117,13 +95,7 @@ index_of_place c id k shows h =
 
 -- what has a place past the front is complete
 pub complete_of_place : (c : Content) (id : Identifier) (k : ℕ) → place c id ≡ Some (suc k) → is_complete c id ≡ true
-complete_of_place c id k h = elim (is_root id) as (λ b. cond b (Some 0) (cond (is_complete c id) (Some (length (filter (is_visible c) (up_to id (order c))))) None) ≡ Some (suc k) → is_complete c id ≡ true) [
-  | true ↦ λ h. let no : 0 ≡ suc k = same_Some _ _ h in absurd (omega (arith, no))
-  | false ↦ λ h. elim (is_complete c id) as (λ b. cond b (Some (length (filter (is_visible c) (up_to id (order c))))) None ≡ Some (suc k) → b ≡ true) [
-    | true ↦ λ h. refl
-    | false ↦ λ h. absurd (none-some _ h)
-  ] h
-] h
+complete_of_place c id k h = grind arith
 
 -- ---- a larger content
 
@@ -206,10 +178,7 @@ cut_nothing xs k =
 
 not_in_it : (id : Identifier) (xs : List Identifier) → list_any (is id) xs ≡ false → without id xs ≡ xs
 not_in_it id [] h = refl
-not_in_it id (x ∷ xs) h = elim (is id x) as (λ b. is id x ≡ b → (b || list_any (is id) xs) ≡ false → cond (not (is_id x id)) (x ∷ without id xs) (without id xs) ≡ x ∷ xs) [
-  | true ↦ λ t h. absurd (true≢false h)
-  | false ↦ λ f h. ap (λ b. cond (not b) (x ∷ without id xs) (without id xs)) (is_id-same x id ∙ f) ∙ ap (λ r. x ∷ r) (not_in_it id xs h)
-] refl h
+not_in_it id (x ∷ xs) h = grind (arith, not_in_it id xs, is_id-same x id)
 
 module _ (c : Content) (id : Identifier) where
   abbrev less : Content

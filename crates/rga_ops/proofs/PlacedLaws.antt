@@ -1,5 +1,5 @@
 -- Complete elements under their root paths, and the entries of the map that has them.
-use Rattle.std.proofs.Common.{◌≡◌, true, false, cond, ◌||◌, T, List, [], ◌∷◌, map, refl, sym, ap, ◌∙◌, subst, true≢false}
+use Rattle.std.proofs.Common.{◌≡◌, true, false, cond, ◌||◌, T, List, [], ◌∷◌, map, refl, sym, ap, ◌∙◌, subst, true≢false, arith}
 use Rattle.std.specs.Prelude.{Some, None}
 use Rattle.std.specs.Option.{option_map}
 use Rattle.std.specs.Cmp.{Equal-is, tied_itself}
@@ -31,15 +31,7 @@ pub record IsPlaced (c : Content) (id : Identifier) (p : Path) : Type 0 where
   pub path : IsRootPath c id p
 
 pub placed-is : (c : Content) (id : Identifier) (e : Path × Identifier) → placed c id ≡ Some e → (e.1 ≡ id) × IsPlaced c id e.0
-placed-is c id e h =
-    elim (is_root id) as (λ b. is_root id ≡ b → cond b None (option_map (λ p. (p, id)) (root_path c id)) ≡ Some e → (e.1 ≡ id) × IsPlaced c id e.0) [
-      | true ↦ λ r h. absurd (none-some _ h)
-      | false ↦ λ r h. elim (root_path c id) as (λ o. root_path c id ≡ o → option_map (λ p. (p, id)) o ≡ Some e → (e.1 ≡ id) × IsPlaced c id e.0) [
-        | None ↦ λ f h. absurd (none-some _ h)
-        | Some p ↦ λ f h. let s : (p, id) ≡ e = same_Some _ _ h in
-            (sym (ap (λ (x : Path × Identifier). x.1) s), record { element = r; path = subst (λ q. IsRootPath c id q) (ap (λ (x : Path × Identifier). x.0) s) (root_path-is f) })
-      ] refl h
-    ] refl h
+placed-is c id e h = grind (arith, root_path-is {c = c} {id = id} {p = e.0})
 
 pub is-placed : (c : Content) (id : Identifier) (p : Path) → IsPlaced c id p → placed c id ≡ Some (p, id)
 is-placed c id p h = ap (λ b. cond b None (option_map (λ p. (p, id)) (root_path c id))) h.element ∙ ap (option_map (λ p. (p, id))) (is-root_path h.path)

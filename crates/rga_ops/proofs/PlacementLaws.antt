@@ -1,31 +1,24 @@
 -- Lists of identifiers with one put in or left out, as splices at an index.
-use Rattle.std.proofs.Common.{◌≡◌, ℕ, ◌+◌, suc, zero, Bool, true, false, cond, not, List, [], ◌∷◌, ◌++◌, filter, position, take, drop, refl, sym, ap, ◌∙◌, arith}
-use Rattle.std.specs.Prelude.{Option, Some, None}
-use Rattle.std.specs.Option.{option_map}
+use Rattle.std.proofs.Common.{◌≡◌, ℕ, ◌+◌, suc, Bool, true, false, cond, not, List, [], ◌∷◌, ◌++◌, filter, position, take, drop, refl, sym, ap, ◌∙◌, arith}
+use Rattle.std.specs.Prelude.{Some}
 use Rattle.std.specs.List.{list_any, AllByRecursion, IsDistinct, slice_get}
-use Rattle.std.proofs.lemmas.Bool.{or_left, or_right}
-use Rattle.std.proofs.lemmas.Option.{same_Some, none-some}
+use Rattle.std.proofs.lemmas.Option.{none-some}
 use Rattle.rga_ops.specs.Identifier.{Identifier, is_id}
 use Rattle.rga_ops.specs.Placement.{change_after, without}
 use Rattle.rga_ops.proofs.IdentifierLaws.{is, is_itself, is_id-same, is_id-is}
 use Rattle.rga_ops.proofs.VisibleLaws.{position_here, position_later}
+use Rattle.std.proofs.lemmas.Map.Keys.{any_passes_from_place}
 
 -- what stands at an index is in the list
 pub member_at : (xs : List Identifier) (i : ℕ) (id : Identifier) → slice_get xs i ≡ Some id → list_any (is id) xs ≡ true
-member_at [] i id h = absurd (none-some _ h)
-member_at (x ∷ xs) zero id h = or_left (is id x) (list_any (is id) xs) (ap (is id) (same_Some x id h) ∙ is_itself id)
-member_at (x ∷ xs) (suc i) id h = or_right (is id x) (list_any (is id) xs) (member_at xs i id h)
+member_at xs i id h = any_passes_from_place (is id) xs i id h (is_itself id)
 
 -- where the first is another the index is one more than that in the rest
 later_index : (p : Identifier → Bool) (x : Identifier) (xs : List Identifier) (i : ℕ) → p x ≡ false → position p (x ∷ xs) ≡ Some i → (j : ℕ) × ((position p xs ≡ Some j) × (i ≡ suc j))
-later_index p x xs i other h = from (position p xs) refl (sym (position_later p x xs other) ∙ h)
-  where
-    from : (o : Option ℕ) → position p xs ≡ o → option_map (λ n. suc n) o ≡ Some i → (j : ℕ) × ((position p xs ≡ Some j) × (i ≡ suc j))
-    from None e h = absurd (none-some _ h)
-    from (Some j) e h = let same : suc j ≡ i = same_Some _ _ h in (j, (e, sym same))
+later_index p x xs i other h = grind (arith, position_later p x xs other)
 
 first_index : (p : Identifier → Bool) (x : Identifier) (xs : List Identifier) (i : ℕ) → p x ≡ true → position p (x ∷ xs) ≡ Some i → i ≡ 0
-first_index p x xs i here h = let same : 0 ≡ i = same_Some _ _ (sym (position_here p x xs here) ∙ h) in sym same
+first_index p x xs i here h = grind (arith, position_here p x xs here)
 
 one_more : (i : ℕ) → i + 1 ≡ suc i
 one_more i = omega arith
@@ -47,27 +40,11 @@ change_after-at id change xs i h = at_suc xs i h ∙ ap (λ n. take n xs ++ chan
 -- a filter that keeps both, the identifier and what is put behind it
 pub filter-put_after : (p : Identifier → Bool) (id new : Identifier) (xs : List Identifier) → p id ≡ true → p new ≡ true → filter p (change_after id (λ ys. new ∷ ys) xs) ≡ change_after id (λ ys. new ∷ ys) (filter p xs)
 filter-put_after p id new [] keeps keeps_new = refl
-filter-put_after p id new (x ∷ xs) keeps keeps_new =
-    let put : List Identifier → List Identifier = change_after id (λ ys. new ∷ ys) in
-    elim (is_id x id) as (λ b. is_id x id ≡ b → filter p (cond b (x ∷ new ∷ xs) (x ∷ put xs)) ≡ put (filter p (x ∷ xs))) [
-      | true ↦ λ t.
-          let keeps_x : p x ≡ true = ap p (is_id-is x id t) ∙ keeps in
-          (λ k. cond (keeps_x k) (x ∷ cond (keeps_new k) (new ∷ filter p xs) (filter p xs)) (cond (keeps_new k) (new ∷ filter p xs) (filter p xs)))
-          ∙ sym (ap (λ b. cond b (x ∷ new ∷ filter p xs) (x ∷ put (filter p xs))) t)
-          ∙ sym (ap (λ b. put (cond b (x ∷ filter p xs) (filter p xs))) keeps_x)
-      | false ↦ λ f. elim (p x) as (λ b. cond b (x ∷ filter p (put xs)) (filter p (put xs)) ≡ put (cond b (x ∷ filter p xs) (filter p xs))) [
-        | true ↦
-            ap (λ r. x ∷ r) (filter-put_after p id new xs keeps keeps_new)
-            ∙ sym (ap (λ b. cond b (x ∷ new ∷ filter p xs) (x ∷ put (filter p xs))) f)
-        | false ↦ filter-put_after p id new xs keeps keeps_new
-      ]
-    ] refl
+filter-put_after p id new (x ∷ xs) keeps keeps_new = grind (arith, filter-put_after p id new xs keeps keeps_new, is_id-is x id, keeps, keeps_new)
 
 without-absent : (id x : Identifier) (xs : List Identifier) → is_id x id ≡ true → AllByRecursion (λ y. is x y ≡ false) xs → without id xs ≡ xs
 without-absent id x [] same h = refl
-without-absent id x (y ∷ ys) same h =
-    let other : is_id y id ≡ false = is_id-same y id ∙ ap (λ z. is z y) (sym (is_id-is x id same)) ∙ h.0 in
-    ap (λ b. cond (not b) (y ∷ without id ys) (without id ys)) other ∙ ap (λ r. y ∷ r) (without-absent id x ys same h.1)
+without-absent id x (y ∷ ys) same h = grind (arith, without-absent id x ys same h.1, h.0, is_id-same y id, is_id-is x id same)
 
 -- an identifier that stands in the list once is left out at its index
 pub without-at : (id : Identifier) (xs : List Identifier) (i : ℕ) → IsDistinct is xs → position (λ x. is_id x id) xs ≡ Some i → without id xs ≡ take i xs ++ drop (i + 1) xs

@@ -2,7 +2,7 @@
 -- identifiers that stand there.
 use Rattle.std.proofs.Common.{◌≡◌, ◌≢◌, ℕ, ◌<◌, true, false, cond, nat_le, T, List, [], ◌∷◌, ◌++◌, refl, sym, ap, ◌∙◌, subst, true≢false, append_assoc, arith}
 use Rattle.std.specs.Prelude.{Some, None, Ok}
-use Rattle.std.specs.Ordering.{eq_by_cmp, is_eq, is_gt}
+use Rattle.std.specs.Ordering.{is_eq, is_gt}
 use Rattle.std.specs.declared.cmp.Ordering.TheVariants.{Less, Equal, Greater}
 use Rattle.std.specs.FinMap as finite_map
 use Rattle.std.specs.FinMap.{find, is_sorted}
@@ -35,11 +35,7 @@ use Rattle.rga_ops.specs.declared.op.Op.TheVariants.{Insert}
 located : (p g : Path) (v : Identifier) (xs ys : List Entry) → find path_cmp g (xs ++ ys) ≡ Some v → AreEarlier p xs → AreLater g ys → path_cmp p g ≡ Greater
 located p g v [] [] h passed left = absurd (none-some _ h)
 located p g v [] (y ∷ ys) h passed left = located p g v [] ys (sym (ap (λ o. cond (is_eq o) (Some y.1) (find path_cmp g ys)) left.0) ∙ h) tt left.1
-located p g v (x ∷ xs) ys h passed left =
-    elim (eq_by_cmp path_cmp g x.0) as (λ b. eq_by_cmp path_cmp g x.0 ≡ b → cond b (Some x.1) (find path_cmp g (xs ++ ys)) ≡ Some v → path_cmp p g ≡ Greater) [
-      | true ↦ λ t h. ap (path_cmp p) (same_path g x.0 t) ∙ passed.0
-      | false ↦ λ t h. located p g v xs ys h passed.1 left
-    ] refl h
+located p g v (x ∷ xs) ys h passed left = grind (arith, located p g v xs ys, same_path g x.0, passed.0, passed.1, left)
 
 sorted_rest : (xs ys : List Entry) → T (is_sorted path_cmp (xs ++ ys)) → T (is_sorted path_cmp ys)
 sorted_rest [] ys h = h

@@ -1,11 +1,11 @@
 -- Entries in the order of their keys: each is found under its key, and no key stands twice.
-use Rattle.std.proofs.Common.{◌≡◌, Bool, true, false, cond, ◌&&◌, T, List, [], ◌∷◌, map, refl, ap, ◌∙◌}
+use Rattle.std.proofs.Common.{◌≡◌, Bool, false, cond, ◌&&◌, T, List, [], ◌∷◌, map, ap, ◌∙◌, arith}
 use Rattle.std.specs.Prelude.{Some}
 use Rattle.std.specs.Cmp.{IsTotalOrder, tied_itself, eq_by_cmp_equiv}
 use Rattle.std.specs.Ordering.{eq_by_cmp, is_eq, is_lt, ordering_reverse}
 use Rattle.std.specs.List.{AllByRecursion, IsDistinct}
 use Rattle.std.specs.declared.cmp.Ordering.{Ordering}
-use Rattle.std.specs.declared.cmp.Ordering.TheVariants.{Less, Equal, Greater}
+use Rattle.std.specs.declared.cmp.Ordering.TheVariants.{Less}
 use Rattle.std.specs.FinMap.{find, is_sorted}
 use Rattle.std.specs.FinMap.Entries.{below_all}
 
@@ -14,22 +14,16 @@ all_zip P Q S f [] p q = tt
 all_zip P Q S f (x ∷ xs) p q = (f x p.0 q.0, all_zip P Q S f xs p.1 q.1)
 
 pub both_so : (a b : Bool) → T (a && b) → T a × T b
-both_so true b h = (tt, h)
-both_so false b h = absurd h
+both_so a b h = grind arith
 
 pub both_hold : (a b : Bool) → T a → T b → T (a && b)
-both_hold true b p q = q
-both_hold false b p q = absurd p
+both_hold a b p q = grind arith
 
 pub less_of : (o : Ordering) → T (is_lt o) → o ≡ Less
-less_of Less h = refl
-less_of Equal h = absurd h
-less_of Greater h = absurd h
+less_of o h = grind arith
 
 later_apart : (o : Ordering) → T (is_lt o) → is_eq (ordering_reverse o) ≡ false
-later_apart Less h = refl
-later_apart Equal h = absurd h
-later_apart Greater h = absurd h
+later_apart o h = grind arith
 
 module _ {K A : Type 0} (cmp : K → K → Ordering) (total : IsTotalOrder cmp) where
   -- no entry behind a key has it

@@ -1,12 +1,11 @@
 -- Sound contents: taking a well-formed operation keeps a content sound.
-use Rattle.std.proofs.Common.{◌≡◌, [], ◌∷◌, sym, ap, ◌∙◌, inl, inr}
+use Rattle.std.proofs.Common.{◌≡◌, [], ◌∷◌, sym, ap, ◌∙◌, inl, inr, arith}
 use Rattle.std.specs.Prelude.{◌⊎◌, Ok, Contains}
 use Rattle.std.specs.FinMap as finite_map
 use Rattle.std.specs.FinSet as finite_set
-use Rattle.std.proofs.lemmas.Bool.{or_cases}
 use Rattle.rga_ops.specs.Operation.{checked}
 use Rattle.rga_ops.specs.Content.{element, Content, join, single, Holds, IsSound}
-use Rattle.rga_ops.proofs.ContentLaws.{get-join, contains-join, join_nothing, either_option}
+use Rattle.rga_ops.proofs.ContentLaws.{get-join, contains-join, join_nothing}
 use Rattle.rga_ops.proofs.OperationLaws.{content_inserted, content_deleted, Contains-cases, Contains-nil}
 use Rattle.rga_ops.specs.declared.op.Op.{Op}
 use Rattle.rga_ops.specs.declared.op.Op.TheVariants.{Insert, Delete}
@@ -24,9 +23,7 @@ single_only op other h = elim (Contains-cases op other [] (listed other h)) [
 
 -- each operation of a join is one of the first or of the second
 pub join_holds : (c d : Content) (op : Op) → Holds (join c d) op → Holds c op ⊎ Holds d op
-join_holds c d (Insert id parent ch) h =
-    either_option (finite_map.get c.inserted id) (finite_map.get d.inserted id) (element parent ch) (λ e. inl e) (λ e. inr e) (sym (get-join c d id) ∙ h)
-join_holds c d (Delete id) h = or_cases (finite_set.contains c.deleted id) (finite_set.contains d.deleted id) (sym (contains-join c d id) ∙ h)
+join_holds c d op h = grind (arith, get-join, contains-join)
 
 pub sound_after : (c : Content) (op : Op) → IsSound c → checked op ≡ Ok tt → IsSound (join c (single op))
 sound_after c op sound well_formed other h = elim (join_holds c (single op) other h) [

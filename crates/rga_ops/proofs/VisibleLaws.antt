@@ -1,11 +1,10 @@
 -- The visible elements: which they are, that the text is of them, and how many stand up to an element.
-use Rattle.std.proofs.Common.{◌≡◌, ℕ, ◌+◌, suc, zero, Bool, true, false, cond, not, ◌&&◌, ◌||◌, List, [], ◌∷◌, map, filter, length, position, nat_lt, refl, sym, ap, ◌∙◌, arith, true≢false}
-use Rattle.std.specs.Prelude.{Option, Some, None, ◌↔◌}
+use Rattle.std.proofs.Common.{◌≡◌, ℕ, ◌+◌, suc, zero, Bool, true, false, cond, not, ◌&&◌, List, [], ◌∷◌, map, filter, length, position, refl, sym, ap, ◌∙◌, arith}
+use Rattle.std.specs.Prelude.{Some, None, ◌↔◌}
 use Rattle.std.specs.Option.{option_map}
-use Rattle.std.specs.List.{list_any, filter_map, cons_option, AllByRecursion, position_or_len, IsDistinct, slice_get}
+use Rattle.std.specs.List.{list_any, filter_map, AllByRecursion, IsDistinct, slice_get}
 use Rattle.std.specs.FinMap as finite_map
 use Rattle.std.specs.FinSet as finite_set
-use Rattle.std.proofs.Math.Bool.{and-false, and-true}
 use Rattle.std.proofs.lemmas.Bool.{and_parts}
 use Rattle.std.proofs.lemmas.Bool.Decides.{nat_tests}
 use Rattle.std.proofs.lemmas.List.{length-map}
@@ -15,11 +14,12 @@ use Rattle.rga_ops.specs.Content.{Element, Content, IsWithin}
 use Rattle.rga_ops.specs.RootPath.{is_complete}
 use Rattle.rga_ops.specs.Order.{order, shown, text}
 use Rattle.rga_ops.specs.Places.{is_visible, visible, character, up_to, place}
-use Rattle.rga_ops.proofs.IdentifierLaws.{is, same_id, is_id-same, is_id-is, is_id-itself, is_swap}
+use Rattle.rga_ops.proofs.IdentifierLaws.{is, same_id, is_id-same, is_id-is, is_id-itself, is_swap, ids_total}
 use Rattle.rga_ops.proofs.PathLaws.{is_complete-iff, not_complete_root, inserted_if_complete}
 use Rattle.rga_ops.proofs.MemberLaws.{all_map, all_members, filter_alike, distinct_filter}
 use Rattle.rga_ops.proofs.OrderLaws.{order_list, order_distinct}
-use Rattle.std.proofs.lemmas.Map.Views.{any-filter_same}
+use Rattle.std.proofs.lemmas.Map.Made.{is_member-filter}
+use Rattle.std.specs.Cmp.{eq_by_cmp_equiv}
 
 -- ---- the test of an element of the order
 
@@ -41,14 +41,7 @@ visible_is c = visible_among c (order c) (order_complete c)
 
 characters_among : (c : Content) (xs : List Identifier) → AllByRecursion (λ id. is_complete c id ≡ true) xs → map Some (filter_map (shown c) xs) ≡ map (character c) (filter (is_kept c) xs)
 characters_among c [] h = refl
-characters_among c (x ∷ xs) h =
-    let w : (y : Element) × (finite_map.get c.inserted x ≡ Some y) = inserted_if_complete c x h.0 in
-    let rest : map Some (filter_map (shown c) xs) ≡ map (character c) (filter (is_kept c) xs) = characters_among c xs h.1 in
-    let here : character c x ≡ Some w.0.ch = ap (option_map (λ (y : Element). y.ch)) w.1 in
-    elim (finite_set.contains c.deleted x) as (λ b. map Some (cons_option (cond b None (character c x)) (filter_map (shown c) xs)) ≡ map (character c) (cond (not b) (x ∷ filter (is_kept c) xs) (filter (is_kept c) xs))) [
-      | true ↦ rest
-      | false ↦ ap (λ o. map Some (cons_option o (filter_map (shown c) xs))) here ∙ (λ k. sym here k ∷ rest k)
-    ]
+characters_among c (x ∷ xs) h = grind (arith, inserted_if_complete c x h.0, characters_among c xs h.1)
 
 -- the text has the characters of the visible elements
 pub text_is : (c : Content) → map Some (text c) ≡ map (character c) (visible c)
@@ -60,19 +53,10 @@ text_long c = sym (length-map (text c) Some) ∙ ap length (text_is c) ∙ lengt
 -- ---- which elements are visible
 
 pub filtered : (p : Identifier → Bool) (id : Identifier) (xs : List Identifier) → list_any (is id) (filter p xs) ≡ (list_any (is id) xs && p id)
-filtered p id xs = any-filter_same (is id) p (p id) (λ x t. ap p (sym (same_id id x t))) xs ∙ swapped (p id) (list_any (is id) xs)
-  where
-    swapped : (a b : Bool) → (a && b) ≡ (b && a)
-    swapped true b = sym (and-true b)
-    swapped false b = sym (and-false b)
+filtered p id xs = is_member-filter (eq_by_cmp_equiv ids_total) p id (λ x t. ap p (same_id id x t)) xs
 
 pub visible_elements : (c : Content) (id : Identifier) → list_any (is id) (visible c) ≡ is_visible c id
-visible_elements c id =
-    filtered (is_visible c) id (order c) ∙ ap (λ b. b && is_visible c id) ((order_list c).elements id) ∙ twice (is_complete c id) (is_kept c id)
-  where
-    twice : (a b : Bool) → (a && (a && b)) ≡ (a && b)
-    twice true b = refl
-    twice false b = refl
+visible_elements c id = grind (arith, filtered (is_visible c) id (order c), (order_list c).elements id)
 
 -- ---- a larger content
 
@@ -114,85 +98,33 @@ place_is c id other =
     ∙ ap (λ ys. cond (list_any (λ x. is_id x id) (order c)) (Some (length ys)) None) (visible_among c (up_to id (order c)) (complete_up_to c id (order c) (order_complete c)))
 
 pub no_place : (c : Content) (id : Identifier) → (place c id ≡ None) ↔ ((is_root id ≡ false) × (is_complete c id ≡ false))
-no_place c id = (there, back)
-  where
-    there : place c id ≡ None → (is_root id ≡ false) × (is_complete c id ≡ false)
-    there h = elim (is_root id) as (λ b. cond b (Some 0) (cond (is_complete c id) (Some (length (filter (is_visible c) (up_to id (order c))))) None) ≡ None → (b ≡ false) × (is_complete c id ≡ false)) [
-      | true ↦ λ h. absurd (none-some _ (sym h))
-      | false ↦ λ h. (
-        refl,
-        elim (is_complete c id) as (λ b. cond b (Some (length (filter (is_visible c) (up_to id (order c))))) None ≡ None → b ≡ false) [
-          | true ↦ λ h. absurd (none-some _ (sym h))
-          | false ↦ λ h. refl
-        ] h,
-      )
-    ] h
-
-    back : (is_root id ≡ false) × (is_complete c id ≡ false) → place c id ≡ None
-    back h = λ k. cond (h.0 k) (Some 0) (cond (h.1 k) (Some (length (filter (is_visible c) (up_to id (order c))))) None)
+no_place c id = (λ h. grind arith, λ h. grind arith)
 
 -- ---- indices in the text
 
-positive : (n : ℕ) → nat_lt 0 (suc n) ≡ true
-positive n = grind (arith, nat_tests)
-
-both_on : (k n : ℕ) → nat_lt (suc k) (suc n) ≡ nat_lt k n
-both_on k n = by (nat_lt k n) refl
-  where
-    by : (b : Bool) → nat_lt k n ≡ b → nat_lt (suc k) (suc n) ≡ b
-    by true h = grind (arith, nat_tests)
-    by false h = grind (arith, nat_tests)
-
-one_plus : (k : ℕ) → 1 + k ≡ suc k
-one_plus k = omega arith
-
 pub position_here : (p : Identifier → Bool) (x : Identifier) (xs : List Identifier) → p x ≡ true → position p (x ∷ xs) ≡ Some 0
-position_here p x xs h = rw h (ap (λ b. cond b (Some 0) None) (positive (length xs)))
+position_here p x xs h = grind (arith, nat_tests)
 
 pub position_later : (p : Identifier → Bool) (x : Identifier) (xs : List Identifier) → p x ≡ false → position p (x ∷ xs) ≡ option_map (λ n. suc n) (position p xs)
-position_later p x xs h = rw h (ap (λ m. cond (nat_lt m (suc (length xs))) (Some m) None) (one_plus (position_or_len p xs)) ∙ both (position_or_len p xs) (length xs))
-  where
-    spread : (b : Bool) (k : ℕ) → cond b (Some (suc k)) None ≡ option_map (λ n. suc n) (cond b (Some k) None)
-    spread true k = refl
-    spread false k = refl
-
-    both : (k n : ℕ) → cond (nat_lt (suc k) (suc n)) (Some (suc k)) None ≡ option_map (λ n. suc n) (cond (nat_lt k n) (Some k) None)
-    both k n = ap (λ b. cond b (Some (suc k)) None) (both_on k n) ∙ spread (nat_lt k n) k
+position_later p x xs h = grind (arith, nat_tests)
 
 -- what a list does not have is at no index of it
 absent : (id : Identifier) (xs : List Identifier) → list_any (is id) xs ≡ false → position (λ x. is_id x id) xs ≡ None
 absent id [] h = refl
-absent id (x ∷ xs) h = elim (is id x) as (λ b. is id x ≡ b → (b || list_any (is id) xs) ≡ false → position (λ y. is_id y id) (x ∷ xs) ≡ None) [
-  | true ↦ λ t h. absurd (true≢false h)
-  | false ↦ λ t h. position_later (λ y. is_id y id) x xs (is_id-same x id ∙ t) ∙ ap (option_map (λ n. suc n)) (absent id xs h)
-] refl h
+absent id (x ∷ xs) h = grind (arith, absent id xs, is_id-same x id, position_later (λ y. is_id y id) x xs)
 
 -- an index of a filtered list: so many pass up to there
 counted : (p : Identifier → Bool) (id : Identifier) (xs : List Identifier) (i : ℕ) → position (λ x. is_id x id) (filter p xs) ≡ Some i → length (filter p (up_to id xs)) ≡ i + 1
 counted p id [] i h = absurd (none-some _ h)
-counted p id (x ∷ xs) i h =
-    elim (is_id x id) as (λ b. is_id x id ≡ b → length (filter p (cond b (x ∷ []) (x ∷ up_to id xs))) ≡ i + 1) [
-      | true ↦ λ s. elim (p x) as (λ b. p x ≡ b → position (λ y. is_id y id) (cond b (x ∷ filter p xs) (filter p xs)) ≡ Some i → length (cond b (x ∷ []) []) ≡ i + 1) [
-        | true ↦ λ t h.
-            let first : 0 ≡ i = same_Some _ _ (sym (position_here (λ y. is_id y id) x (filter p xs) s) ∙ h) in
-            omega (arith, first)
-        | false ↦ λ t h.
-            let no : p id ≡ false = ap p (sym (is_id-is x id s)) ∙ t in
-            let none : list_any (is id) (filter p xs) ≡ false = filtered p id xs ∙ ap (λ b. list_any (is id) xs && b) no ∙ and-false (list_any (is id) xs) in
-            absurd (none-some _ (sym (absent id (filter p xs) none) ∙ h))
-      ] refl h
-      | false ↦ λ s. elim (p x) as (λ b. p x ≡ b → position (λ y. is_id y id) (cond b (x ∷ filter p xs) (filter p xs)) ≡ Some i → length (cond b (x ∷ filter p (up_to id xs)) (filter p (up_to id xs))) ≡ i + 1) [
-        | true ↦ λ t h. later (position (λ y. is_id y id) (filter p xs)) (counted p id xs) (sym (position_later (λ y. is_id y id) x (filter p xs) s) ∙ h)
-        | false ↦ λ t h. counted p id xs i h
-      ] refl h
-    ] refl
-  where
-    later : (o : Option ℕ) → ((j : ℕ) → o ≡ Some j → length (filter p (up_to id xs)) ≡ j + 1) → option_map (λ n. suc n) o ≡ Some i → suc (length (filter p (up_to id xs))) ≡ i + 1
-    later None f h = absurd (none-some _ h)
-    later (Some j) f h =
-        let one : suc j ≡ i = same_Some _ _ h in
-        let rest : length (filter p (up_to id xs)) ≡ j + 1 = f j refl in
-        omega (arith, one, rest)
+counted p id (x ∷ xs) i h = grind (
+  arith,
+  counted p id xs,
+  is_id-is x id,
+  position_here (λ y. is_id y id) x (filter p xs),
+  position_later (λ y. is_id y id) x (filter p xs),
+  absent id (filter p xs),
+  filtered p id xs,
+)
 
 -- the place of a visible element is one more than its index
 pub place_at : (c : Content) (id : Identifier) (i : ℕ) → position (λ x. is_id x id) (visible c) ≡ Some i → place c id ≡ Some (i + 1)

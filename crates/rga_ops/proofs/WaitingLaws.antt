@@ -1,9 +1,8 @@
 -- The inserted elements are those in the order and those that wait.
-use Rattle.std.proofs.Common.{◌≡◌, ◌+◌, ◌≤◌, Bool, true, false, cond, not, ◌&&◌, List, [], ◌∷◌, filter, length, refl, sym, ap, ◌∙◌, arith}
+use Rattle.std.proofs.Common.{◌≡◌, ◌+◌, Bool, true, false, not, ◌&&◌, List, [], ◌∷◌, filter, length, refl, sym, ap, ◌∙◌, arith}
 use Rattle.std.specs.Cmp.{eq_by_cmp_equiv}
 use Rattle.std.specs.List.{list_any, IsDistinct}
 use Rattle.std.specs.FinMap as finite_map
-use Rattle.std.proofs.lemmas.Map.Made.{length-le_from_is_member}
 use Rattle.std.proofs.lemmas.Map.Views.{any-filter_same}
 use Rattle.rga_ops.specs.Identifier.{Identifier, id_cmp}
 use Rattle.rga_ops.specs.Content.{Content}
@@ -15,21 +14,15 @@ use Rattle.rga_ops.proofs.PathLaws.{is_complete-iff, path_of_complete, not_compl
 use Rattle.rga_ops.proofs.PlacedLaws.{placed_key}
 use Rattle.rga_ops.proofs.OrderLaws.{order_list, order_distinct}
 use Rattle.rga_ops.proofs.SortedLaws.{distinct_keys}
+use Rattle.std.proofs.lemmas.Map.Made.{length-from_same_keys}
 
 split_length : (p : Identifier → Bool) (xs : List Identifier) → length (filter p xs) + length (filter (λ x. not (p x)) xs) ≡ length xs
 split_length p [] = refl
-split_length p (x ∷ xs) =
-    elim (p x) as (λ b. length (cond b (x ∷ filter p xs) (filter p xs)) + length (cond (not b) (x ∷ filter (λ x. not (p x)) xs) (filter (λ x. not (p x)) xs)) ≡ length (x ∷ xs)) [
-      | true ↦ omega (arith, split_length p xs)
-      | false ↦ omega (arith, split_length p xs)
-    ]
+split_length p (x ∷ xs) = grind (arith, split_length p xs)
 
 -- two lists with the same members, each once, have one length
 pub same_length : (xs ys : List Identifier) → IsDistinct is xs → IsDistinct is ys → ((q : Identifier) → list_any (is q) xs ≡ list_any (is q) ys) → length xs ≡ length ys
-same_length xs ys d e h =
-    let p : length xs ≤ length ys = length-le_from_is_member (eq_by_cmp_equiv ids_total) xs ys d (λ q m. sym (h q) ∙ m) in
-    let r : length ys ≤ length xs = length-le_from_is_member (eq_by_cmp_equiv ids_total) ys xs e (λ q m. h q ∙ m) in
-    omega (arith, p, r)
+same_length xs ys d e h = length-from_same_keys (eq_by_cmp_equiv ids_total) xs ys d e h
 
 pub distinct_inserted : (c : Content) → IsDistinct is (finite_map.keys c.inserted)
 distinct_inserted c = distinct_keys id_cmp ids_total (finite_map.entries c.inserted) (finite_map.entries_sorted c.inserted)
