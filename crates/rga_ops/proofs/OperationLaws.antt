@@ -17,18 +17,18 @@ use Rattle.std.proofs.lemmas.List.Elements.{Contains-append_cases}
 
 -- ---- membership
 
-pub Contains-first : {A : Type 0} (x : A) (xs : List A) → Contains (x ∷ xs) x
-Contains-first x xs = (0, omega arith, refl)
+pub Contains-first : (op : Op) (ops : List Op) → Contains (op ∷ ops) op
+Contains-first op ops = (0, omega arith, refl)
 
-pub Contains-later : {A : Type 0} (x y : A) (xs : List A) → Contains xs y → Contains (x ∷ xs) y
-Contains-later x y xs (k, within, e) = (suc k, omega (arith, within), e)
+pub Contains-later : (x op : Op) (ops : List Op) → Contains ops op → Contains (x ∷ ops) op
+Contains-later x op ops (k, within, e) = (suc k, omega (arith, within), e)
 
-pub Contains-cases : {A : Type 0} (x y : A) (xs : List A) → Contains (x ∷ xs) y → (x ≡ y) ⊎ Contains xs y
-Contains-cases x y xs (zero, within, e) = inl e
-Contains-cases x y xs (suc k, within, e) = inr (k, omega (arith, within), e)
+pub Contains-cases : (x op : Op) (ops : List Op) → Contains (x ∷ ops) op → (x ≡ op) ⊎ Contains ops op
+Contains-cases x op ops (zero, within, e) = inl e
+Contains-cases x op ops (suc k, within, e) = inr (k, omega (arith, within), e)
 
-pub Contains-nil : {A : Type 0} (x : A) → Contains [] x → ⊥
-Contains-nil x (k, within, e) = omega (arith, within)
+pub Contains-nil : (op : Op) → Contains [] op → ⊥
+Contains-nil op (k, within, e) = omega (arith, within)
 
 pub Contains-append : (xs ys : List Op) (op : Op) → Contains (xs ++ ys) op → Contains xs op ⊎ Contains ys op
 Contains-append = Contains-append_cases

@@ -35,7 +35,7 @@ use Rattle.rga_world.specs.declared.event.Event.TheVariants.{Save, SaveOne, Deli
 use Rattle.rga_world.specs.declared.refusal.WorldRefusal.TheVariants.{NoOperation, Store}
 use Rattle.rga_world.proofs.ListPlaces.{contains_place, set_here, set_old}
 use Rattle.rga_world.proofs.SiteSteps.{set_same}
-use Rattle.rga_world.proofs.StepLaws.{same_Ok, place_held, single_within, err-ok, ok-err}
+use Rattle.rga_world.proofs.StepLaws.{same_Ok, place_held, single_within, ok-err, err-ok}
 use Rattle.rga_world.proofs.WordLaws.{changed_to, gives, list_found, saved-iff, saves, store-iff, restarted-iff}
 use Rattle.rga_world.proofs.RunLaws.{reached_consistent, saved_joinable}
 use Rattle.rga_world.proofs.StoredLaws.{reached_storable, held_listed}
@@ -109,7 +109,7 @@ restart_from_log w v number s t bytes reached step at there stands =
 
 -- ---- parts of what was taken
 
-take_ok : (r : Result Content Refusal) (f : Content → Result Content Refusal) (d : Content) → and_take r f ≡ Ok d → (c : Content) × (r ≡ Ok c) × (f c ≡ Ok d)
+pub take_ok : (r : Result Content Refusal) (f : Content → Result Content Refusal) (d : Content) → and_take r f ≡ Ok d → (c : Content) × (r ≡ Ok c) × (f c ≡ Ok d)
 take_ok (Ok c) f d h = (c, refl, h)
 take_ok (Err e) f d h = absurd (err-ok e d h)
 
@@ -125,7 +125,7 @@ fewer_known c d w =
     (subst (λ s. known_count c ≤ finite_set.len s) (sym (known_join c d)) (len-le_union (known_ids c) (known_ids d)))
 
 -- what is held has a place among the operations
-held_place : (c : Content) (op : Op) → Holds c op → (place : ℕ) × (slice_get (operations c) place ≡ Some op)
+pub held_place : (c : Content) (op : Op) → Holds c op → (place : ℕ) × (slice_get (operations c) place ≡ Some op)
 held_place c op h =
     contains_place (operations c) op (held_listed (operations c) op (subst (λ d. Holds d op) (sym (content_of-operations c)) h))
 
@@ -202,7 +202,7 @@ one_save_in_log w v number place s t op bytes reached step at now there stands e
 
 -- ---- deliveries one by one
 
-set_twice : {A : Type 0} (xs : List A) (i : ℕ) (x y : A) → slice_set (slice_set xs i x) i y ≡ slice_set xs i y
+pub set_twice : {A : Type 0} (xs : List A) (i : ℕ) (x y : A) → slice_set (slice_set xs i x) i y ≡ slice_set xs i y
 set_twice [] i x y = refl
 set_twice (z ∷ xs) zero x y = refl
 set_twice (z ∷ xs) (suc i) x y = ap (λ ys. z ∷ ys) (set_twice xs i x y)

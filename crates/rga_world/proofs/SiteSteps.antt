@@ -1,5 +1,5 @@
 -- A site that changes, in the list of sites, and what calls of a world come to.
-use Rattle.std.proofs.Common.{◌≡◌, ℕ, zero, suc, ◌+◌, ◌<◌, ◌⊎◌, Bool, true, false, List, [], ◌∷◌, ◌++◌, length, map, get_or, replicate, length-append, Some, slice_get, slice_set, refl, sym, ap, ◌∙◌, subst, inl, inr, arith, take}
+use Rattle.std.proofs.Common.{◌≡◌, ℕ, zero, suc, ◌+◌, ◌<◌, ◌⊎◌, true, false, List, [], ◌∷◌, ◌++◌, length, map, get_or, replicate, length-append, Some, slice_get, slice_set, refl, sym, ap, ◌∙◌, subst, inl, inr, arith, take}
 use Rattle.std.specs.Prelude.{Result, Ok, Err, OnOk}
 use Rattle.std.proofs.lemmas.List.{map-set, map-append}
 use Rattle.std.proofs.lemmas.Option.{slice_get-get_or, slice_get_within, same_Some, none-some}
@@ -115,10 +115,7 @@ push_place : {A : Type 0} (xs : List A) (x y : A) (i : ℕ) → slice_get (xs ++
 push_place [] x y zero h = inl (refl, sym (same_Some x y h))
 push_place [] x y (suc i) h = absurd (none-some y h)
 push_place (z ∷ xs) x y zero h = inr h
-push_place (z ∷ xs) x y (suc i) h = elim (push_place xs x y i h) [
-  | inl here ↦ inl (omega (arith, here.0), here.1)
-  | inr there ↦ inr there
-]
+push_place (z ∷ xs) x y (suc i) h = grind (arith, push_place xs x y i h)
 
 one_more_new : (limit number : ℕ) (xs : List SiteState) (x : SiteState) → AreNew limit number xs → x ≡ new_site (number + 1) limit → AreNew limit (number + 1) (xs ++ x ∷ [])
 one_more_new limit number xs x h is = record {
@@ -143,11 +140,7 @@ pushed_new limit number xs ys x h pushed is = subst (AreNew limit (number + 1)) 
 
 -- what was made has a limit that stores have
 pub limit_of_made : {A : Type 0} (limit : ℕ) (x : A) → (is_limit limit ≡ false → ◌≡◌ {A = Result A Refusal} (Ok x) (Err Range)) → is_limit limit ≡ true
-limit_of_made limit x h = by (is_limit limit) refl
-  where
-    by : (b : Bool) → is_limit limit ≡ b → b ≡ true
-    by true e = refl
-    by false e = absurd (ok-err x Range (h e))
+limit_of_made limit x h = grind arith
 
 -- ---- what calls of a world come to
 
@@ -156,10 +149,7 @@ step_reached (Ok u) w v event reached characters h = subst IsReached (ap (kept w
 step_reached (Err e) w v event reached characters h = subst IsReached (sym h.0) reached
 
 memory-conflict : (id : Identifier) → Store Memory ≡ Store (Conflict id) → ⊥
-memory-conflict id h = let inside : Memory ≡ Conflict id = cc in absurd (clash inside)
-  where
-    clash : Memory ≡ Conflict id → ⊥
-    clash e = cc
+memory-conflict id h = grind arith
 
 pub step_conflict : (r : Result (Unit {0}) WorldRefusal) (w v : World) (event : Event) (id : Identifier) → IsReached w → Happens r w v (stepped w event) → r ≡ Err (Store (Conflict id)) → ⊥
 step_conflict (Ok u) w v event id reached h is = ok-err u (Store (Conflict id)) is
@@ -191,5 +181,4 @@ ran_on w v u events i e inside is h step =
 
 -- what is said of an outcome that is no refusal
 pub said_of_ok : (r : Result (Unit {0}) WorldRefusal) {P : Type 0} → OnOk r P → ((e : WorldRefusal) → r ≡ Err e → ⊥) → P
-said_of_ok (Ok u) h never = h
-said_of_ok (Err e) h never = absurd (never e refl)
+said_of_ok r h never = grind arith

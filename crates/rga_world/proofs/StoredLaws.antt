@@ -62,7 +62,7 @@ pub record IsStorable (limit : ℕ) (c : Content) : Type 0 where
   pub writable : (op : Op) → Holds c op → IsWritable op
   pub within : finite_set.len (known_ids c) ≤ limit
 
-nothing_holds : (op : Op) → Holds nothing op → ⊥
+pub nothing_holds : (op : Op) → Holds nothing op → ⊥
 nothing_holds (Insert id parent ch) h = none-some _ (sym (finite_map.get-empty id_cmp id) ∙ h)
 nothing_holds (Delete id) h = true≢false (sym h ∙ finite_set.contains-empty id_cmp id)
 

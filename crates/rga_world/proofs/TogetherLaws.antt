@@ -1,17 +1,14 @@
 -- The join of contents that all agree, and texts within its order.
-use Rattle.std.proofs.Common.{◌≡◌, ℕ, zero, suc, ◌⊎◌, Bool, true, false, cond, List, [], ◌∷◌, ◌++◌, filter, Option, Some, None, slice_get, refl, sym, ap, ◌∙◌, subst, inl, inr, arith, is_some, true≢false}
+use Rattle.std.proofs.Common.{zero, suc, ◌⊎◌, ◌≡◌, ℕ, Bool, true, false, cond, List, [], ◌∷◌, filter, Option, Some, slice_get, refl, sym, ap, ◌∙◌, subst, inl, inr, arith, is_some, true≢false, None}
 use Rattle.std.specs.Prelude.{Contains}
 use Rattle.std.specs.FinMap as finite_map
-use Rattle.std.specs.FinSet as finite_set
-use Rattle.std.proofs.lemmas.Bool.{and_parts}
-use Rattle.std.proofs.lemmas.Option.{none-some}
-use Rattle.std.proofs.lemmas.List.Elements.{Contains-append_cases}
-use Rattle.rga_ops.specs.Identifier.{Identifier, id_cmp}
+use Rattle.std.proofs.lemmas.List.Elements.{Contains-append_cases, Contains-append_left}
+use Rattle.rga_ops.specs.Identifier.{Identifier}
 use Rattle.rga_ops.specs.Content.{Element, Content, nothing, join, Agree, IsWithin}
 use Rattle.rga_ops.specs.RootPath.{is_complete}
 use Rattle.rga_ops.specs.Order.{order, Precedes}
 use Rattle.rga_ops.specs.Places.{is_visible, visible}
-use Rattle.rga_ops.proofs.ContentLaws.{same_content, within_itself, within_chain, within_join, within_join_second, join_least}
+use Rattle.rga_ops.proofs.ContentLaws.{same_content, within_itself, within_chain, within_join, within_join_second, join_least, nothing_join}
 use Rattle.rga_ops.proofs.AgreeLaws.{agree_swap, agree_nothing, agree_joined, agree_within}
 use Rattle.rga_ops.proofs.GrowLaws.{order_within, root_path_stays}
 use Rattle.rga_world.specs.Sites.{Site, World}
@@ -49,10 +46,7 @@ within_join_of (d ∷ cs) c h m = elim (list_cases d c cs m) [
 ]
 
 nothing_within : (c : Content) → IsWithin nothing c
-nothing_within c = record {
-  inserted = λ id x h. absurd (none-some x (sym (finite_map.get-empty id_cmp id) ∙ h));
-  deleted = λ id h. absurd (true≢false (sym h ∙ finite_set.contains-empty id_cmp id));
-}
+nothing_within c = subst (IsWithin nothing) (nothing_join c) (within_join nothing c)
 
 -- what each of them is within, their join is within
 pub join_of_least : (cs : List Content) (d : Content) → ((c : Content) → Contains cs c → IsWithin c d) → IsWithin (join_of cs) d
@@ -116,7 +110,7 @@ filter_within p q (x ∷ xs) h =
     ] refl
 
 complete_if_visible : (c : Content) (id : Identifier) → is_visible c id ≡ true → is_complete c id ≡ true
-complete_if_visible c id h = (and_parts (is_complete c id) _ h).0
+complete_if_visible c id h = grind arith
 
 -- the visible elements stand in the order of what a content is within
 pub visible_within : (c d : Content) → IsWithin c d → visible c ≡ filter (is_visible c) (order d)
@@ -149,14 +143,7 @@ same_if_same_identifiers c d agree same =
 pub within_all : (w : World) → IsConsistent w.sites → (s : Site) → Contains w.sites s → IsWithin s.content (join_of (contents w))
 within_all w consistent s m =
     let place = contains_place w.sites s m in
-    within_join_of (contents w) s.content (contents_agree w consistent) (in_front (held_contents w) (saved_contents w) s.content (contains_at (held_contents w) place.0 s.content (place_mapped (λ (t : Site). t.content) w.sites place.0 s place.1)))
-  where
-    in_front : (xs ys : List Content) (c : Content) → Contains xs c → Contains (xs ++ ys) c
-    in_front [] ys c (k, within, e) = absurd (omega (arith, within))
-    in_front (x ∷ xs) ys c m = elim (list_cases x c xs m) [
-      | inl here ↦ subst (λ d. Contains (x ∷ (xs ++ ys)) d) here (first_of_list x (xs ++ ys))
-      | inr later ↦ later_in_list x c (xs ++ ys) (in_front xs ys c later)
-    ]
+    within_join_of (contents w) s.content (contents_agree w consistent) (Contains-append_left (held_contents w) (saved_contents w) s.content (contains_at (held_contents w) place.0 s.content (place_mapped (λ (t : Site). t.content) w.sites place.0 s place.1)))
 
 pub two_sites_agree : (w : World) → IsConsistent w.sites → (s t : Site) → Contains w.sites s → Contains w.sites t → Agree s.content t.content
 two_sites_agree w consistent s t m n =
