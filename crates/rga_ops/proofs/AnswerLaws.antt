@@ -72,10 +72,7 @@ pub record IsNew (limit : ℕ) (c : Content) (op : Op) : Type 0 where
   pub room : HasRoom limit c (id_of op)
 
 pub new-iff : (limit : ℕ) (c : Content) (op : Op) → (answer limit c op ≡ Ok New) ↔ IsNew limit c op
-new-iff limit c op = (
-  λ h. record { well_formed = grind arith; not_held = λ g. grind (arith, is_element-itself); no_other = λ g. grind arith; room = grind (arith, contains-known) },
-  λ w. grind (arith, contains-known, is_element-is),
-)
+new-iff limit c op = grind (arith, is_element-itself, contains-known, is_element-is)
 
 -- the other refusals: those of the operation itself
 abbrev pub IsOfOperation : Refusal → Type 0

@@ -1,5 +1,5 @@
 -- The order of paths: the comparison says what the words say, and it is a strict total order.
-use Rattle.std.proofs.Common.{◌≡◌, [], ◌∷◌, ◌++◌, refl, sym, ap, ◌∙◌, inl, inr}
+use Rattle.std.proofs.Common.{arith, ◌≡◌, [], ◌∷◌, ◌++◌, refl, sym, ap, ◌∙◌, inl, inr}
 use Rattle.std.specs.Prelude.{◌⊎◌, ◌↔◌}
 use Rattle.std.specs.Cmp.{IsTotalOrder, back_total, tied_itself}
 use Rattle.std.specs.Cmp.Lexicographic.{lists_total}
@@ -51,19 +51,11 @@ beginning_less (x ∷ p) next rest =
 
 branch_less : (common : Path) (here there : Identifier) (p q : Path) → IsLarger here there → path_cmp (common ++ here ∷ p) (common ++ there ∷ q) ≡ Less
 branch_less [] here there p q larger = ap (λ o. ordering_then o (path_cmp p q)) larger
-branch_less (x ∷ common) here there p q larger =
-    ap (λ o. ordering_then o (path_cmp (common ++ here ∷ p) (common ++ there ∷ q))) (tied_itself ids_total x)
-    ∙ branch_less common here there p q larger
+branch_less (x ∷ common) here there p q larger = grind (arith, ids_total, branch_less common here there p q larger)
 
 -- the words and the comparison say the same
 pub before-iff : (p q : Path) → IsBefore p q ↔ (path_cmp p q ≡ Less)
-before-iff p q = (
-  λ before. elim before [
-    | inl (next, rest, e) ↦ ap (path_cmp p) e ∙ beginning_less p next rest
-    | inr b ↦ (λ k. path_cmp (b.first k) (b.second k)) ∙ branch_less b.common b.here b.there b.after_here b.after_there b.larger
-  ],
-  before_from p q,
-)
+before-iff p q = grind (arith, beginning_less, branch_less, before_from)
 
 pub not_less : (o : Ordering) → o ≡ Equal → o ≡ Less → ⊥
 not_less o e l = cc

@@ -1,9 +1,9 @@
 -- How a new element goes into the order: what stands before its parent stays, and what stands behind that is changed as
 -- the paths there say.
-use Rattle.std.proofs.Common.{◌≡◌, ℕ, true, false, cond, not, ◌&&◌, is_some, T, List, [], ◌∷◌, ◌++◌, map, refl, sym, ap, ◌∙◌, subst, true≢false, append_assoc, arith}
+use Rattle.std.proofs.Common.{◌≡◌, ℕ, true, false, cond, not, ◌&&◌, is_some, T, List, [], ◌∷◌, ◌++◌, map, refl, sym, ap, ◌∙◌, subst, append_assoc, arith}
 use Rattle.std.specs.Prelude.{Some, None}
 use Rattle.std.specs.Cmp.{tied_itself}
-use Rattle.std.specs.Ordering.{eq_by_cmp, is_eq, is_lt, ordering_then, ordering_reverse}
+use Rattle.std.specs.Ordering.{eq_by_cmp, is_lt, ordering_then, ordering_reverse}
 use Rattle.std.specs.List.{list_any, AllByRecursion}
 use Rattle.std.specs.declared.cmp.Ordering.TheVariants.{Less, Greater}
 use Rattle.std.specs.FinMap as finite_map
@@ -93,9 +93,7 @@ module _ (c : Content) (id parent : Identifier) (ch : ℕ) (w : IsNewLeaf c id) 
 
   -- no other element has the path of the parent
   other_path : (e : Entry) → IsPlaced c e.1 e.0 → eq_by_cmp path_cmp above e.0 ≡ false → is_id e.1 parent ≡ false
-  other_path e at t = false_from_ne_true (is_id e.1 parent) (λ s.
-      let same : above ≡ e.0 = one_path up (subst (λ i. IsRootPath c i e.0) (is_id-is e.1 parent s) at.path) in
-      true≢false (sym (ap is_eq (tied_itself paths_total above)) ∙ ap (eq_by_cmp path_cmp above) same ∙ t))
+  other_path e at t = grind (arith, false_from_ne_true, one_path, is_id-is, paths_total)
 
   -- how the new element goes into the entries behind its parent's
   abbrev pub GoesIn : (List Identifier → List Identifier) → Type 0

@@ -82,11 +82,7 @@ clock_grows c d w =
 
 -- a bound of both is one of their join
 joined_within : (c d : Content) (m : ℕ) → HasCountersWithin c m → HasCountersWithin d m → HasCountersWithin (join c d) m
-joined_within c d m v w = record {
-  own = λ q x g. grind (arith, get-join c d q, v.own q x, w.own q x);
-  parents = λ q x g. grind (arith, get-join c d q, v.parents q x, w.parents q x);
-  deleted = λ q h. grind (arith, contains-join c d q, v.deleted q, w.deleted q);
-}
+joined_within c d m v w = grind (arith, get-join, contains-join)
 
 -- the clock where an operation that has no counter above a bound is joined
 joined_clock : (c : Content) (op : Op) (m : ℕ) → HasCountersWithin (single op) m → clock_of (join c (single op)) ≤ max (clock_of c) m

@@ -87,7 +87,4 @@ within_join_second c d agree = subst (λ e. IsWithin d e) (sym (join_swap c d ag
 
 -- it is within all that both are within
 pub join_least : (c d e : Content) → IsWithin c e → IsWithin d e → IsWithin (join c d) e
-join_least c d e v w = record {
-  inserted = λ id x h. grind (arith, get-join c d id, v.inserted id x, w.inserted id x);
-  deleted = λ id h. grind (arith, contains-join c d id, v.deleted id, w.deleted id);
-}
+join_least c d e v w = grind (arith, get-join, contains-join)

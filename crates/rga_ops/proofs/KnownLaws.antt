@@ -84,10 +84,7 @@ taken_within : (limit : ℕ) (c : Content) (op : Op) (d : Content) → finite_se
 taken_within limit c op d within h = grind (arith, known_taken c op, finite_set.len-insert ids_total (known_ids c) (id_of op), contains-known c (id_of op))
 
 pub taken_list_within : (limit : ℕ) (c : Content) (ops : List Op) (d : Content) → finite_set.len (known_ids c) ≤ limit → taken_one_by_one limit c ops ≡ Ok d → finite_set.len (known_ids d) ≤ limit
-taken_list_within limit c [] d within h =
-    let same : took c ≡ took d = h in
-    let d_is : c ≡ d = cc in
-    subst (λ e. finite_set.len (known_ids e) ≤ limit) d_is within
+taken_list_within limit c [] d within h = grind (arith, took)
 taken_list_within limit c (op ∷ ops) d within h =
     elim (taken limit c op) as (λ r. taken limit c op ≡ r → and_take r (λ e. taken_one_by_one limit e ops) ≡ Ok d → finite_set.len (known_ids d) ≤ limit) [
       | Err e ↦ λ r h. absurd (cc)
@@ -129,17 +126,8 @@ later_takeable limit c op ops w = record {
 
 pub takeable_is_taken : (limit : ℕ) (c : Content) (ops : List Op) → IsTakeable limit c ops → taken_one_by_one limit c ops ≡ Ok (join c (content_of ops))
 takeable_is_taken limit c [] w = ap Ok (sym (join_nothing c))
-takeable_is_taken limit c (op ∷ ops) w =
-    ap (λ r. and_take r (λ e. taken_one_by_one limit e ops)) (first_taken limit c op ops w)
-    ∙ takeable_is_taken limit (join c (single op)) ops (later_takeable limit c op ops w)
-    ∙ ap Ok (join_assoc c (single op) (content_of ops))
+takeable_is_taken limit c (op ∷ ops) w = grind (arith, first_taken, later_takeable, join_assoc, takeable_is_taken limit (join c (single op)) ops (later_takeable limit c op ops w))
 
 -- from an empty store on
 pub takeable_from_nothing : (limit : ℕ) (ops : List Op) → ((op : Op) → Contains ops op → checked op ≡ Ok tt) → IsAgreed ops → finite_set.len (known_ids (content_of ops)) ≤ limit → taken_one_by_one limit nothing ops ≡ Ok (content_of ops)
-takeable_from_nothing limit ops well_formed agreed fits =
-    takeable_is_taken limit nothing ops (record {
-      well_formed = well_formed;
-      joinable = record { agreed = agreed; agree = agree_swap (content_of ops) nothing (agree_nothing (content_of ops)) };
-      fits = subst (λ d. finite_set.len (known_ids d) ≤ limit) (sym (nothing_join (content_of ops))) fits;
-    })
-    ∙ ap Ok (nothing_join (content_of ops))
+takeable_from_nothing limit ops well_formed agreed fits = grind (arith, takeable_is_taken, agree_swap, agree_nothing, nothing_join)

@@ -89,9 +89,6 @@ ill_formed_refusal ops e h = let w = (first_ill_formed-iff ops e).0 h in ((ill_f
 
 -- ---- the first conflict
 
-abbrev pub here_or : Content → Op → Option Identifier → Option Identifier
-here_or c op later = cond (has_another c op) (Some (id_of op)) later
-
 -- there is none exactly where the list can be joined
 pub no_conflict-iff : (c : Content) (ops : List Op) → (first_conflict c ops ≡ None) ↔ IsJoinable c ops
 no_conflict-iff c [] = (λ h. joinable_nothing c, λ w. refl)
@@ -110,9 +107,7 @@ no_conflict-iff c (op ∷ ops) =
 -- two lists in a row
 pub first_conflict-append : (c : Content) (xs ys : List Op) → first_conflict c (xs ++ ys) ≡ option_or (first_conflict c xs) (first_conflict (join c (content_of xs)) ys)
 first_conflict-append c [] ys = ap (λ d. first_conflict d ys) (sym (join_nothing c))
-first_conflict-append c (x ∷ xs) ys =
-    ap (here_or c x) (first_conflict-append (join c (single x)) xs ys ∙ ap (λ d. option_or (first_conflict (join c (single x)) xs) (first_conflict d ys)) (join_assoc c (single x) (content_of xs)))
-    ∙ sym (or_cond (has_another c x) (id_of x) (first_conflict (join c (single x)) xs) (first_conflict (join c (content_of (x ∷ xs))) ys))
+first_conflict-append c (x ∷ xs) ys = grind (arith, join_assoc, or_cond, first_conflict-append (join c (single x)) xs ys)
 
 -- the first that conflicts is named
 pub first_conflict_found : (c : Content) (xs ys : List Op) (op : Op) → first_conflict c xs ≡ None → has_another (join c (content_of xs)) op ≡ true → first_conflict c (xs ++ op ∷ ys) ≡ Some (id_of op)
@@ -179,25 +174,10 @@ of_one_or_other e own of_union = grind arith
 
 -- a refusal of the union comes where all is well-formed
 past_checks : (limit : ℕ) (c : Content) (ops : List Op) (e : Refusal) → ((id : Identifier) × (e ≡ Conflict id)) ⊎ (e ≡ Full) → (list_answer limit c ops ≡ Err e) ↔ (AreWellFormed ops × (union_answer limit (first_conflict c ops) (join c (content_of ops)) ≡ Err e))
-past_checks limit c ops e of_union = (
-  λ h. elim ((and_check-err (all_checked ops) (union_answer limit (first_conflict c ops) (join c (content_of ops))) e).0 h) [
-    | inl first ↦ absurd (of_one_or_other e (ill_formed_refusal ops e first) of_union)
-    | inr later ↦ ((all_checked-iff ops).0 later.0, later.1)
-  ],
-  λ (well, h). (and_check-err (all_checked ops) (union_answer limit (first_conflict c ops) (join c (content_of ops))) e).1 (inr ((all_checked-iff ops).1 well, h)),
-)
+past_checks limit c ops e of_union = grind (arith, and_check-err, of_one_or_other, ill_formed_refusal, all_checked-iff)
 
 pub list_taken-iff : (limit : ℕ) (c : Content) (ops : List Op) → (list_answer limit c ops ≡ Ok tt) ↔ (AreWellFormed ops × IsJoinable c ops × (finite_set.len (known_ids (join c (content_of ops))) ≤ limit))
-list_taken-iff limit c ops = (
-  λ h.
-      let s = (and_check-ok (all_checked ops) (union_answer limit (first_conflict c ops) (join c (content_of ops)))).0 h in
-      let u = (union_taken-iff limit (first_conflict c ops) (join c (content_of ops))).0 s.1 in
-      ((all_checked-iff ops).0 s.0, (no_conflict-iff c ops).0 u.0, u.1),
-  λ (well, joinable, fits). (and_check-ok (all_checked ops) (union_answer limit (first_conflict c ops) (join c (content_of ops)))).1 (
-    (all_checked-iff ops).1 well,
-    (union_taken-iff limit (first_conflict c ops) (join c (content_of ops))).1 ((no_conflict-iff c ops).1 joinable, fits),
-  ),
-)
+list_taken-iff limit c ops = grind (arith, and_check-ok, union_taken-iff, all_checked-iff, no_conflict-iff)
 
 pub list_ill_formed-iff : (limit : ℕ) (c : Content) (ops : List Op) (e : Refusal) → ((list_answer limit c ops ≡ Err e) × IsOfOperation e) ↔ IsFirstIllFormed ops e
 list_ill_formed-iff limit c ops e = (
@@ -240,9 +220,7 @@ no_other_list_refusal limit c ops e h = grind (arith, ill_formed_refusal ops e)
 
 -- a list that is taken whole leads to the same as its operations one by one
 pub list_one_by_one : (limit : ℕ) (c : Content) (ops : List Op) → list_answer limit c ops ≡ Ok tt → taken_one_by_one limit c ops ≡ Ok (join c (content_of ops))
-list_one_by_one limit c ops h =
-    let w = (list_taken-iff limit c ops).0 h in
-    takeable_is_taken limit c ops (record { well_formed = w.0; joinable = w.1; fits = w.2 })
+list_one_by_one limit c ops h = grind (arith, list_taken-iff, takeable_is_taken)
 
 -- operations that are taken one by one can be taken whole
 pub one_by_one_list : (limit : ℕ) (c d : Content) (ops : List Op) → finite_set.len (known_ids c) ≤ limit → taken_one_by_one limit c ops ≡ Ok d → list_answer limit c ops ≡ Ok tt
@@ -262,14 +240,12 @@ one_by_one_list limit c d ops within h =
 
 pub joinable_append : (c : Content) (xs ys : List Op) → IsJoinable c (xs ++ ys) ↔ (IsJoinable c xs × IsJoinable (join c (content_of xs)) ys)
 joinable_append c xs ys = (
-  λ w. apart (first_conflict c xs) refl (sym (first_conflict-append c xs ys) ∙ (no_conflict-iff c (xs ++ ys)).1 w),
+  λ w.
+      let none = sym (first_conflict-append c xs ys) ∙ (no_conflict-iff c (xs ++ ys)).1 w in
+      ((no_conflict-iff c xs).0 (grind (arith, none)), (no_conflict-iff (join c (content_of xs)) ys).0 (grind (arith, none))),
   λ (first, second). (no_conflict-iff c (xs ++ ys)).0 (
       first_conflict-append c xs ys
       ∙ ap (λ o. option_or o (first_conflict (join c (content_of xs)) ys)) ((no_conflict-iff c xs).1 first)
       ∙ (no_conflict-iff (join c (content_of xs)) ys).1 second
       ),
 )
-  where
-    apart : (o : Option Identifier) → first_conflict c xs ≡ o → option_or o (first_conflict (join c (content_of xs)) ys) ≡ None → IsJoinable c xs × IsJoinable (join c (content_of xs)) ys
-    apart None first second = ((no_conflict-iff c xs).0 first, (no_conflict-iff (join c (content_of xs)) ys).0 second)
-    apart (Some id) first clash = absurd (none-some _ (sym clash))

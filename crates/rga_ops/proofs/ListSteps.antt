@@ -23,9 +23,7 @@ pub from : {A : Type 0} (xs : List A) (i : ℕ) (x : A) → i < length xs → x 
 from xs i x within is = drop_more xs i x within ∙ ap (λ y. y ∷ drop (i + 1) xs) (sym is)
 
 pub join_more : (c : Content) (ops : List Op) (op : Op) → join c (content_of (ops ++ op ∷ [])) ≡ join (join c (content_of ops)) (single op)
-join_more c ops op =
-    ap (join c) (content_of-append ops (op ∷ []) ∙ ap (join (content_of ops)) (join_nothing (single op)))
-    ∙ sym (join_assoc c (content_of ops) (single op))
+join_more c ops op = grind (arith, content_of-append, join_nothing, join_assoc)
 
 -- one identifier more is known, unless it was
 pub known_more : (c : Content) (ops : List Op) (op : Op) → known_ids (join c (content_of (ops ++ op ∷ []))) ≡ finite_set.insert (known_ids (join c (content_of ops))) (id_of op)

@@ -1,5 +1,5 @@
 -- Members of a list: what holds of each of them, and which of them a filter keeps.
-use Rattle.std.proofs.Common.{◌≡◌, Bool, true, false, cond, ◌||◌, List, [], ◌∷◌, ◌++◌, filter, refl, sym, subst, true≢false}
+use Rattle.std.proofs.Common.{arith, ◌≡◌, Bool, true, false, cond, ◌||◌, List, [], ◌∷◌, ◌++◌, filter, refl, sym, subst, true≢false}
 use Rattle.std.specs.List.{list_any, AllByRecursion, IsDistinct}
 use Rattle.std.proofs.lemmas.Bool.{or_left, or_right, or_from}
 use Rattle.rga_ops.specs.Identifier.{Identifier}
@@ -15,17 +15,11 @@ all_append P (x ∷ xs) ys a b = (a.0, all_append P xs ys a.1 b)
 
 pub all_filter : {A : Type 0} (P : A → Type 0) (p : A → Bool) (xs : List A) → AllByRecursion P xs → AllByRecursion P (filter p xs)
 all_filter P p [] h = tt
-all_filter P p (x ∷ xs) h = elim (p x) as (λ b. AllByRecursion P (cond b (x ∷ filter p xs) (filter p xs))) [
-  | true ↦ (h.0, all_filter P p xs h.1)
-  | false ↦ all_filter P p xs h.1
-]
+all_filter P p (x ∷ xs) h = grind (arith, all_filter P p xs h.1)
 
 pub all_members : (P : Identifier → Type 0) (xs : List Identifier) → ((q : Identifier) → list_any (is q) xs ≡ true → P q) → AllByRecursion P xs
 all_members P [] h = tt
-all_members P (x ∷ xs) h = (
-  h x (or_left (is x x) (list_any (is x) xs) (is_itself x)),
-  all_members P xs (λ q m. h q (or_right (is q x) (list_any (is q) xs) m)),
-)
+all_members P (x ∷ xs) h = grind (arith, or_left, is, is_itself, or_right, all_members P xs (λ q m. h q (or_right (is q x) (list_any (is q) xs) m)))
 
 -- what is true of all is true of one of them
 pub of_member : (P : Identifier → Type 0) (xs : List Identifier) (q : Identifier) → AllByRecursion P xs → list_any (is q) xs ≡ true → P q
@@ -48,7 +42,4 @@ none_among k (x ∷ ks) h = or_from (is k x) (list_any (is k) ks) h.0 (none_amon
 pub distinct_filter : (p : Identifier → Bool) (xs : List Identifier) → IsDistinct is xs → IsDistinct is (filter p xs)
 unfolding IsDistinct
 distinct_filter p [] h = tt
-distinct_filter p (x ∷ xs) h = elim (p x) as (λ b. IsDistinct is (cond b (x ∷ filter p xs) (filter p xs))) [
-  | true ↦ (all_filter (λ y. is x y ≡ false) p xs h.0, distinct_filter p xs h.1)
-  | false ↦ distinct_filter p xs h.1
-]
+distinct_filter p (x ∷ xs) h = grind (arith, is, all_filter, distinct_filter p xs h.1)

@@ -1,30 +1,24 @@
 -- The answers to a merge: which of them comes exactly when.
-use Rattle.std.proofs.Common.{◌≡◌, ℕ, ◌<◌, ◌≤◌, Bool, true, false, cond, T, List, [], ◌∷◌, map, refl, sym, ap, ◌∙◌, subst, true≢false, find, arith}
+use Rattle.std.proofs.Common.{rules, ◌≡◌, ℕ, ◌<◌, ◌≤◌, Bool, true, false, T, List, [], ◌∷◌, map, refl, sym, ap, ◌∙◌, subst, true≢false, find, arith}
 use Rattle.std.specs.Prelude.{Option, Some, None, Ok, Err, ◌⊎◌, ◌↔◌}
-use Rattle.std.specs.Option.{option_map_or}
 use Rattle.std.specs.List.{list_any}
 use Rattle.std.specs.Cmp.{tied_itself}
-use Rattle.std.specs.Ordering.{ordering_reverse}
-use Rattle.std.specs.declared.cmp.Ordering.TheVariants.{Less, Equal, Greater}
+use Rattle.std.specs.declared.cmp.Ordering.TheVariants.{Less, Equal}
 use Rattle.std.specs.FinMap as finite_map
 use Rattle.std.specs.FinSet as finite_set
 use Rattle.std.specs.FinMap.{is_sorted}
 use Rattle.std.specs.FinMap.Entries.{below_all}
-use Rattle.std.proofs.lemmas.Bool.{false_from_ne_true}
-use Rattle.std.proofs.lemmas.Option.{same_Some, none-some}
+use Rattle.std.proofs.lemmas.Option.{none-some}
 use Rattle.rga_ops.specs.Identifier.{Identifier, id_cmp}
 use Rattle.rga_ops.specs.Content.{Element, Content, known_ids, join, Agree, IsSound}
-use Rattle.rga_ops.specs.ListAnswer.{has_another, is_conflict, least_conflict, list_answer, merge_answer, IsConflict, IsLeastConflict}
+use Rattle.rga_ops.specs.ListAnswer.{is_conflict, least_conflict, list_answer, merge_answer, IsConflict, IsLeastConflict}
 use Rattle.rga_ops.proofs.IdentifierLaws.{ids_total, ids_exact, is, same_id}
 use Rattle.rga_ops.proofs.ContentLaws.{same_option}
-use Rattle.rga_ops.proofs.OperationLaws.{single_holds}
 use Rattle.rga_ops.specs.Operations.{operations}
 use Rattle.rga_ops.proofs.OperationsLaws.{content_of-operations, operations_hold, operations_agree}
 use Rattle.rga_ops.proofs.SortedLaws.{both_so}
 use Rattle.rga_ops.proofs.PathLaws.{key_of}
-use Rattle.rga_ops.proofs.AgreeLaws.{no_other-iff}
 use Rattle.rga_ops.proofs.ListAnswerLaws.{list_taken-iff, union_taken-iff, union_conflict-iff, union_full-iff, union_refusal}
-use Rattle.rga_ops.specs.declared.op.Op.TheVariants.{Insert}
 use Rattle.rga_ops.specs.declared.refusal.Refusal.{Refusal}
 use Rattle.rga_ops.specs.declared.refusal.Refusal.TheVariants.{Conflict, Full}
 use Rattle.rga_ops.proofs.AnswerLaws.{is_element-is, is_element-itself}
@@ -36,16 +30,11 @@ is_conflict-iff c d id = (λ h. grind (arith, is_element-itself), λ w. grind (a
 
 -- what is inserted in both is the same where it is no conflict
 same_element : (c d : Content) (id : Identifier) (x y : Element) → finite_map.get c.inserted id ≡ Some x → finite_map.get d.inserted id ≡ Some y → is_conflict c d id ≡ false → x ≡ y
-same_element c d id x y f g h =
-    let free : has_another d (Insert id x.parent x.ch) ≡ false = sym (ap (λ o. option_map_or (λ x. has_another d (Insert id x.parent x.ch)) o false) f) ∙ h in
-    sym ((no_other-iff d (Insert id x.parent x.ch)).0 free id y x g (single_holds (Insert id x.parent x.ch)))
+same_element c d id x y f g h = grind arith
 
 -- contents that agree have none, and those that have none agree
 pub agree-iff : (c d : Content) → Agree c d ↔ ((id : Identifier) → is_conflict c d id ≡ false)
-agree-iff c d = (
-  λ agree id. false_from_ne_true (is_conflict c d id) (λ t. let w = (is_conflict-iff c d id).0 t in w.differ (agree id w.here w.there w.inserted_here w.inserted_there)),
-  λ none id x y f g. same_element c d id x y f g (none id),
-)
+agree-iff c d = grind arith
 
 -- ---- the least conflict
 
@@ -75,23 +64,10 @@ found_least : (p : Identifier → Bool) (es : List (Identifier × Element)) (k :
 found_least p [] k sorted h = absurd (none-some _ h)
 found_least p (e ∷ es) k sorted h =
     let s : T (below_all id_cmp e.0 es) × T (is_sorted id_cmp es) = both_so (below_all id_cmp e.0 es) (is_sorted id_cmp es) sorted in
-    elim (p e.0) as (λ b. p e.0 ≡ b → cond b (Some e.0) (find p (map (λ e. e.0) es)) ≡ Some k → IsLeast p (map (λ e. e.0) (e ∷ es)) k) [
-      | true ↦ λ t h. first t s.0 (same_Some _ _ h)
-      | false ↦ λ f h. later f (found_least p es k s.1 h)
-    ] refl h
-  where
-    first : p e.0 ≡ true → T (below_all id_cmp e.0 es) → e.0 ≡ k → IsLeast p (map (λ e. e.0) (e ∷ es)) k
-    first t below same = record {
-      passes = ap p (sym same) ∙ t;
-      least = λ q m _ less.
-          grind (arith, same_id q e.0, below_later e.0 es below q, not_both_less e.0 q, not_less_itself e.0, same);
-    }
-
-    later : p e.0 ≡ false → IsLeast p (map (λ e. e.0) es) k → IsLeast p (map (λ e. e.0) (e ∷ es)) k
-    later f w = record {
-      passes = w.passes;
-      least = λ q m t less.
-          grind (arith, same_id q e.0, w.least q);
+    let later : find p (map (λ e. e.0) es) ≡ Some k → IsLeast p (map (λ e. e.0) es) k = found_least p es k s.1 in
+    record {
+      passes = grind (arith, λ (g : find p (map (λ e. e.0) es) ≡ Some k). (later g).passes);
+      least = λ q m t less. grind (arith, same_id q e.0, below_later e.0 es s.0 q, not_both_less e.0 q, not_less_itself e.0, λ (g : find p (map (λ e. e.0) es) ≡ Some k). (later g).least q);
     }
 
 -- there is none exactly where the contents agree
@@ -117,12 +93,7 @@ found_conflict c d id h =
 
 -- there is but one
 pub one_least_conflict : (c d : Content) (a b : Identifier) → IsLeastConflict c d a → IsLeastConflict c d b → a ≡ b
-one_least_conflict c d a b v w =
-    elim (id_cmp a b) as (λ o. id_cmp a b ≡ o → a ≡ b) [
-      | Less ↦ λ h. absurd (w.least a v.conflict h)
-      | Equal ↦ λ h. ids_exact a b h
-      | Greater ↦ λ h. absurd (v.least b w.conflict (ids_total.antisymm b a ∙ ap ordering_reverse h))
-    ] refl
+one_least_conflict c d a b v w = search (rules, ids_exact)
 
 pub least_conflict-iff : (c d : Content) (id : Identifier) → (least_conflict c d ≡ Some id) ↔ IsLeastConflict c d id
 least_conflict-iff c d id = (found_conflict c d id, λ w. by_search w (least_conflict c d) refl)
@@ -134,10 +105,7 @@ least_conflict-iff c d id = (found_conflict c d id, λ w. by_search w (least_con
 -- ---- the answer to a merge
 
 pub merge_taken-iff : (limit : ℕ) (c d : Content) → (merge_answer limit c d ≡ Ok tt) ↔ (Agree c d × (finite_set.len (known_ids (join c d)) ≤ limit))
-merge_taken-iff limit c d = (
-  λ h. let u = (union_taken-iff limit (least_conflict c d) (join c d)).0 h in ((no_least_conflict-iff c d).0 u.0, u.1),
-  λ (agree, fits). (union_taken-iff limit (least_conflict c d) (join c d)).1 ((no_least_conflict-iff c d).1 agree, fits),
-)
+merge_taken-iff limit c d = grind (arith, union_taken-iff, no_least_conflict-iff)
 
 pub merge_conflict-iff : (limit : ℕ) (c d : Content) (id : Identifier) → (merge_answer limit c d ≡ Err (Conflict id)) ↔ IsLeastConflict c d id
 merge_conflict-iff limit c d id = (
@@ -146,10 +114,7 @@ merge_conflict-iff limit c d id = (
 )
 
 pub merge_full-iff : (limit : ℕ) (c d : Content) → (merge_answer limit c d ≡ Err Full) ↔ (Agree c d × (limit < finite_set.len (known_ids (join c d))))
-merge_full-iff limit c d = (
-  λ h. let u = (union_full-iff limit (least_conflict c d) (join c d)).0 h in ((no_least_conflict-iff c d).0 u.0, u.1),
-  λ (agree, more). (union_full-iff limit (least_conflict c d) (join c d)).1 ((no_least_conflict-iff c d).1 agree, more),
-)
+merge_full-iff limit c d = grind (arith, union_full-iff, no_least_conflict-iff)
 
 pub merge_refusal : (limit : ℕ) (c d : Content) (e : Refusal) → merge_answer limit c d ≡ Err e → ((id : Identifier) × (e ≡ Conflict id)) ⊎ (e ≡ Full)
 merge_refusal limit c d = union_refusal limit (least_conflict c d) (join c d)

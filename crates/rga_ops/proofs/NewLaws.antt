@@ -6,7 +6,7 @@ use Rattle.rga_ops.specs.Answer.{answer}
 use Rattle.rga_ops.specs.NewOperations.{holds, new_operations}
 use Rattle.rga_ops.proofs.ContentLaws.{get-join, contains-join, join_assoc, join_nothing, within_join}
 use Rattle.rga_ops.proofs.OperationLaws.{Contains-first, Contains-later, Contains-cases, Contains-nil, single_inserted, single_deleted}
-use Rattle.rga_ops.proofs.AnswerLaws.{is_element-is, is_element-itself, known-iff, new-iff}
+use Rattle.rga_ops.proofs.AnswerLaws.{is_element-is, is_element-itself}
 use Rattle.rga_ops.proofs.TakenLaws.{held_adds_nothing, held_stays}
 use Rattle.rga_ops.specs.declared.op.Op.{Op}
 use Rattle.rga_ops.specs.declared.refusal.Taken.TheVariants.{New, Known}
@@ -27,14 +27,7 @@ next c op ops h = ap (λ d. join d (content_of ops)) (sym (held_adds_nothing c o
 
 pub content-new : (c : Content) (ops : List Op) → join c (content_of (new_operations c ops)) ≡ join c (content_of ops)
 content-new c [] = refl
-content-new c (op ∷ ops) =
-    elim (holds c op) as (λ b. holds c op ≡ b → join c (content_of (by_test c op ops b)) ≡ join c (content_of (op ∷ ops))) [
-      | true ↦ λ t. content-new c ops ∙ next c op ops ((holds-iff c op).0 t)
-      | false ↦ λ f.
-          sym (join_assoc c (single op) (content_of (new_operations (join c (single op)) ops)))
-          ∙ content-new (join c (single op)) ops
-          ∙ join_assoc c (single op) (content_of ops)
-    ] refl
+content-new c (op ∷ ops) = grind (arith, next, holds-iff, join_assoc, content-new c ops, content-new (join c (single op)) ops)
 
 pub new_among : (c : Content) (ops : List Op) (op : Op) → Contains (new_operations c ops) op → Contains ops op
 new_among c [] op = λ m. m
@@ -87,22 +80,12 @@ held_or_new c (x ∷ ops) op m =
 
 pub new_in_parts : (c : Content) (xs ys : List Op) → new_operations c (xs ++ ys) ≡ new_operations c xs ++ new_operations (join c (content_of xs)) ys
 new_in_parts c [] ys = ap (λ d. new_operations d ys) (sym (join_nothing c))
-new_in_parts c (x ∷ xs) ys =
-    elim (holds c x) as (λ b. holds c x ≡ b → by_test c x (xs ++ ys) b ≡ by_test c x xs b ++ new_operations (join c (content_of (x ∷ xs))) ys) [
-      | true ↦ λ t. new_in_parts c xs ys ∙ ap (λ d. new_operations c xs ++ new_operations d ys) (next c x xs ((holds-iff c x).0 t))
-      | false ↦ λ f.
-          ap (λ os. x ∷ os) (new_in_parts (join c (single x)) xs ys)
-          ∙ ap (λ d. x ∷ (new_operations (join c (single x)) xs ++ new_operations d ys)) (join_assoc c (single x) (content_of xs))
-    ] refl
+new_in_parts c (x ∷ xs) ys = grind (arith, next, holds-iff, join_assoc, new_in_parts c xs ys, new_in_parts (join c (single x)) xs ys)
 
 -- ---- by what is answered
 
 pub new_if_new : (limit : ℕ) (c : Content) (op : Op) → answer limit c op ≡ Ok New → new_operations c (op ∷ []) ≡ op ∷ []
-new_if_new limit c op h =
-    elim (holds c op) as (λ b. holds c op ≡ b → by_test c op [] b ≡ op ∷ []) [
-      | true ↦ λ t. absurd (((new-iff limit c op).0 h).not_held ((holds-iff c op).0 t))
-      | false ↦ λ f. refl
-    ] refl
+new_if_new limit c op h = grind arith
 
 pub none_if_known : (limit : ℕ) (c : Content) (op : Op) → answer limit c op ≡ Ok Known → new_operations c (op ∷ []) ≡ []
-none_if_known limit c op h = ap (by_test c op []) ((holds-iff c op).1 ((known-iff limit c op).0 h).1)
+none_if_known limit c op h = grind arith

@@ -1,11 +1,11 @@
 -- An insertion whose counter is above all others: which elements are complete and visible then, and the text as a splice.
-use Rattle.std.proofs.Common.{◌≡◌, ℕ, ◌+◌, ◌<◌, ◌≤◌, Bool, true, false, cond, not, ◌&&◌, ◌||◌, ◌∷◌, ◌++◌, map, filter, take, drop, refl, sym, ap, ◌∙◌, arith, true≢false, inl, inr}
+use Rattle.std.proofs.Common.{◌≡◌, ℕ, ◌+◌, ◌<◌, ◌≤◌, true, false, cond, not, ◌||◌, ◌∷◌, ◌++◌, map, filter, take, drop, sym, ap, ◌∙◌, arith}
 use Rattle.std.specs.Prelude.{Some, Ok}
 use Rattle.std.specs.Option.{option_map}
 use Rattle.std.specs.List.{slice_get}
 use Rattle.std.specs.FinMap as finite_map
-use Rattle.std.proofs.lemmas.Bool.{and_parts, or_cases, or_left, or_right}
-use Rattle.rga_ops.specs.Identifier.{Identifier, root, is_root}
+use Rattle.std.proofs.lemmas.Bool.{and_parts, or_left, or_right}
+use Rattle.rga_ops.specs.Identifier.{Identifier, is_root}
 use Rattle.rga_ops.specs.Operation.{checked}
 use Rattle.rga_ops.specs.Content.{Element, element, Content, join, single, clock_of}
 use Rattle.rga_ops.specs.RootPath.{is_complete}
@@ -14,7 +14,6 @@ use Rattle.rga_ops.specs.Places.{visible, character}
 use Rattle.rga_ops.specs.Placement.{change_after, put_behind}
 use Rattle.rga_ops.proofs.ContentLaws.{within_join}
 use Rattle.rga_ops.proofs.PathLaws.{inserted_if_complete}
-use Rattle.rga_ops.proofs.IdentifierLaws.{is_id-is}
 use Rattle.rga_ops.proofs.VisibleLaws.{is_kept, visible_is, visible_elements, text_is, characters_within, own_index}
 use Rattle.rga_ops.proofs.ClockLaws.{within_clock, clock_insertion}
 use Rattle.rga_ops.proofs.InsertionLaws.{is_root_or_complete, contains-insertion, get-inserted}
@@ -29,10 +28,7 @@ visible_at c i id h = and_parts (is_complete c id) (is_kept c id) (sym (visible_
 
 -- the root or a complete element has no counter above the clock
 pub root_or_complete_within : (c : Content) (parent : Identifier) → is_root_or_complete c parent ≡ true → parent.counter ≤ clock_of c
-root_or_complete_within c parent h = elim (or_cases (is_root parent) (is_complete c parent) h) [
-  | inl at_root ↦ let zero_counter : parent.counter ≡ 0 = ap (λ (i : Identifier). i.counter) (is_id-is parent root at_root) in omega (arith, zero_counter)
-  | inr complete ↦ let at : (x : Element) × (finite_map.get c.inserted parent ≡ Some x) = inserted_if_complete c parent complete in (within_clock c).own parent at.0 at.1
-]
+root_or_complete_within c parent h = grind (arith, (within_clock c).own parent, inserted_if_complete c parent)
 
 module _ (c : Content) (id parent : Identifier) (ch : ℕ) (newer : clock_of c < id.counter) where
   abbrev d : Content
@@ -74,14 +70,10 @@ module _ (c : Content) (id parent : Identifier) (ch : ℕ) (newer : clock_of c <
   pub visible-newest_at : (i : ℕ) → slice_get (visible c) i ≡ Some parent → visible d ≡ take (i + 1) (visible c) ++ id ∷ drop (i + 1) (visible c)
   visible-newest_at i h =
       let shows : (is_complete c parent ≡ true) × (is_kept c parent ≡ true) = visible_at c i parent h in
-      let other : is_root parent ≡ false = element_of (is_root parent) _ shows.0 in
+      let other : is_root parent ≡ false = grind (arith, shows.0) in
       visible-newest (or_right (is_root parent) (is_kept c parent) shows.1)
       ∙ ap (λ b. cond b (id ∷ visible c) (change_after parent (λ ys. id ∷ ys) (visible c))) other
       ∙ change_after-at parent (λ ys. id ∷ ys) (visible c) i (own_index c parent i h)
-    where
-      element_of : (a b : Bool) → (not a && b) ≡ true → a ≡ false
-      element_of true b e = absurd (true≢false (sym e))
-      element_of false b e = refl
 
   -- ---- the text
 

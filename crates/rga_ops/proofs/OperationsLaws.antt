@@ -1,9 +1,8 @@
 -- The operations of a content stand for it.
-use Rattle.std.proofs.Common.{◌≡◌, true, false, cond, ◌||◌, List, [], ◌∷◌, map, is_some, refl, sym, ap, ◌∙◌, subst, inl, inr}
+use Rattle.std.proofs.Common.{rules, ◌≡◌, true, false, ◌||◌, List, [], ◌∷◌, map, is_some, refl, sym, ap, ◌∙◌, subst, inl, inr, arith}
 use Rattle.std.specs.Prelude.{◌≤◌, ℕ, Some, None, Ok, Contains}
 use Rattle.std.specs.Option.{option_map, option_or}
 use Rattle.std.specs.List.{list_any, filter_map, cons_option, AllByRecursion}
-use Rattle.std.proofs.Math.Bool.{or-false}
 use Rattle.std.proofs.lemmas.Bool.{or_left, or_right}
 use Rattle.std.specs.FinMap as finite_map
 use Rattle.std.specs.FinSet as finite_set
@@ -12,8 +11,8 @@ use Rattle.rga_ops.specs.Identifier.{Identifier, id_cmp}
 use Rattle.rga_ops.specs.Content.{Element, Content, nothing, known_ids, single, content_of, Holds, IsSound, IsAgreed}
 use Rattle.rga_ops.specs.Operations.{insertion_of, insertion_at, alone, rising, insertions, deletions, operations}
 use Rattle.rga_ops.proofs.IdentifierLaws.{ids_total, is, is_itself}
-use Rattle.rga_ops.proofs.ContentLaws.{same_content, get-join, contains-join, or_cond, or_none}
-use Rattle.rga_ops.proofs.OperationLaws.{content_of-append, Contains-nil, Contains-cases, Contains-append}
+use Rattle.rga_ops.proofs.ContentLaws.{same_content, get-join, contains-join, or_none}
+use Rattle.rga_ops.proofs.OperationLaws.{content_of-append, Contains-nil, Contains-cases, Contains-append, contains-single, get-single}
 use Rattle.rga_ops.proofs.SortedLaws.{all_zip, each_found}
 use Rattle.rga_ops.proofs.KnownLaws.{takeable_from_nothing}
 use Rattle.rga_ops.specs.Answer.{taken_one_by_one}
@@ -25,9 +24,7 @@ use Rattle.rga_ops.proofs.AgreeLaws.{held_agree}
 get-insertions : (es : List (Identifier × Element)) (q : Identifier) → finite_map.get (content_of (map insertion_of es)).inserted q ≡ find id_cmp q es
 get-insertions [] q = finite_map.get-empty id_cmp q
 get-insertions (e ∷ es) q =
-    get-join (single (insertion_of e)) (content_of (map insertion_of es)) q
-    ∙ (λ k. option_or ((finite_map.get-insert ids_total finite_map.empty e.0 e.1 q ∙ ap (cond (is q e.0) (Some e.1)) (finite_map.get-empty id_cmp q)) k) (get-insertions es q k))
-    ∙ or_cond (is q e.0) e.1 None (find id_cmp q es)
+    grind (arith, get-join (single (insertion_of e)) (content_of (map insertion_of es)) q, get-single e.0 (e.1).parent (e.1).ch q, get-insertions es q)
 
 deleted-insertions : (es : List (Identifier × Element)) (q : Identifier) → finite_set.contains (content_of (map insertion_of es)).deleted q ≡ false
 deleted-insertions [] q = finite_set.contains-empty id_cmp q
@@ -40,9 +37,7 @@ get-deletions (k ∷ ks) q = get-join (single (Delete k)) (content_of (map Delet
 
 deleted-deletions : (ks : List Identifier) (q : Identifier) → finite_set.contains (content_of (map Delete ks)).deleted q ≡ list_any (is q) ks
 deleted-deletions [] q = finite_set.contains-empty id_cmp q
-deleted-deletions (k ∷ ks) q =
-    contains-join (single (Delete k)) (content_of (map Delete ks)) q
-    ∙ (λ i. (finite_set.contains-insert ids_total finite_set.empty k q ∙ ap (λ b. is q k || b) (finite_set.contains-empty id_cmp q) ∙ or-false (is q k)) i || deleted-deletions ks q i)
+deleted-deletions (k ∷ ks) q = grind (arith, contains-join (single (Delete k)) (content_of (map Delete ks)) q, contains-single k q, deleted-deletions ks q)
 
 keys_alone : (ks : List Identifier) → map (λ (e : Identifier × Unit {0}). e.0) (map alone ks) ≡ ks
 keys_alone [] = refl
@@ -109,7 +104,4 @@ insertions_by_keys c = find_later c (finite_map.entries c.inserted) (each_insert
 
 -- an empty store takes them all, where each is well-formed and the limit suffices
 pub operations_taken : (limit : ℕ) (c : Content) → IsSound c → finite_set.len (known_ids c) ≤ limit → taken_one_by_one limit nothing (operations c) ≡ Ok c
-operations_taken limit c sound fits =
-    takeable_from_nothing limit (operations c) (λ op m. sound op (operations_hold c op m)) (operations_agree c)
-    (subst (λ d. finite_set.len (known_ids d) ≤ limit) (sym (content_of-operations c)) fits)
-    ∙ ap Ok (content_of-operations c)
+operations_taken limit c sound fits = search (rules, takeable_from_nothing, operations_hold, operations_agree, content_of-operations)

@@ -1,7 +1,7 @@
 -- The order list: the function gives it, nothing else is one, and what precedes what is a strict total order.
 use Rattle.std.proofs.Common.{◌≡◌, true, false, not, ◌&&◌, T, List, [], ◌∷◌, map, refl, sym, ap, ◌∙◌, subst, is_some, true≢false, inl, inr, arith}
 use Rattle.std.specs.Prelude.{Some, ◌⊎◌, ◌≢◌, unwrap_or}
-use Rattle.std.specs.Cmp.{both_ways, tied_itself}
+use Rattle.std.specs.Cmp.{both_ways}
 use Rattle.std.specs.Ordering.{is_lt}
 use Rattle.std.specs.List.{list_any, filter_map, cons_option, AllByRecursion, IsDistinct}
 use Rattle.std.specs.declared.cmp.Ordering.TheVariants.{Less}
@@ -24,9 +24,7 @@ use Rattle.rga_ops.proofs.SortedLaws.{both_so, both_hold, less_of}
 -- ---- what precedes what
 
 pub precedes_irreflexive : (c : Content) (a : Identifier) → Precedes c a a → ⊥
-precedes_irreflexive c a s =
-    let same : s.here ≡ s.there = same_Some _ _ (sym s.path_here ∙ s.path_there) in
-    not_less (path_cmp s.here s.here) (tied_itself paths_total s.here) (ap (path_cmp s.here) same ∙ s.before)
+precedes_irreflexive c a s = grind (arith, same_Some, not_less, paths_total)
 
 pub precedes_transitive : (c : Content) (a b d : Identifier) → Precedes c a b → Precedes c b d → Precedes c a d
 precedes_transitive c a b d s t =

@@ -133,11 +133,7 @@ root_path-root c id r = is-root_path {c = c} (at_root r refl)
 
 -- what is not inserted has none
 pub root_path-absent : (c : Content) (id : Identifier) → is_root id ≡ false → finite_map.get c.inserted id ≡ None → root_path c id ≡ None
-root_path-absent c id other g = same_option (root_path c id) None (λ p h. none (root_path-is {c = c} h)) (λ p h. absurd (none-some _ h))
-  where
-    none : {p : Path} → IsRootPath c id p → None ≡ Some p
-    none (at_root r e) = absurd (true≢false (sym r ∙ other))
-    none (below x q r f s e) = absurd (none-some _ (sym g ∙ f))
+root_path-absent c id other g = grind arith
 
 -- and else it is the parent's, and then the element
 pub root_path-step : (c : Content) (id : Identifier) (x : Element) → is_root id ≡ false → finite_map.get c.inserted id ≡ Some x → root_path c id ≡ option_map (λ q. q ++ id ∷ []) (root_path c x.parent)

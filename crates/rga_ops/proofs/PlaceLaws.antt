@@ -1,18 +1,17 @@
 -- What one operation more does to the visible elements and the text, told by what a store counts: how many elements are
 -- visible, and the place of one.
-use Rattle.std.proofs.Common.{◌≡◌, ℕ, zero, suc, ◌+◌, ◌<◌, ◌≤◌, Bool, true, false, cond, not, ◌&&◌, ◌||◌, List, [], ◌∷◌, ◌++◌, map, filter, take, drop, length, refl, sym, ap, ◌∙◌, arith, append-nil, true≢false}
+use Rattle.std.proofs.Common.{◌≡◌, ℕ, zero, suc, ◌+◌, ◌<◌, ◌≤◌, Bool, true, false, not, ◌&&◌, ◌||◌, List, [], ◌∷◌, ◌++◌, map, filter, take, drop, length, refl, sym, ap, ◌∙◌, arith, append-nil, true≢false}
 use Rattle.std.specs.Prelude.{Option, Some, None, Ok}
 use Rattle.std.specs.Option.{option_map}
 use Rattle.std.specs.List.{list_any, slice_get}
 use Rattle.std.specs.FinMap as finite_map
 use Rattle.std.specs.FinSet as finite_set
-use Rattle.std.proofs.lemmas.Bool.{false_from_ne_true}
 use Rattle.std.proofs.lemmas.List.{map-append, take-map, drop-map}
 use Rattle.std.proofs.lemmas.Option.{same_Some, none-some}
 use Rattle.rga_ops.specs.Identifier.{Identifier}
 use Rattle.rga_ops.specs.Content.{Element, Content, join, single, IsWithin}
 use Rattle.rga_ops.specs.RootPath.{is_complete}
-use Rattle.rga_ops.specs.Order.{order, text}
+use Rattle.rga_ops.specs.Order.{text}
 use Rattle.rga_ops.specs.Places.{is_visible, visible, character, place}
 use Rattle.rga_ops.specs.Placement.{without}
 use Rattle.rga_ops.specs.Splice.{spliced}
@@ -22,7 +21,6 @@ use Rattle.rga_ops.specs.declared.refusal.Taken.TheVariants.{New}
 use Rattle.rga_ops.proofs.IdentifierLaws.{is, same_id, is_id-same}
 use Rattle.rga_ops.proofs.AnswerLaws.{new_insertion}
 use Rattle.rga_ops.proofs.ContentLaws.{within_join}
-use Rattle.rga_ops.proofs.PathLaws.{inserted_if_complete}
 use Rattle.rga_ops.proofs.GrowLaws.{order_within}
 use Rattle.rga_ops.proofs.InsertionLaws.{contains-insertion, get-inserted}
 use Rattle.rga_ops.proofs.VisibleLaws.{is_kept, visible_is, visible_elements, text_is, characters_within, own_index, place_at}
@@ -61,22 +59,11 @@ shorter p (x ∷ xs) (suc k) id h out = grind (arith, shorter p xs k id h out)
 -- where one item alone is left out, the list is the filtered one with that item put in at its index
 one_left_out : (p : Identifier → Bool) (xs : List Identifier) (k : ℕ) (id : Identifier) → slice_get xs k ≡ Some id → p id ≡ false → length xs ≡ suc (length (filter p xs)) → xs ≡ spliced (filter p xs) k k (id ∷ [])
 one_left_out p [] k id h out one = absurd (none-some _ h)
-one_left_out p (x ∷ xs) zero id h out one =
-    let same : x ≡ id = same_Some x id h in
-    let left : filter p (x ∷ xs) ≡ filter p xs = ap (λ b. cond b (x ∷ filter p xs) (filter p xs)) (ap p same ∙ out) in
-    let long : length (filter p (x ∷ xs)) ≡ length (filter p xs) = ap length left in
-    (λ j. same j ∷ all_left p xs (omega (arith, one, long)) j) ∙ ap (λ ys. id ∷ ys) (sym left)
-one_left_out p (x ∷ xs) (suc k) id h out one =
-    let less = shorter p xs k id h out in
-    elim (p x) as (λ b. suc (length xs) ≡ suc (length (cond b (x ∷ filter p xs) (filter p xs))) → x ∷ xs ≡ spliced (cond b (x ∷ filter p xs) (filter p xs)) (suc k) (suc k) (id ∷ [])) [
-      | true ↦ λ e. ap (λ r. x ∷ r) (one_left_out p xs k id h out (omega (arith, e)))
-      | false ↦ λ e. absurd (omega (arith, e, less))
-    ] one
+one_left_out p (x ∷ xs) zero id h out one = grind (arith, same_Some, all_left)
+one_left_out p (x ∷ xs) (suc k) id h out one = grind (arith, one_left_out p xs k id h out, shorter p xs k id h out)
 
 map-spliced : {A B : Type 0} (g : A → B) (xs ys : List A) (lo hi : ℕ) → map g (spliced xs lo hi ys) ≡ spliced (map g xs) lo hi (map g ys)
-map-spliced g xs ys lo hi =
-    map-append g (take lo xs ++ ys) (drop hi xs)
-    ∙ (λ k. (map-append g (take lo xs) ys ∙ ap (λ r. r ++ map g ys) (sym (take-map g lo xs))) k ++ sym (drop-map g hi xs) k)
+map-spliced g xs ys lo hi = grind (arith, map-append, take-map, drop-map)
 
 -- a text and its elements, spliced alike
 spliced_alike : (f : Identifier → Option ℕ) (characters put : List ℕ) (elements row : List Identifier) (lo hi : ℕ) → map Some characters ≡ map f elements → map Some put ≡ map f row → map Some (spliced characters lo hi put) ≡ map f (spliced elements lo hi row)
@@ -102,10 +89,7 @@ complete_of_place c id k h = grind arith
 module _ (c d : Content) (w : IsWithin c d) where
   -- of a larger content with no deletion more, the visible elements are those that were, and perhaps others
   visible_within : is_kept d ≡ is_kept c → visible c ≡ filter (is_complete c) (visible d)
-  visible_within same =
-      visible_is c ∙ ap (filter (is_kept c)) (order_within c d w)
-      ∙ twice_filtered (is_kept c) (is_complete c) (order d)
-      ∙ ap (filter (is_complete c)) (ap (λ p. filter p (order d)) (sym same) ∙ sym (visible_is d))
+  visible_within same = grind (arith, visible_is, is_kept, order_within, twice_filtered)
 
 -- ---- an insertion more
 
@@ -137,9 +121,7 @@ module _ (c : Content) (id parent : Identifier) (ch : ℕ) where
 
   module _ (k : ℕ) (absent : finite_map.get c.inserted id ≡ None) where
     not_complete : is_complete c id ≡ false
-    not_complete = false_from_ne_true (is_complete c id) (λ t.
-        let at : (x : Element) × (finite_map.get c.inserted id ≡ Some x) = inserted_if_complete c id t in
-        none-some _ (sym absent ∙ at.1))
+    not_complete = grind arith
 
     -- Where one more is visible, and the new element is: it alone was put in, at its index.
     pub visible-insertion_at : slice_get (visible d) k ≡ Some id → length (visible d) ≡ suc (length (visible c)) → visible d ≡ spliced (visible c) k k (id ∷ [])
@@ -172,9 +154,7 @@ module _ (c : Content) (id parent : Identifier) (ch : ℕ) where
 -- ---- a deletion more
 
 cut_nothing : {A : Type 0} (xs : List A) (k : ℕ) → take k xs ++ drop (k + 1) xs ≡ spliced xs k (suc k) []
-cut_nothing xs k =
-    let next : k + 1 ≡ suc k = omega arith in
-    (λ j. sym (append-nil (take k xs)) j ++ drop (next j) xs)
+cut_nothing xs k = grind (arith, append-nil)
 
 not_in_it : (id : Identifier) (xs : List Identifier) → list_any (is id) xs ≡ false → without id xs ≡ xs
 not_in_it id [] h = refl

@@ -11,7 +11,7 @@ use Rattle.std.specs.FinMap.Entries.{same_entries}
 use Rattle.std.proofs.lemmas.Option.{same_Some, none-some}
 use Rattle.rga_ops.specs.Identifier.{Identifier, is_root}
 use Rattle.rga_ops.specs.Content.{Content}
-use Rattle.rga_ops.specs.RootPath.{Path, path_cmp, root_path, IsRootPath, at_root, below}
+use Rattle.rga_ops.specs.RootPath.{Path, path_cmp, root_path, IsRootPath}
 use Rattle.rga_ops.specs.Order.{placed, by_path, order}
 use Rattle.rga_ops.proofs.IdentifierLaws.{ids_total, is, same_id}
 use Rattle.rga_ops.proofs.BeforeLaws.{paths_total, paths_exact}
@@ -73,11 +73,7 @@ placed-find c (k ∷ ks) p id w h =
 
 -- an element that has a root path is inserted
 pub placed_key : (c : Content) (id : Identifier) (p : Path) → IsPlaced c id p → list_any (is id) (finite_map.keys c.inserted) ≡ true
-placed_key c id p w = key_of_path w.element w.path
-  where
-    key_of_path : {i : Identifier} {q : Path} → is_root i ≡ false → IsRootPath c i q → list_any (is i) (finite_map.keys c.inserted) ≡ true
-    key_of_path other (at_root r e) = absurd (true≢false (sym r ∙ other))
-    key_of_path {i} other (below x q r g s e) = key_of c i x g
+placed_key c id p w = grind (arith, is, key_of)
 
 pub get-by_path : (c : Content) (p : Path) (id : Identifier) → finite_map.get (by_path c) p ≡ Some id → IsPlaced c id p
 get-by_path c p id h = find-placed c (finite_map.keys c.inserted) p id (sym (finite_map.get-from_entries paths_total _ p) ∙ h)

@@ -1,6 +1,6 @@
 -- The skip rule: where parents are smaller than their children, a new element goes in behind its parent, past the larger
 -- identifiers that stand there.
-use Rattle.std.proofs.Common.{◌≡◌, ◌≢◌, ℕ, ◌<◌, true, false, cond, nat_le, T, List, [], ◌∷◌, ◌++◌, refl, sym, ap, ◌∙◌, subst, true≢false, append_assoc, arith}
+use Rattle.std.proofs.Common.{◌≡◌, ◌≢◌, ℕ, true, false, cond, T, List, [], ◌∷◌, ◌++◌, refl, sym, ap, ◌∙◌, subst, true≢false, append_assoc, arith}
 use Rattle.std.specs.Prelude.{Some, None, Ok}
 use Rattle.std.specs.Ordering.{is_eq, is_gt}
 use Rattle.std.specs.declared.cmp.Ordering.TheVariants.{Less, Equal, Greater}
@@ -9,7 +9,6 @@ use Rattle.std.specs.FinMap.{find, is_sorted}
 use Rattle.std.specs.FinMap.Entries.{put, by_order, below_all}
 use Rattle.std.proofs.lemmas.Option.{none-some}
 use Rattle.std.proofs.lemmas.Bool.{false_from_ne_true}
-use Rattle.std.proofs.lemmas.Bool.Decides.{nat_tests}
 use Rattle.rga_ops.specs.Identifier.{Identifier, id_cmp, is_root}
 use Rattle.rga_ops.specs.Operation.{checked}
 use Rattle.rga_ops.specs.Content.{Element, Content, IsSound, join, single}
@@ -25,7 +24,6 @@ use Rattle.rga_ops.proofs.PlacedLaws.{IsPlaced, by_path-get, same_path}
 use Rattle.rga_ops.proofs.RisingPathLaws.{IsRisingTo, ParentsAreSmaller, between, beyond, rising-push, rising_path}
 use Rattle.rga_ops.proofs.AnswerLaws.{well_formed_insertion}
 use Rattle.rga_ops.proofs.InsertionLaws.{IsNewLeaf}
-use Rattle.rga_ops.proofs.NewestLaws.{lower_counter}
 use Rattle.rga_ops.proofs.BehindLaws.{behind_beginning, earlier_than, Entry, ids, AreLater, AreEarlier, GoesIn, all_later, earlier-push, path_is_new, order-change}
 use Rattle.rga_ops.specs.declared.op.Op.TheVariants.{Insert}
 
@@ -103,11 +101,8 @@ module _ (c : Content) (id parent : Identifier) (ch : ℕ) (w : IsNewLeaf c id) 
 
 -- ---- well-formed insertions
 
-falls : (id parent : Identifier) → nat_le id.counter parent.counter ≡ false → parent.counter < id.counter
-falls id parent h = grind (arith, nat_tests)
-
 smaller_parent : (id parent : Identifier) (ch : ℕ) → checked (Insert id parent ch) ≡ Ok tt → id_cmp parent id ≡ Less
-smaller_parent id parent ch h = lower_counter parent id (falls id parent (well_formed_insertion id parent ch h).1)
+smaller_parent id parent ch h = grind arith
 
 pub sound_rises : (c : Content) → IsSound c → ParentsAreSmaller c
 sound_rises c sound k x g = smaller_parent k x.parent x.ch (sound (Insert k x.parent x.ch) g)

@@ -9,7 +9,7 @@ use Rattle.rga_ops.specs.Content.{Element, Content, nothing, join, single, conte
 use Rattle.rga_ops.specs.Answer.{taken, and_take, taken_one_by_one}
 use Rattle.rga_ops.proofs.IdentifierLaws.{same_id}
 use Rattle.rga_ops.proofs.ContentLaws.{same_content, get-join, contains-join, join_assoc, join_nothing, nothing_join, within_itself, within_chain, within_join}
-use Rattle.rga_ops.proofs.OperationLaws.{Contains-cases, Contains-nil, get-single, contains-single, single_holds}
+use Rattle.rga_ops.proofs.OperationLaws.{Contains-cases, get-single, contains-single, single_holds}
 use Rattle.rga_ops.proofs.AnswerLaws.{known-iff, is_element-is}
 use Rattle.rga_ops.specs.declared.op.Op.{Op}
 use Rattle.rga_ops.specs.declared.op.Op.TheVariants.{Insert, Delete}
@@ -62,15 +62,7 @@ pub record AreTaken (c : Content) (ops : List Op) (d : Content) : Type 0 where
   pub held : (op : Op) → Contains ops op → Holds d op
 
 pub taken_list_is : (limit : ℕ) (c : Content) (ops : List Op) (d : Content) → taken_one_by_one limit c ops ≡ Ok d → AreTaken c ops d
-taken_list_is limit c [] d h =
-    let same : took c ≡ took d = h in
-    let d_is : c ≡ d = cc in
-    record {
-      joined = sym d_is ∙ sym (join_nothing c);
-      grown = subst (λ e. IsWithin c e) d_is (within_itself c);
-      well_formed = λ op m. absurd (Contains-nil op m);
-      held = λ op m. absurd (Contains-nil op m);
-    }
+taken_list_is limit c [] d h = grind (arith, join_nothing, within_itself)
 taken_list_is limit c (op ∷ ops) d h =
     elim (taken limit c op) as (λ r. taken limit c op ≡ r → and_take r (λ e. taken_one_by_one limit e ops) ≡ Ok d → AreTaken c (op ∷ ops) d) [
       | Err e ↦ λ r h. absurd (cc)

@@ -1,7 +1,7 @@
 -- What a replica holds is the content of the operations that it took.
-use Rattle.std.proofs.Common.{◌≡◌, ℕ, List, [], ◌∷◌, ◌++◌, refl, sym, ap, ap₂, ◌∙◌}
+use Rattle.std.proofs.Common.{arith, ◌≡◌, ℕ, List, [], ◌∷◌, ◌++◌, refl, sym, ap, ◌∙◌}
 use Rattle.std.specs.Prelude.{Ok}
-use Rattle.rga_ops.specs.Content.{Content, join, single, content_of, IsAgreed, HasSameOperations}
+use Rattle.rga_ops.specs.Content.{Content, content_of, IsAgreed, HasSameOperations}
 use Rattle.rga_ops.specs.Answer.{taken}
 use Rattle.rga_ops.specs.Took.{Took, empty, one, list, merged}
 use Rattle.rga_ops.proofs.ContentLaws.{join_nothing}
@@ -11,15 +11,9 @@ use Rattle.rga_ops.specs.declared.op.Op.{Op}
 
 pub took_content : (ops : List Op) (c : Content) → Took ops c → c ≡ content_of ops
 took_content ops c (empty nil is) = is ∙ sym (ap content_of nil)
-took_content ops c (one before d op t more is) =
-    is ∙ ap₂ join (took_content before d t) (sym (join_nothing (single op)))
-    ∙ sym (ap content_of more ∙ content_of-append before (op ∷ []))
-took_content ops c (list before d put t more is) =
-    is ∙ ap (λ e. join e (content_of put)) (took_content before d t)
-    ∙ sym (ap content_of more ∙ content_of-append before put)
-took_content ops c (merged own d others e t u both is) =
-    is ∙ ap₂ join (took_content own d t) (took_content others e u)
-    ∙ sym (ap content_of both ∙ content_of-append own others)
+took_content ops c (one before d op t more is) = grind (arith, join_nothing, content_of-append, took_content before d t)
+took_content ops c (list before d put t more is) = grind (arith, content_of-append, took_content before d t)
+took_content ops c (merged own d others e t u both is) = grind (arith, content_of-append, took_content own d t, took_content others e u)
 
 -- replicas that took the same operations hold the same
 pub took_same : (xs ys : List Op) (c d : Content) → Took xs c → Took ys d → IsAgreed xs → HasSameOperations xs ys → c ≡ d

@@ -81,10 +81,7 @@ any_id id xs = ap (λ (p : Identifier → Bool). list_any p xs) (λ k x. is_id-s
 
 complete_up_to : (c : Content) (id : Identifier) (xs : List Identifier) → AllByRecursion (λ y. is_complete c y ≡ true) xs → AllByRecursion (λ y. is_complete c y ≡ true) (up_to id xs)
 complete_up_to c id [] h = tt
-complete_up_to c id (x ∷ xs) h = elim (is_id x id) as (λ b. AllByRecursion (λ y. is_complete c y ≡ true) (cond b (x ∷ []) (x ∷ up_to id xs))) [
-  | true ↦ (h.0, tt)
-  | false ↦ (h.0, complete_up_to c id xs h.1)
-]
+complete_up_to c id (x ∷ xs) h = grind (arith, complete_up_to c id xs h.1)
 
 -- an identifier is complete where it is in the order
 pub complete_is : (c : Content) (id : Identifier) → is_complete c id ≡ list_any (λ x. is_id x id) (order c)
@@ -92,10 +89,7 @@ complete_is c id = sym ((order_list c).elements id) ∙ sym (any_id id (order c)
 
 -- the place, by the order alone
 pub place_is : (c : Content) (id : Identifier) → is_root id ≡ false → place c id ≡ cond (list_any (λ x. is_id x id) (order c)) (Some (length (filter (is_kept c) (up_to id (order c))))) None
-place_is c id other =
-    ap (λ b. cond b (Some 0) (cond (is_complete c id) (Some (length (filter (is_visible c) (up_to id (order c))))) None)) other
-    ∙ ap (λ b. cond b (Some (length (filter (is_visible c) (up_to id (order c))))) None) (complete_is c id)
-    ∙ ap (λ ys. cond (list_any (λ x. is_id x id) (order c)) (Some (length ys)) None) (visible_among c (up_to id (order c)) (complete_up_to c id (order c) (order_complete c)))
+place_is c id other = grind (arith, complete_is, visible_among, complete_up_to, order_complete)
 
 pub no_place : (c : Content) (id : Identifier) → (place c id ≡ None) ↔ ((is_root id ≡ false) × (is_complete c id ≡ false))
 no_place c id = (λ h. grind arith, λ h. grind arith)
@@ -128,16 +122,7 @@ counted p id (x ∷ xs) i h = grind (
 
 -- the place of a visible element is one more than its index
 pub place_at : (c : Content) (id : Identifier) (i : ℕ) → position (λ x. is_id x id) (visible c) ≡ Some i → place c id ≡ Some (i + 1)
-place_at c id i h =
-    let shows : is_visible c id ≡ true = sym (visible_elements c id) ∙ among (list_any (is id) (visible c)) refl in
-    let complete : is_complete c id ≡ true = (and_parts (is_complete c id) (is_kept c id) shows).0 in
-    let other : is_root id ≡ false = not_complete_root ((is_complete-iff c id).0 complete) in
-    (λ k. cond (other k) (Some 0) (cond (complete k) (Some (length (filter (is_visible c) (up_to id (order c))))) None))
-    ∙ ap Some (counted (is_visible c) id (order c) i h)
-  where
-    among : (b : Bool) → list_any (is id) (visible c) ≡ b → list_any (is id) (visible c) ≡ true
-    among true e = e
-    among false e = absurd (none-some _ (sym (absent id (visible c) e) ∙ h))
+place_at c id i h = grind (arith, visible_elements, is, and_parts, not_complete_root, is_complete-iff, counted, none-some, absent)
 
 -- ---- each visible element stands at one index
 

@@ -1,5 +1,5 @@
 -- The inserted elements are those in the order and those that wait.
-use Rattle.std.proofs.Common.{◌≡◌, ◌+◌, Bool, true, false, not, ◌&&◌, List, [], ◌∷◌, filter, length, refl, sym, ap, ◌∙◌, arith}
+use Rattle.std.proofs.Common.{◌≡◌, ◌+◌, Bool, not, ◌&&◌, List, [], ◌∷◌, filter, length, refl, sym, ap, ◌∙◌, arith}
 use Rattle.std.specs.Cmp.{eq_by_cmp_equiv}
 use Rattle.std.specs.List.{list_any, IsDistinct}
 use Rattle.std.specs.FinMap as finite_map
@@ -29,14 +29,7 @@ distinct_inserted c = distinct_keys id_cmp ids_total (finite_map.entries c.inser
 
 -- a complete element is inserted
 complete_key : (c : Content) (q : Identifier) → (is_complete c q && list_any (is q) (finite_map.keys c.inserted)) ≡ is_complete c q
-complete_key c q =
-    elim (is_complete c q) as (λ b. is_complete c q ≡ b → (b && list_any (is q) (finite_map.keys c.inserted)) ≡ b) [
-      | true ↦ λ t.
-          let complete = (is_complete-iff c q).0 t in
-          let up = path_of_complete complete in
-          placed_key c q up.0 (record { element = not_complete_root complete; path = up.1 })
-      | false ↦ λ t. refl
-    ] refl
+complete_key c q = grind (arith, is, is_complete-iff, path_of_complete, placed_key, not_complete_root)
 
 pub ordered_and_waiting : (c : Content) → length (order c) + length (waiting c) ≡ length (finite_map.keys c.inserted)
 ordered_and_waiting c =
