@@ -15,7 +15,7 @@ use Rattle.rga_ops.specs.declared.refusal.Refusal.{Refusal}
 use Rattle.rga_ops.proofs.AgreeLaws.{agree_nothing, agree_swap, agree_within, held_agree, joinable_nothing, joinable-iff}
 use Rattle.rga_ops.proofs.ContentLaws.{join_nothing, nothing_join, join_least, within_itself, within_both, within_join, within_join_second}
 use Rattle.rga_ops.proofs.ListAnswerLaws.{list_taken-iff, list_one_by_one}
-use Rattle.rga_ops.proofs.OperationLaws.{Contains-cases, Contains-nil, inserted-iff, deleted-iff}
+use Rattle.rga_ops.proofs.OperationLaws.{inserted-iff, deleted-iff}
 use Rattle.rga_ops.proofs.KnownLaws.{known_join, len-le_union}
 use Rattle.rga_ops.proofs.TakenLaws.{taken_is}
 use Rattle.rga_ops.proofs.OperationsLaws.{operations_hold, content_of-operations}
@@ -27,12 +27,12 @@ use Rattle.rga_exchange.specs.declared.log.LogRead.{LogRead}
 use Rattle.rga_exchange.proofs.AppendedLaws.{stands_appended}
 use Rattle.rga_exchange.proofs.LogLaws.{log_that_stands}
 use Rattle.rga_world.specs.Sites.{Site, site, World}
-use Rattle.rga_world.specs.Steps.{stepped, ran, outcome_then, found, of_store, saved_operation, saved_list, saved_one, delivered, list_delivered, given, with_content, with_saved}
+use Rattle.rga_world.specs.Steps.{stepped, ran, outcome_then, of_store, saved_list, saved_one, list_delivered, given, with_content, with_saved}
 use Rattle.rga_world.specs.Program.{deliveries}
 use Rattle.rga_world.specs.Together.{IsReached}
 use Rattle.rga_world.specs.Words.{with_site}
 use Rattle.rga_world.specs.declared.event.Event.TheVariants.{Save, SaveOne, Deliver, DeliverList, Restart}
-use Rattle.rga_world.specs.declared.refusal.WorldRefusal.TheVariants.{NoOperation, Store}
+use Rattle.rga_world.specs.declared.refusal.WorldRefusal.TheVariants.{Store}
 use Rattle.rga_world.proofs.ListPlaces.{contains_place, set_here, set_old}
 use Rattle.rga_world.proofs.SiteSteps.{set_same}
 use Rattle.rga_world.proofs.StepLaws.{same_Ok, place_held, single_within, ok-err, err-ok}
@@ -131,10 +131,7 @@ held_place c op h =
 
 -- what holds of an operation holds of all of a list of it
 all_of_one : (P : Op → Type 0) (op : Op) → P op → (o : Op) → Contains (op ∷ []) o → P o
-all_of_one P op h o m = elim (Contains-cases op o [] m) [
-  | inl here ↦ subst P here h
-  | inr later ↦ absurd (Contains-nil o later)
-]
+all_of_one P op h o m = grind arith
 
 -- what the site holds is taken into what it has saved
 module _ (w : World) (number : ℕ) (s : Site) (op : Op) (reached : IsReached w) (at : slice_get w.sites number ≡ Some s) (held : Holds s.content op) where
@@ -211,10 +208,7 @@ set_twice (z ∷ xs) (suc i) x y = ap (λ ys. z ∷ ys) (set_twice xs i x y)
 one_delivered : (w : World) (taker giver place : ℕ) (s g : Site) (op : Op) (c : Content)
     → slice_get w.sites taker ≡ Some s → slice_get w.sites giver ≡ Some g → slice_get (operations g.saved) place ≡ Some op → taken w.limit s.content op ≡ Ok c
     → stepped w (Deliver taker giver place) ≡ Ok (with_site w taker (with_content s c))
-one_delivered w taker giver place s g op c at there saved took =
-    changed_to w taker (given w giver (λ h. saved_operation h place) (delivered w.limit)) s (with_content s c) at
-    (gives w taker giver (λ h. saved_operation h place) (delivered w.limit) s g op there (ap (found NoOperation) saved)
-    ∙ ap (λ r. outcome_then (of_store r) (λ d. Ok (with_content s d))) took)
+one_delivered w taker giver place s g op c at there saved took = grind arith
 
 -- the same of all from a place on
 pub all_delivered : (ops : List Op) (place taker giver : ℕ) (w : World) (s g : Site) (d : Content)
@@ -222,9 +216,7 @@ pub all_delivered : (ops : List Op) (place taker giver : ℕ) (w : World) (s g :
     → ((n : ℕ) (op : Op) → slice_get ops n ≡ Some op → slice_get (operations g.saved) (place + n) ≡ Some op)
     → taken_one_by_one w.limit s.content ops ≡ Ok d
     → ran w (deliveries taker giver place (length ops)) ≡ Ok (with_site w taker (with_content s d))
-all_delivered [] place taker giver w s g d at there each took =
-    let same : s.content ≡ d = same_Ok s.content d took in
-    ap (λ xs. Ok (record w { sites = xs })) (sym (set_same w.sites taker s at)) ∙ ap (λ c. Ok (with_site w taker (with_content s c))) same
+all_delivered [] place taker giver w s g d at there each took = grind (arith, same_Ok, set_same)
 all_delivered (op ∷ ops) place taker giver w s g d at there each took =
     let (c, first, rest) = take_ok (taken w.limit s.content op) (λ e. taken_one_by_one w.limit e ops) d took in
     let t : Site = with_content s c in

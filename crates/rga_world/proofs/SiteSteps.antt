@@ -9,12 +9,12 @@ use Rattle.rga_store.specs.Limit.{is_limit}
 use Rattle.rga_ops.specs.Content.{nothing}
 use Rattle.rga_world.specs.Sites.{Site, site, World, world}
 use Rattle.rga_world.specs.SiteStates.{SiteState, new_site, AreSites}
-use Rattle.rga_world.specs.Steps.{Outcome, outcome_then, found, changed, own_site, replica_of, stepped, ran, kept}
+use Rattle.rga_world.specs.Steps.{Outcome, outcome_then, changed, own_site, replica_of, stepped, ran, kept}
 use Rattle.rga_world.specs.Outcomes.{Happens, HasRoomAlone, MayWantMemory}
 use Rattle.rga_world.specs.declared.event.Event.{Event}
 use Rattle.rga_world.specs.declared.event.Event.TheVariants.{Edit, Revert, Save, SaveOne, Deliver, DeliverList, Restart}
 use Rattle.rga_world.specs.declared.refusal.WorldRefusal.{WorldRefusal}
-use Rattle.rga_world.specs.declared.refusal.WorldRefusal.TheVariants.{NoSite, Store}
+use Rattle.rga_world.specs.declared.refusal.WorldRefusal.TheVariants.{Store}
 use Rattle.rga_world.proofs.ListPlaces.{set_new, place_mapped}
 use Rattle.rga_world.proofs.StepLaws.{ok-err, same_Ok, err-ok, same_Err}
 use Rattle.rga_ops.specs.Identifier.{Identifier}
@@ -35,52 +35,17 @@ set_same (y ∷ xs) (suc i) x h = ap (λ ys. y ∷ ys) (set_same xs i x h)
 pub happens_at : (xs : List SiteState) (limit number : ℕ) (x y : SiteState) (change : Site → Outcome Site) (r : Result (Unit {0}) WorldRefusal)
     → number < length xs → x ≡ get_or xs number x → Happens r x.site y.site (change x.site) → y ≡ record x { site = y.site }
     → Happens r (world (sites_of xs) limit) (world (sites_of (slice_set xs number y)) limit) (changed (world (sites_of xs) limit) number change)
-happens_at xs limit number x y change r inside is happens rest = by r happens
-  where
-    there : slice_get xs number ≡ Some x
-    there = slice_get-get_or xs number x inside ∙ ap Some (sym is)
-
-    put : Site → World
-    put t = world (slice_set (sites_of xs) number t) limit
-
-    changes : changed (world (sites_of xs) limit) number change ≡ outcome_then (change x.site) (λ t. Ok (put t))
-    changes = ap (λ o. outcome_then (found NoSite o) (λ s. outcome_then (change s) (λ t. Ok (put t)))) (place_mapped (λ (s : SiteState). s.site) xs number x there)
-
-    set : put y.site ≡ world (sites_of (slice_set xs number y)) limit
-    set = ap (λ ss. world ss limit) (sym (map-set (λ (s : SiteState). s.site) xs number y))
-
-    by : (r : Result (Unit {0}) WorldRefusal) → Happens r x.site y.site (change x.site) → Happens r (world (sites_of xs) limit) (world (sites_of (slice_set xs number y)) limit) (changed (world (sites_of xs) limit) number change)
-    by (Ok u) h = changes ∙ ap (λ o. outcome_then o (λ t. Ok (put t))) h ∙ ap (λ w. Ok w) set
-    by (Err e) h =
-        let same : y ≡ x = rest ∙ ap (λ s. record x { site = s }) h.0 in (
-          ap (λ z. world (sites_of (slice_set xs number z)) limit) same ∙ ap (λ zs. world (sites_of zs) limit) (set_same xs number x there),
-          elim h.1 [
-            | inl memory ↦ inl memory
-            | inr refused ↦ inr (changes ∙ ap (λ o. outcome_then o (λ t. Ok (put t))) refused)
-          ],
-        )
+happens_at xs limit number x y change r inside is happens rest = grind (arith, slice_get-get_or, place_mapped, map-set, set_same)
 
 -- the replicas and the limits stay
 pub still_sites : (xs : List SiteState) (limit number : ℕ) (x y : SiteState) → AreSites limit xs → number < length xs → x ≡ get_or xs number x → y ≡ record x { site = y.site } → AreSites limit (slice_set xs number y)
-still_sites xs limit number x y are inside is rest i s at = elim (set_new xs number i y s at) [
-  | inl here ↦
-      let there : slice_get xs number ≡ Some x = slice_get-get_or xs number x inside ∙ ap Some (sym is) in
-      let x_is = are number x there in
-      let s_is : s ≡ record x { site = y.site } = here.1 ∙ rest in
-      (ap (λ (z : SiteState). z.replica) s_is ∙ x_is.0 ∙ ap replica_of (sym here.0), ap (λ (z : SiteState). z.limit) s_is ∙ x_is.1)
-  | inr there ↦ are i s there
-]
+still_sites xs limit number x y are inside is rest i s at = grind (arith, set_new, slice_get-get_or)
 
 -- the same, by what a site knows of its own replica and limit
 pub happens_in : (xs : List SiteState) (limit number : ℕ) (x y : SiteState) (change : ℕ → ℕ → Site → Outcome Site) (r : Result (Unit {0}) WorldRefusal) (w : World)
     → AreSites limit xs → number < length xs → x ≡ get_or xs number x → Happens r x.site y.site (change x.limit x.replica x.site) → y ≡ record x { site = y.site } → world (sites_of xs) limit ≡ w
     → Happens r w (world (sites_of (slice_set xs number y)) limit) (changed w number (change w.limit (replica_of number)))
-happens_in xs limit number x y change r w are inside is happens rest view =
-    let there : slice_get xs number ≡ Some x = slice_get-get_or xs number x inside ∙ ap Some (sym is) in
-    let x_is = are number x there in
-    subst (λ (v : World). Happens r v (world (sites_of (slice_set xs number y)) limit) (changed v number (change v.limit (replica_of number)))) view
-    (happens_at xs limit number x y (change limit (replica_of number)) r inside is
-    (subst (λ n. Happens r x.site y.site (change n (replica_of number) x.site)) x_is.1 (subst (λ n. Happens r x.site y.site (change x.limit n x.site)) x_is.0 happens)) rest)
+happens_in xs limit number x y change r w are inside is happens rest view = grind (arith, slice_get-get_or, happens_at)
 
 -- an event of one site alone, which has room, may want memory
 wants_alone : (w : World) (number : ℕ) (s : Site) (event : Event) → own_site event ≡ Some number → slice_get w.sites number ≡ Some s → HasRoomAlone w.limit s.content event → MayWantMemory w event
@@ -118,22 +83,7 @@ push_place (z ∷ xs) x y zero h = inr h
 push_place (z ∷ xs) x y (suc i) h = grind (arith, push_place xs x y i h)
 
 one_more_new : (limit number : ℕ) (xs : List SiteState) (x : SiteState) → AreNew limit number xs → x ≡ new_site (number + 1) limit → AreNew limit (number + 1) (xs ++ x ∷ [])
-one_more_new limit number xs x h is = record {
-  counted = let long = length-append xs (x ∷ []) in omega (arith, long, h.counted);
-  numbered = λ i s at. elim (push_place xs x s i at) [
-    | inl here ↦
-        let s_is : s ≡ new_site (number + 1) limit = here.1 ∙ is in
-        (ap (λ (z : SiteState). z.replica) s_is ∙ ap replica_of (sym h.counted ∙ sym here.0), ap (λ (z : SiteState). z.limit) s_is)
-    | inr there ↦ h.numbered i s there
-  ];
-  empty =
-      map-append (λ (s : SiteState). s.site) xs (x ∷ []) ∙ ap (λ ys. ys ++ x.site ∷ []) h.empty
-      ∙ ap (λ (z : SiteState). replicate number (site nothing nothing) ++ z.site ∷ []) is
-      ∙ sym (replicate-more number (site nothing nothing)) ∙ ap (λ n. replicate n (site nothing nothing)) (next number);
-}
-  where
-    next : (n : ℕ) → suc n ≡ n + 1
-    next n = omega arith
+one_more_new limit number xs x h is = grind (arith, length-append, push_place, map-append, replicate-more)
 
 pub pushed_new : (limit number : ℕ) (xs ys : List SiteState) (x : SiteState) → AreNew limit number xs → ys ≡ xs ++ x ∷ [] → x ≡ new_site (number + 1) limit → AreNew limit (number + 1) ys
 pushed_new limit number xs ys x h pushed is = subst (AreNew limit (number + 1)) (sym pushed) (one_more_new limit number xs x h is)
@@ -152,11 +102,7 @@ memory-conflict : (id : Identifier) → Store Memory ≡ Store (Conflict id) →
 memory-conflict id h = grind arith
 
 pub step_conflict : (r : Result (Unit {0}) WorldRefusal) (w v : World) (event : Event) (id : Identifier) → IsReached w → Happens r w v (stepped w event) → r ≡ Err (Store (Conflict id)) → ⊥
-step_conflict (Ok u) w v event id reached h is = ok-err u (Store (Conflict id)) is
-step_conflict (Err e) w v event id reached h is = elim h.1 [
-  | inl memory ↦ memory-conflict id (sym memory ∙ same_Err e (Store (Conflict id)) is)
-  | inr refused ↦ step_no_conflict w event id (reached_consistent w reached) (refused ∙ ap (λ f. Err f) (same_Err e (Store (Conflict id)) is))
-]
+step_conflict r w v event id reached h is = grind (arith, ok-err, memory-conflict, same_Err, step_no_conflict, reached_consistent)
 
 -- one event more
 ran-push : (w v : World) (events : List Event) (event : Event) → ran w events ≡ Ok v → ran w (events ++ event ∷ []) ≡ outcome_then (stepped v event) (λ x. Ok x)

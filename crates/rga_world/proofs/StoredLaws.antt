@@ -21,7 +21,7 @@ use Rattle.rga_ops.specs.Answer.{taken, and_take}
 use Rattle.rga_ops.specs.ListAnswer.{Verdict, list_answer}
 use Rattle.rga_ops.proofs.IdentifierLaws.{ids_total, ids_exact, is}
 use Rattle.rga_ops.proofs.MemberLaws.{all_map, all_members}
-use Rattle.rga_ops.proofs.OperationLaws.{Contains-cases, Contains-nil, Contains-append, content_inserted, content_deleted}
+use Rattle.rga_ops.proofs.OperationLaws.{Contains-nil, Contains-append, content_inserted, content_deleted}
 use Rattle.rga_ops.proofs.OperationsLaws.{any-rising}
 use Rattle.rga_ops.proofs.SoundLaws.{join_holds, single_only}
 use Rattle.rga_ops.proofs.SortedLaws.{distinct_keys}
@@ -67,18 +67,10 @@ nothing_holds (Insert id parent ch) h = none-some _ (sym (finite_map.get-empty i
 nothing_holds (Delete id) h = true≢false (sym h ∙ finite_set.contains-empty id_cmp id)
 
 storable_nothing : (limit : ℕ) → IsStorable limit nothing
-storable_nothing limit = record {
-  sound = λ op h. absurd (nothing_holds op h);
-  writable = λ op h. absurd (nothing_holds op h);
-  within = omega (arith, known_nothing);
-}
+storable_nothing limit = grind (arith, nothing_holds, known_nothing)
 
 storable_join : (limit : ℕ) (c d : Content) → IsStorable limit c → ((op : Op) → Holds d op → (checked op ≡ Ok tt) × IsWritable op) → finite_set.len (known_ids (join c d)) ≤ limit → IsStorable limit (join c d)
-storable_join limit c d s more fits = record {
-  sound = λ op h. elim (join_holds c d op h) [ inl old ↦ s.sound op old | inr new ↦ (more op new).0 ];
-  writable = λ op h. elim (join_holds c d op h) [ inl old ↦ s.writable op old | inr new ↦ (more op new).1 ];
-  within = fits;
-}
+storable_join limit c d s more fits = grind (arith, join_holds)
 
 -- the content of a list holds what stands in the list
 pub held_listed : (ops : List Op) (op : Op) → Holds (content_of ops) op → Contains ops op
@@ -141,10 +133,7 @@ root_or : (id : Identifier) → IsElement id → IsElementOrRoot id
 root_or id h = or_right (is_root id) (is_in_range id.counter id.replica) h
 
 first_written : (op : Op) (ops : List Op) → IsWritable op → AreWritable ops → AreWritable (op ∷ ops)
-first_written op ops first later other m = elim (Contains-cases op other ops m) [
-  | inl here ↦ subst IsWritable here first
-  | inr there ↦ later other there
-]
+first_written op ops first later other m = grind arith
 
 both_written : (xs ys : List Op) → AreWritable xs → AreWritable ys → AreWritable (xs ++ ys)
 both_written xs ys first second op m = elim (Contains-append xs ys op m) [ inl here ↦ first op here | inr there ↦ second op there ]
@@ -262,10 +251,7 @@ joined_storable limit verdict ops s t was h taken written =
 
 -- the replicas of a world are in their range
 replica_in_range : (w : World) (number : ℕ) (s : Site) → AreStorable w → slice_get w.sites number ≡ Some s → IsReplica (replica_of number)
-replica_in_range w number s a at = (omega arith, small number (length w.sites) 65535 (slice_get_within w.sites number s at) a.few)
-  where
-    small : (number count most : ℕ) → number < count → count ≤ most → number + 1 ≤ most
-    small number count most p q = omega arith
+replica_in_range w number s a at = grind (arith, slice_get_within)
 
 delivered_storable : (limit : ℕ) (op : Op) (s t : Site) → IsStorableSite limit s → checked op ≡ Ok tt → IsWritable op → delivered limit op s ≡ Ok t → IsStorableSite limit t
 delivered_storable limit op s t was well written h =

@@ -1,5 +1,5 @@
 -- The join of contents that all agree, and texts within its order.
-use Rattle.std.proofs.Common.{zero, suc, ◌⊎◌, ◌≡◌, ℕ, Bool, true, false, cond, List, [], ◌∷◌, filter, Option, Some, slice_get, refl, sym, ap, ◌∙◌, subst, inl, inr, arith, is_some, true≢false, None}
+use Rattle.std.proofs.Common.{zero, suc, ◌⊎◌, ◌≡◌, ℕ, Bool, true, List, [], ◌∷◌, filter, Option, Some, slice_get, refl, sym, ap, ◌∙◌, subst, inl, inr, arith, is_some, true≢false, None}
 use Rattle.std.specs.Prelude.{Contains}
 use Rattle.std.specs.FinMap as finite_map
 use Rattle.std.proofs.lemmas.List.Elements.{Contains-append_cases, Contains-append_left}
@@ -99,15 +99,7 @@ saved_agrees w consistent taker giver s g at there =
 
 filter_within : (p q : Identifier → Bool) (xs : List Identifier) → ((x : Identifier) → p x ≡ true → q x ≡ true) → filter p (filter q xs) ≡ filter p xs
 filter_within p q [] h = refl
-filter_within p q (x ∷ xs) h =
-    elim (q x) as (λ b. q x ≡ b → filter p (cond b (x ∷ filter q xs) (filter q xs)) ≡ cond (p x) (x ∷ filter p xs) (filter p xs)) [
-      | true ↦ λ t. ap (λ ys. cond (p x) (x ∷ ys) ys) (filter_within p q xs h)
-      | false ↦ λ f.
-          elim (p x) as (λ b. p x ≡ b → filter p (filter q xs) ≡ cond b (x ∷ filter p xs) (filter p xs)) [
-            | true ↦ λ t. absurd (true≢false (sym (h x t) ∙ f))
-            | false ↦ λ g. filter_within p q xs h
-          ] refl
-    ] refl
+filter_within p q (x ∷ xs) h = grind (arith, filter_within p q xs h)
 
 complete_if_visible : (c : Content) (id : Identifier) → is_visible c id ≡ true → is_complete c id ≡ true
 complete_if_visible c id h = grind arith
@@ -118,13 +110,7 @@ visible_within c d w =
     ap (filter (is_visible c)) (order_within c d w) ∙ filter_within (is_visible c) (is_complete c) (order d) (complete_if_visible c)
 
 pub precedes_within : (c d : Content) (a b : Identifier) → IsWithin c d → is_complete c a ≡ true → is_complete c b ≡ true → Precedes c a b → Precedes d a b
-precedes_within c d a b w h k s = record {
-  here = s.here;
-  there = s.there;
-  path_here = root_path_stays c d w a h ∙ s.path_here;
-  path_there = root_path_stays c d w b k ∙ s.path_there;
-  before = s.before;
-}
+precedes_within c d a b w h k s = grind (arith, root_path_stays)
 
 -- ---- contents of the same identifiers
 

@@ -3,7 +3,7 @@ use Rattle.std.proofs.Common.{◌≡◌, ℕ, ◌<◌, ◌≤◌, ◌⊎◌, Lis
 use Rattle.std.specs.Prelude.{◌↔◌, Option, Result, Ok, Err}
 use Rattle.std.specs.declared.alloc.Global.{Global}
 use Rattle.rga_ops.specs.Identifier.{Identifier}
-use Rattle.rga_ops.specs.Content.{Content, join, single, content_of}
+use Rattle.rga_ops.specs.Content.{Content, join, single}
 use Rattle.rga_ops.specs.Operations.{operations}
 use Rattle.rga_ops.specs.Answer.{answer, taken}
 use Rattle.rga_ops.specs.ListAnswer.{Verdict, list_answer}
@@ -29,9 +29,6 @@ use Rattle.std.proofs.lemmas.Bool.Decides.{nat_tests}
 
 pub changed_to : (w : World) (number : ℕ) (change : Site → Outcome Site) (s t : Site) → slice_get w.sites number ≡ Some s → change s ≡ Ok t → changed w number change ≡ Ok (with_site w number t)
 changed_to w number change s t at is = grind arith
-
-changed_none : (w : World) (number : ℕ) (change : Site → Outcome Site) → slice_get w.sites number ≡ None → changed w number change ≡ Err NoSite
-changed_none w number change none = grind arith
 
 -- ---- saves and restarts
 
@@ -66,10 +63,6 @@ module _ (w : World) (number : ℕ) (verdict : Content → Verdict) (own : Conte
         record { before = c.before; at = c.was; allowed = joined.0; is = c.is ∙ ap (with_site w number) (sym joined.1) },
     λ i. grind arith,
   )
-
-  -- only that the site is missing, and its store
-  change_no_site-iff : (changed w number change ≡ Err NoSite) ↔ (slice_get w.sites number ≡ None)
-  change_no_site-iff = (λ h. grind arith, λ none. grind arith)
 
   change_has_operation : changed w number change ≡ Err NoOperation → ⊥
   change_has_operation h = grind arith
@@ -113,10 +106,6 @@ module _ {A : Type 0} (w : World) (taker giver : ℕ) (saved : Site → Outcome 
   -- where it is given, all goes by how it is taken
   pub gives : (s g : Site) (x : A) → slice_get w.sites giver ≡ Some g → saved g ≡ Ok x → give s ≡ take x s
   gives s g x there there_too = grind arith
-
-  -- the taker or the giver is missing, where nothing else is refused so
-  given_no_site-iff : ((g : Site) → saved g ≡ Err NoSite → ⊥) → ((x : A) (s : Site) → take x s ≡ Err NoSite → ⊥) → (changed w taker give ≡ Err NoSite) ↔ ((slice_get w.sites taker ≡ None) ⊎ (slice_get w.sites giver ≡ None))
-  given_no_site-iff never not = (λ h. grind (arith, never, not), λ lacks. grind arith)
 
 -- ---- what stores answer
 
@@ -233,16 +222,7 @@ never_refused : (w : World) (number : ℕ) (change : Site → Site) (e : WorldRe
 never_refused w number change e h = grind arith
 
 pub no_site-iff : (w : World) (event : Event) → (stepped w event ≡ Err NoSite) ↔ LacksSite w event
-no_site-iff w (Edit number lo hi put) = change_no_site-iff w number (splices w lo hi put.items) (spliced_by number lo hi put.items)
-no_site-iff w (Revert number gone back) = change_no_site-iff w number (reverts w back.items) (reverted_by number gone.items back.items)
-no_site-iff w (Save number) = (λ h. grind arith, λ h. grind arith)
-no_site-iff w (SaveOne number place) = (λ h. grind arith, λ h. grind arith)
-no_site-iff w (Restart number) = (λ h. grind arith, λ h. grind arith)
-no_site-iff w (Deliver taker giver place) =
-    given_no_site-iff w taker giver (operation_of w giver place) (delivered w.limit) (λ g none. grind arith) (λ op s refused. grind arith)
-no_site-iff w (DeliverList taker giver lo hi) =
-    given_no_site-iff w taker giver (list_of w giver lo hi) (list_delivered w.limit) (λ g none. grind arith)
-    (λ ops s refused. let (f, by_store, is) = joined_err (list_answer w.limit s.content ops) ops s NoSite refused in site-store f (sym is))
+no_site-iff w event = grind arith
 
 pub no_operation-iff : (w : World) (event : Event) → (stepped w event ≡ Err NoOperation) ↔ LacksOperation w event
 no_operation-iff w (Edit number lo hi put) = (change_has_operation w number (splices w lo hi put.items) (spliced_by number lo hi put.items), λ never. absurd never)
