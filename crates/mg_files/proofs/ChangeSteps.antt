@@ -1,33 +1,30 @@
 -- A buffer and its log, through changes.
-use Rattle.std.proofs.Common.{◌≡◌, ℕ, ◌≤◌, zero, suc, true, List, [], ◌++◌, length, Option, Some, None, Ok, Err, refl, sym, ap, subst, ◌∙◌, append-nil, inl, inr, Bool, false, cond, Result, ◌∷◌, ◌+◌, map, filter, take, drop}
-use Rattle.std.specs.Prelude.{Contains, ◌⊎◌}
-use Rattle.std.proofs.lemmas.Option.{get_or_from_slice_get, same_Some}
+use Rattle.std.proofs.Common.{◌≡◌, ℕ, ◌≤◌, zero, suc, true, List, [], ◌++◌, length, Option, Some, Ok, Err, refl, sym, ap, subst, ◌∙◌, append-nil, inl, inr, Bool, false, cond, Result, ◌∷◌, ◌+◌, map, filter, take, drop, arith}
+use Rattle.std.specs.Prelude.{Contains}
+use Rattle.std.proofs.lemmas.Option.{get_or_from_slice_get, same_Some, none-some}
 use Rattle.std.specs.List.{slice_get}
 use Rattle.std.specs.Option.{option_map, unwrap_or}
-use Rattle.rga_ops.specs.Content.{Content, element, join, content_of, known_ids, Holds, IsSound, IsAgreed, IsWithin, clock_of}
+use Rattle.rga_ops.specs.Content.{Content, join, content_of, known_ids, IsSound, IsAgreed, IsWithin, clock_of}
 use Rattle.rga_ops.specs.ListAnswer.{Verdict, IsJoinable, AreWellFormed, list_answer}
 use Rattle.rga_ops.specs.NewOperations.{new_operations}
-use Rattle.rga_ops.specs.Operation.{checked}
 use Rattle.rga_ops.specs.declared.op.Op.{Op}
 use Rattle.rga_ops.specs.declared.op.Op.TheVariants.{Insert, Delete}
 use Rattle.rga_ops.proofs.AgreeLaws.{joinable_nothing}
 use Rattle.rga_ops.proofs.ContentLaws.{join_nothing, within_itself, within_chain, join_assoc}
 use Rattle.rga_ops.proofs.ListAnswerLaws.{list_taken-iff}
 use Rattle.rga_ops.proofs.NewLaws.{content-new, new_among}
-use Rattle.rga_ops.proofs.OperationLaws.{inserted-iff, deleted-iff, Contains-nil, Contains-cases, Contains-append, content_of-append}
+use Rattle.rga_ops.proofs.OperationLaws.{inserted-iff, Contains-nil, Contains-cases, Contains-append, content_of-append}
 use Rattle.rga_ops.proofs.SoundLaws.{join_holds}
 use Rattle.rga_doc.specs.LocalEdit.{edit_answer, left_of, chain, splice_operations, splices_operations}
 use Rattle.rga_doc.specs.Revert.{are_restorable, revert_answer, distinct_elements, restorations, revert_operations}
 use Rattle.rga_doc.proofs.EditLaws.{splices_taken}
 use Rattle.rga_doc.proofs.RevertLaws.{revert_taken}
-use Rattle.mg_buffer.specs.Faults.{FaultVerdict, stored, growth_answer, undo_answer}
+use Rattle.mg_buffer.specs.Faults.{stored, growth_answer, undo_answer}
 use Rattle.mg_buffer.specs.Groups.{Past, last_group}
 use Rattle.mg_buffer.specs.Ran.{Ran, operations_of_splices}
 use Rattle.mg_buffer.specs.Sight.{CommandCall, Notes}
 use Rattle.mg_buffer.specs.State.{State}
 use Rattle.mg_buffer.specs.Undid.{undo_operations}
-use Rattle.mg_buffer.specs.declared.fault.BufferFault.{BufferFault}
-use Rattle.mg_buffer.specs.declared.fault.BufferFault.TheVariants.{Store}
 use Rattle.mg_buffer.proofs.GroupLaws.{past_restorable}
 use Rattle.mg_buffer.specs.OpenState.{OpenState, has_unsaved}
 use Rattle.mg_files.specs.Held.{Held, MayLead}
@@ -43,6 +40,7 @@ use Rattle.rga_ops.specs.Identifier.{Identifier, identifier}
 use Rattle.rga_ops.specs.Places.{is_visible, visible}
 use Rattle.rga_ops.specs.Splice.{Splice}
 use Rattle.std.specs.FinSet as finite_set
+use Rattle.rga_world.proofs.StoredLaws.{held_listed}
 
 -- ---- commands, undos and operations of others, as operations that are joined and all unsaved
 
@@ -58,23 +56,18 @@ pub record Joins (b d : State) (ops : List Op) : Type 0 where
 
 -- ---- what is sound stays so
 
-listed : (ops : List Op) → IsAgreed ops → (op : Op) → Holds (content_of ops) op → Contains ops op
-listed ops agreed (Insert id parent ch) h = (inserted-iff ops agreed id (element parent ch)).0 h
-listed ops agreed (Delete id) h = (deleted-iff ops id).0 h
-
-sound_joined : (c : Content) (ops : List Op) → IsSound c → IsAgreed ops → AreWellFormed ops → IsSound (join c (content_of ops))
-sound_joined c ops sound agreed well op h = by (join_holds c (content_of ops) op h)
-  where
-    by : Holds c op ⊎ Holds (content_of ops) op → checked op ≡ Ok tt
-    by (inl here) = sound op here
-    by (inr there) = well op (listed ops agreed op there)
+sound_joined : (c : Content) (ops : List Op) → IsSound c → AreWellFormed ops → IsSound (join c (content_of ops))
+sound_joined c ops sound well op h = elim (join_holds c (content_of ops) op h) [
+  | inl here ↦ sound op here
+  | inr there ↦ well op (held_listed ops op there)
+]
 
 -- ---- a change between saves
 
 pub after_change : (held : Content) (b d : OpenState) (s t : Held) (log : Option (List ℕ)) (ops : List Op) → IsLogged held b log → ChangesAlone b d s t → Joins b.buffer d.buffer ops → IsLogged held d log
 after_change held b d s t log ops h alone j =
     after_operations held b d log ops h j.content j.unsaved j.limit (ap (λ (x : OpenState). x.whole) alone.rest) (ap (λ (x : OpenState). x.text_waits) alone.rest) j.joinable
-    (subst IsSound (sym j.content) (sound_joined b.buffer.content ops h.sound j.joinable.agreed j.well_formed))
+    (subst IsSound (sym j.content) (sound_joined b.buffer.content ops h.sound j.well_formed))
     alone.writable
     (subst (λ c. finite_set.len (known_ids c) ≤ d.buffer.limit) (sym j.content) (subst (λ n. finite_set.len (known_ids (join b.buffer.content (content_of ops))) ≤ n) (sym j.limit) j.fits))
 
@@ -91,40 +84,17 @@ ran_joins call b old d new r =
 
 -- ---- an undo
 
-abbrev Numbered : Type 0
-Numbered = ℕ × Past
-
-abbrev none : Option Numbered
-none = None
-
-found_at : (i index : ℕ) (group : Past) (o : Option Past) → option_map {U = Numbered} (λ g. (i, g)) o ≡ Some (index, group) → (i ≡ index) × (o ≡ Some group)
-found_at i index group None h = absurd (let clash : none ≡ Some (index, group) = h in cc)
-found_at i index group (Some g) h =
-    (ap first h, ap second h)
-  where
-    first : Option Numbered → ℕ
-    first None = i
-    first (Some p) = p.0
-
-    second : Option Numbered → Option Past
-    second None = None
-    second (Some p) = Some p.1
+found_at : (i index : ℕ) (group : Past) (o : Option Past) → option_map {U = ℕ × Past} (λ g. (i, g)) o ≡ Some (index, group) → (i ≡ index) × (o ≡ Some group)
+found_at i index group o h = grind arith
 
 last_at : (groups : List Past) (count index : ℕ) (group : Past) → last_group groups count ≡ Some (index, group) → slice_get groups index ≡ Some group
-last_at groups zero index group h = absurd (let clash : none ≡ Some (index, group) = h in cc)
+last_at groups zero index group h = absurd (none-some _ h)
 last_at groups (suc i) index group h =
     let at = found_at i index group (slice_get groups i) h in
     subst (λ k. slice_get groups k ≡ Some group) at.0 at.1
 
-abbrev well : FaultVerdict
-well = Ok tt
-
-abbrev ill : BufferFault → FaultVerdict
-ill e = Err e
-
 stored_well : (v : Verdict) → stored v ≡ Ok tt → v ≡ Ok tt
-stored_well (Ok u) h = refl
-stored_well (Err e) h = absurd (let clash : ill (Store e) ≡ well = h in cc)
+stored_well v h = grind arith
 
 -- what is reverted may be
 pub undo_allowed : (b : State) (old : Notes) (d : State) (new : Notes) (u : UndoesOne b old d new) → revert_answer b.limit b.content u.undid.group.deleted ≡ Ok tt

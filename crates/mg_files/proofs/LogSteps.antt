@@ -1,5 +1,5 @@
 -- What a log stands for, through saves and loads.
-use Rattle.std.proofs.Common.{◌≡◌, ℕ, ◌≤◌, List, take, drop, sym, ap, subst, ◌∙◌, ◌&&◌, Bool, true, false, cond, nat_lt, lit≤, [], ◌++◌, length, Option, Some, None, Ok, refl, le_trans, inl, inr, true≢false, ◌||◌, ◌∷◌, Result}
+use Rattle.std.proofs.Common.{◌≡◌, ℕ, ◌≤◌, List, take, drop, sym, ap, subst, ◌∙◌, ◌&&◌, Bool, true, false, cond, nat_lt, lit≤, [], ◌++◌, length, Option, Some, None, Ok, refl, le_trans, inl, inr, true≢false, ◌||◌, ◌∷◌, Result, arith}
 use Rattle.std.specs.Prelude.{Contains, ◌⊎◌}
 use Rattle.std.proofs.lemmas.List.{take-append-drop}
 use Rattle.std.proofs.lemmas.Option.{same_Some, none-some}
@@ -317,14 +317,7 @@ nothing_called b s t m = ap (λ (f : Files). f.log) (m b.buffer.name)
 -- ---- a buffer of which nothing is unsaved
 
 none_unsaved : (b : OpenState) → has_unsaved b ≡ false → b.buffer.unsaved ≡ []
-none_unsaved b e = by b.buffer.unsaved refl
-  where
-    has : List Op → Bool
-    has ops = has_unsaved (record b { buffer = record b.buffer { unsaved = ops } })
-
-    by : (ops : List Op) → b.buffer.unsaved ≡ ops → b.buffer.unsaved ≡ []
-    by [] same = same
-    by (op ∷ ops) same = absurd (true≢false (sym (ap has same) ∙ e))
+none_unsaved b e = grind arith
 
 pub held_is : (held : Content) (b : OpenState) (log : Option (List ℕ)) → IsLogged held b log → has_unsaved b ≡ false → held ≡ b.buffer.content
 held_is held b log h e = sym (h.content ∙ ap (λ ops. join held (content_of ops)) (none_unsaved b e) ∙ join_nothing held)

@@ -52,8 +52,7 @@ adds_then (Some told) mid new xs ys h k = subst (λ m. Adds m new ys) h k ∙ ap
 
 -- of what the writing of a log leaves
 if_written : {A : Type 0} (f : OpenState → A) (x : Bool) (b : OpenState) → f (written b) ≡ f b → f (if x then written b else b) ≡ f b
-if_written f true b same = same
-if_written f false b same = refl
+if_written f x b same = grind arith
 
 pub saved_content : (b : OpenState) → (saved b).buffer.content ≡ b.buffer.content
 saved_content b = if_written (λ o. o.buffer.content) (has_unsaved b) b refl

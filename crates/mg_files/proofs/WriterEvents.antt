@@ -1,10 +1,10 @@
 -- What a writer does, as events at its site.
-use Rattle.std.proofs.Common.{◌≡◌, ◌<◌, ◌≤◌, ◌^◌, ℕ, zero, suc, List, [], ◌∷◌, ◌++◌, length, Some, Vec, slice_get, slice_set, refl, sym, ap, subst, ◌∙◌, arith, lit≤, ◌+◌, ◌&&◌, Bool, true, false, cond, nat_le, nat_lt, le-leb, map, take, drop, not, filter, true≢false, inl, inr, chars, Option, None}
+use Rattle.std.proofs.Common.{◌≡◌, ◌<◌, ◌≤◌, ◌^◌, ℕ, List, [], ◌∷◌, ◌++◌, length, Some, Vec, slice_get, refl, sym, ap, subst, ◌∙◌, arith, lit≤, ◌+◌, ◌&&◌, Bool, true, false, cond, nat_le, nat_lt, le-leb, map, take, drop, not, filter, true≢false, inl, inr, chars, Option, None}
 use Rattle.std.specs.Prelude.{Ok, Err, Contains, Result, ◌⊎◌}
 use Rattle.std.specs.List.{AllByRecursion, list_any}
 use Rattle.std.specs.declared.alloc.Global.{Global}
 use denote.RawPtr.{null_ptr}
-use Rattle.rga_ops.specs.Content.{Content, known_ids, known_count, clock_of, join, content_of, single, Holds, IsWithin, nothing}
+use Rattle.rga_ops.specs.Content.{Content, known_count, clock_of, join, content_of, single, Holds, IsWithin, nothing}
 use Rattle.rga_ops.proofs.MemberLaws.{all_append, all_map}
 use Rattle.rga_store.proofs.CountedLaws.{within_limits}
 use Rattle.rga_world.specs.Sites.{Site, site, World}
@@ -12,10 +12,10 @@ use Rattle.rga_world.specs.Steps.{stepped, kept, world_after, replica_of}
 use Rattle.rga_world.specs.Together.{PutsCharacters, IsReached}
 use Rattle.rga_world.specs.Words.{with_site}
 use Rattle.rga_world.specs.declared.event.Event.{Event}
-use Rattle.rga_world.proofs.ListPlaces.{set_here, contains_place, set_old}
+use Rattle.rga_world.proofs.ListPlaces.{set_here, set_old}
 use Rattle.rga_world.proofs.RunLaws.{reached_on, world_after-append}
 use Rattle.rga_world.proofs.SiteSteps.{set_same}
-use Rattle.rga_world.proofs.StoredLaws.{reached_storable, held_listed}
+use Rattle.rga_world.proofs.StoredLaws.{reached_storable}
 use Rattle.mg_files.specs.Kept.{IsLogged, IsWritableWhole, IsLoggedBy}
 use Rattle.mg_files.specs.Writers.{Writer, own_files, own_limit, own_content, own_replica, IsOpenedAnew, IsSiteOf}
 use Rattle.std.specs.Char.{IsScalar}
@@ -42,18 +42,17 @@ use Rattle.rga_doc.proofs.EditSteps.{shows_long}
 use Rattle.rga_lines.specs.Spelling.{IsWritable}
 use Rattle.rga_exchange.specs.Sending.{AreWritable}
 use Rattle.rga_world.specs.declared.event.Event.TheVariants.{Edit, Revert, Deliver, SaveOne, Restart}
-use Rattle.rga_world.proofs.WordLaws.{edited-iff, reverted-iff, delivered-iff, restarted-iff}
+use Rattle.rga_world.proofs.WordLaws.{edited-iff, reverted-iff, delivered-iff, restarted-iff, answered_ok}
 use Rattle.rga_ops.specs.RootPath.{is_complete}
 use Rattle.rga_ops.proofs.DeletionLaws.{order-deletion}
 use Rattle.rga_ops.proofs.TakenLaws.{held_adds_nothing, taken_is, held_stays}
 use Rattle.rga_doc.specs.Revert.{distinct_elements, restorations, revert_operations, are_restorable, revert_answer}
 use Rattle.rga_doc.proofs.RevertLaws.{AreComplete, complete_by_order, removes, gone_complete}
-use Rattle.rga_ops.specs.Answer.{answer, after_answer, taken, and_take, taken_one_by_one}
+use Rattle.rga_ops.specs.Answer.{answer, taken, taken_one_by_one}
 use Rattle.rga_ops.specs.Operations.{operations}
-use Rattle.rga_ops.specs.declared.refusal.Refusal.{Refusal}
 use Rattle.rga_ops.specs.declared.refusal.Taken.{Taken}
 use Rattle.rga_ops.proofs.OperationsLaws.{content_of-operations, operations_hold}
-use Rattle.rga_world.proofs.ProgramLaws.{held_can_be_saved}
+use Rattle.rga_world.proofs.ProgramLaws.{held_can_be_saved, held_place, set_twice, take_ok}
 use Rattle.mg_files.proofs.LogSteps.{join_within, writable_all}
 use Rattle.std.specs.Str.{is_utf8}
 use Rattle.rga_ops.proofs.ListAnswerLaws.{list_taken-iff}
@@ -65,12 +64,13 @@ use Rattle.rga_exchange.specs.declared.log.LogEnd.{LogEnd}
 use Rattle.rga_exchange.specs.declared.log.LogEnd.TheVariants.{Whole}
 use Rattle.mg_buffer.specs.OpenState.{OpenState, with_brief, with_runs}
 use Rattle.mg_files.specs.Files.{Files}
-use Rattle.mg_files.specs.Loading.{Loaded, loaded, of_log, log_loaded, text_insertions, text_loaded, either_loaded, files_loaded, opened}
+use Rattle.mg_files.specs.Loading.{Loaded, loaded, of_log, log_loaded, text_insertions, text_loaded, either_loaded, files_loaded}
 use Rattle.mg_files.specs.declared.fault.LoadFault.TheVariants.{Log, NotText, Store}
 use Rattle.mg_files.proofs.LoadedLaws.{splice_of_nothing, limit_of}
 use Rattle.mg_files.specs.Held.{log_bytes}
 use Rattle.mg_files.proofs.OpenSteps.{IsOpenedBy, opened_by, good, bad, same_loaded, full, fine, opened_kept}
 use Rattle.std.specs.FinSet as finite_set
+use Rattle.rga_world.proofs.StepLaws.{same_Ok}
 
 -- ---- events that lead from one world to another, and what they make of one of its sites
 
@@ -115,11 +115,6 @@ Makes w number t = LeadsTo w (with_site w number t)
 
 pub stays_site : (w : World) (number : ℕ) (s : Site) → slice_get w.sites number ≡ Some s → Makes w number s
 stays_site w number s at = subst (λ xs. LeadsTo w (record w { sites = xs })) (sym (set_same w.sites number s at)) (no_event w)
-
-set_twice : {A : Type 0} (xs : List A) (i : ℕ) (x y : A) → slice_set (slice_set xs i x) i y ≡ slice_set xs i y
-set_twice [] i x y = refl
-set_twice (z ∷ xs) zero x y = refl
-set_twice (z ∷ xs) (suc i) x y = ap (λ ys. z ∷ ys) (set_twice xs i x y)
 
 pub then_makes : (w : World) (number : ℕ) (t u : Site) → Makes w number t → Makes (with_site w number t) number u → Makes w number u
 then_makes w number t u first second =
@@ -394,10 +389,6 @@ pub record IsSavedIn (w : World) (op : Op) : Type 0 where
   pub there : slice_get w.sites giver ≡ Some origin
   pub saved : Holds origin.saved op
 
--- it has a place among those that are saved
-place_of : (c : Content) (op : Op) → Holds c op → (i : ℕ) × (slice_get (operations c) i ≡ Some op)
-place_of c op h = contains_place (operations c) op (held_listed (operations c) op (subst (λ d. Holds d op) (sym (content_of-operations c)) h))
-
 -- and is saved still, whatever a site takes
 saved_still : (w : World) (taker : ℕ) (s : Site) (c : Content) (op : Op) → slice_get w.sites taker ≡ Some s → IsSavedIn w op → IsSavedIn (with_site w taker (site c s.saved)) op
 saved_still w taker s c op at g = elim (set_old w.sites taker g.giver s (site c s.saved) g.origin at g.there) [
@@ -407,7 +398,7 @@ saved_still w taker s c op at g = elim (set_old w.sites taker g.giver s (site c 
 
 one_taken : (w : World) (taker : ℕ) (s : Site) (op : Op) (how : Taken) → slice_get w.sites taker ≡ Some s → answer w.limit s.content op ≡ Ok how → IsSavedIn w op → Makes w taker (site (join s.content (single op)) s.saved)
 one_taken w taker s op how at took g =
-    let place = place_of g.origin.saved op g.saved in
+    let place = held_place g.origin.saved op g.saved in
     let v : World = with_site w taker (site (join s.content (single op)) s.saved) in
     one_event w v (Deliver taker g.giver place.0) ((delivered-iff w v taker g.giver place.0).1 (record {
       op = op;
@@ -419,32 +410,12 @@ one_taken w taker s op how at took g =
 
 -- ---- several in turn
 
-abbrev Taking : Type 0
-Taking = Result Content Refusal
-
-abbrev took_it : Content → Taking
-took_it c = Ok c
-
-abbrev not_taken : Refusal → Taking
-not_taken e = Err e
-
-take_ok : (r : Taking) (f : Content → Taking) (d : Content) → and_take r f ≡ took_it d → (c : Content) × (r ≡ took_it c) × (f c ≡ took_it d)
-take_ok (Ok c) f d h = (c, refl, h)
-take_ok (Err e) f d h = absurd (let clash : not_taken e ≡ took_it d = h in cc)
-
-answered_ok : (c d : Content) (op : Op) (r : Result Taken Refusal) → after_answer c op r ≡ took_it d → (how : Taken) × (r ≡ Ok how)
-answered_ok c d op (Ok how) h = (how, refl)
-answered_ok c d op (Err e) h = absurd (let clash : not_taken e ≡ took_it d = h in cc)
-
-same_content : (c d : Content) → took_it c ≡ took_it d → c ≡ d
-same_content c d h = cc
-
 pub all_taken : (ops : List Op) (w : World) (taker : ℕ) (s : Site) (d : Content) → slice_get w.sites taker ≡ Some s → ((op : Op) → Contains ops op → IsSavedIn w op) → taken_one_by_one w.limit s.content ops ≡ Ok d
     → Makes w taker (site d s.saved)
-all_taken [] w taker s d at each took = makes_same w taker s (site d s.saved) (ap (λ c. site c s.saved) (same_content s.content d took)) (stays_site w taker s at)
+all_taken [] w taker s d at each took = makes_same w taker s (site d s.saved) (ap (λ c. site c s.saved) (same_Ok s.content d took)) (stays_site w taker s at)
 all_taken (op ∷ ops) w taker s d at each took =
     let (c, first, rest) = take_ok (taken w.limit s.content op) (λ e. taken_one_by_one w.limit e ops) d took in
-    let how = answered_ok s.content c op (answer w.limit s.content op) first in
+    let how = answered_ok w.limit s.content c op first in
     let t : Site = site (join s.content (single op)) s.saved in
     let later : taken_one_by_one w.limit t.content ops ≡ Ok d = ap (λ e. taken_one_by_one w.limit e ops) (sym (taken_is w.limit s.content op c first).joined) ∙ rest in
     then_makes w taker t (site d s.saved) (one_taken w taker s op how.0 at how.1 (each op (Contains-first op ops)))

@@ -1,7 +1,7 @@
 -- Writers, and the world in which they are sites.
-use Rattle.std.proofs.Common.{◌≡◌, ◌<◌, ◌^◌, ℕ, Bool, List, length, Option, Some, Result, Ok, slice_get, refl, sym, ap, subst, ◌∙◌, ◌≤◌, zero, suc, [], ◌∷◌, slice_set, inl, inr, arith, ◌+◌, ◌-◌, true, None, replicate, true≢false, map, filter, ◌++◌}
+use Rattle.std.proofs.Common.{◌≡◌, ◌<◌, ℕ, Bool, List, length, Some, Result, Ok, slice_get, refl, sym, ap, subst, ◌∙◌, ◌≤◌, zero, suc, [], ◌∷◌, slice_set, inl, inr, arith, ◌+◌, ◌-◌, true, replicate, true≢false, map, ◌++◌}
 use Rattle.std.specs.Prelude.{Contains, ◌⊎◌, Err}
-use Rattle.rga_ops.specs.Content.{Content, join, content_of, Holds, IsWithin, nothing, known_ids, known_count, IsSound, Element, element, HasAnother, Agree}
+use Rattle.rga_ops.specs.Content.{Content, join, content_of, Holds, IsWithin, nothing, known_ids, IsSound, element, HasAnother, Agree}
 use Rattle.rga_ops.specs.NewOperations.{new_operations}
 use Rattle.rga_ops.specs.ListAnswer.{list_answer, IsJoinable}
 use Rattle.rga_ops.specs.Order.{text}
@@ -16,11 +16,9 @@ use Rattle.rga_world.specs.Sites.{Site, site, World, new_world}
 use Rattle.rga_world.specs.Steps.{replica_of, world_after}
 use Rattle.rga_world.specs.Together.{IsReached, PutsCharacters, HaveSameIdentifiers, AllAgree, contents, join_of}
 use Rattle.mg_buffer.specs.Groups.{Past}
-use Rattle.mg_buffer.specs.OpenState.{OpenState}
-use Rattle.mg_buffer.specs.Ran.{Ran, operations_of_splices}
+use Rattle.mg_buffer.specs.Ran.{Ran}
 use Rattle.mg_buffer.specs.Sight.{CommandCall, Notes}
 use Rattle.mg_buffer.specs.State.{State}
-use Rattle.mg_buffer.specs.Undid.{undo_operations}
 use Rattle.mg_files.specs.Files.{Files}
 use Rattle.mg_files.specs.declared.port.PortFault.{PortFault}
 use Rattle.mg_files.specs.Held.{log_bytes}
@@ -35,7 +33,7 @@ use Rattle.std.proofs.lemmas.Option.{same_Some, none-some}
 use Rattle.rga_world.specs.Words.{with_site}
 use Rattle.rga_world.specs.declared.event.Event.{Event}
 use Rattle.rga_world.proofs.ListPlaces.{contains_at, contains_place, set_old, mapped_place, place_mapped}
-use Rattle.rga_ops.specs.Identifier.{id_cmp, Identifier}
+use Rattle.rga_ops.specs.Identifier.{Identifier}
 use Rattle.rga_ops.specs.declared.op.Op.TheVariants.{Insert, Delete}
 use Rattle.rga_ops.proofs.AgreeLaws.{joinable_nothing, held_agree, agree_within}
 use Rattle.rga_ops.proofs.ContentLaws.{nothing_join, within_itself, within_chain}
@@ -50,8 +48,8 @@ use Rattle.rga_ops.proofs.OperationLaws.{content_inserted}
 use Rattle.rga_ops.proofs.TakenLaws.{held_stays}
 use Rattle.rga_world.proofs.Consistent.{IsConsistent, sites_agree}
 use Rattle.rga_world.proofs.TogetherLaws.{within_all, within_join_of, same_if_same_identifiers, join_of_least}
-use Rattle.std.specs.FinMap as finite_map
 use Rattle.std.specs.FinSet as finite_set
+use Rattle.rga_world.proofs.StoredLaws.{nothing_holds}
 
 -- ---- what a writer does, at its site
 
@@ -163,10 +161,7 @@ changed_at [] i j y z h = absurd (none-some z h)
 changed_at (x ∷ xs) zero zero y z h = inl (refl, sym (same_Some y z h))
 changed_at (x ∷ xs) zero (suc j) y z h = inr (λ e. omega (arith, e), h)
 changed_at (x ∷ xs) (suc i) zero y z h = inr (λ e. omega (arith, e), h)
-changed_at (x ∷ xs) (suc i) (suc j) y z h = elim (changed_at xs i j y z h) [
-  | inl same ↦ inl (ap (λ n. suc n) same.0, same.1)
-  | inr other ↦ inr (λ e. other.0 (omega (arith, e)), other.1)
-]
+changed_at (x ∷ xs) (suc i) (suc j) y z h = grind (arith, changed_at xs i j y z h)
 
 module _ (ws : List Writer) (number : ℕ) (x y : Writer) (was : slice_get ws number ≡ Some x) (own : HaveOwnNumbers ws) (same : own_replica y ≡ own_replica x) where
   abbrev now : List Writer
@@ -268,11 +263,6 @@ acts_go (act ∷ acts) ws vs w reached sites own (us, first, later) =
 
 -- ---- writers that hold nothing are sites of a world in which nothing has happened; those that are reached are sites of a
 
--- world that is reached.
-none_held : (op : Op) → Holds nothing op → ⊥
-none_held (Insert id parent ch) h = none-some _ (sym (finite_map.get-empty id_cmp id) ∙ h)
-none_held (Delete id) h = true≢false (sym h ∙ finite_set.contains-empty id_cmp id)
-
 -- nothing is kept beside no log
 fresh_logged : (most : ℕ) (x : Writer) → IsFresh most x → IsLogged nothing x.buffer (own_files x).log
 fresh_logged most x f = record {
@@ -281,8 +271,8 @@ fresh_logged most x f = record {
   ended = λ _. ap (λ log. rest_of (log_bytes log)) f.log;
   content = f.content ∙ sym (nothing_join nothing) ∙ ap (λ ops. join nothing (content_of ops)) (sym f.unsaved);
   joinable = subst (IsJoinable nothing) (sym f.unsaved) (joinable_nothing nothing);
-  sound = subst IsSound (sym f.content) (λ op h. absurd (none_held op h));
-  writable = subst IsWritableWhole (sym f.content) (λ op h. absurd (none_held op h));
+  sound = subst IsSound (sym f.content) (λ op h. absurd (nothing_holds op h));
+  writable = subst IsWritableWhole (sym f.content) (λ op h. absurd (nothing_holds op h));
   fits = subst (λ c. finite_set.len (known_ids c) ≤ own_limit x) (sym f.content) (subst (λ n. n ≤ own_limit x) (sym known_nothing) (omega arith));
   waits = λ e. absurd (true≢false (sym e ∙ f.waits));
 }
