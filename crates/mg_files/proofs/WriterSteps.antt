@@ -262,6 +262,7 @@ acts_go (act ∷ acts) ws vs w reached sites own (us, first, later) =
     record { world = rest.world; leads = then_events w g.world rest.world g.leads rest.leads; sites = rest.sites }
 
 -- ---- writers that hold nothing are sites of a world in which nothing has happened; those that are reached are sites of a
+-- world that is reached.
 
 -- nothing is kept beside no log
 fresh_logged : (most : ℕ) (x : Writer) → IsFresh most x → IsLogged nothing x.buffer (own_files x).log
