@@ -1,11 +1,12 @@
 -- How many entries are visible in a list that changes, and which these are.
-use Rattle.std.proofs.Common.{min, ◌≡◌, ℕ, ◌+◌, ◌-◌, ◌<◌, ◌≤◌, suc, zero, Bool, true, false, cond, not, List, [], ◌∷◌, ◌++◌, length, take, drop, slice_index_or, refl, sym, ap, ◌∙◌, arith, append_assoc, length-append, drop-cons}
+use Rattle.std.proofs.Common.{min, ◌≡◌, ℕ, ◌+◌, ◌-◌, ◌<◌, ◌≤◌, suc, zero, Bool, true, false, cond, not, List, [], ◌∷◌, ◌++◌, length, take, drop, slice_index_or, refl, sym, ap, ◌∙◌, arith, length-append, drop-cons}
 use Rattle.std.specs.Prelude.{remove}
 use Rattle.std.specs.List.{slice_get}
 use Rattle.std.proofs.lemmas.List.{append-nil, take_more, drop_more, map-append, take-append-drop, drop-take, length-take, length-take-le, take_min, length-map, take-map, drop-map, drop_all}
 use Rattle.std.proofs.lemmas.List.Sums.{length-filter, count_by-le-length}
 use Rattle.std.proofs.lemmas.List.Elements.{filter-append}
 use Rattle.rga_ops.specs.Identifier.{Identifier}
+use Rattle.rga_pages.proofs.PartLaws.{before_is, flat_both}
 use Rattle.rga_sequence.specs.declared.entry.Entry.{Entry}
 use Rattle.rga_sequence.specs.Entries.{ids, visible_entries, visible_count, visible_ids}
 use Rattle.rga_sequence.specs.Blocks.{Blocks, flat, before, insert_all, mark_at_index}
@@ -136,15 +137,6 @@ ids_range xs lo hi end h e =
     up i n w = omega arith
 
 -- ---- before a place
-
-pub before_is : (bs : Blocks) (b i : ℕ) (d : List Entry) → b < length bs → before bs b i ≡ flat (take b bs) ++ take i (slice_index_or bs b d)
-before_is [] b i d w = absurd (omega arith)
-before_is (x ∷ xs) zero i d w = refl
-before_is (x ∷ xs) (suc b) i d w = ap (λ r. x ++ r) (before_is xs b i d (omega arith)) ∙ sym (append_assoc x (flat (take b xs)) (take i (slice_index_or xs b d)))
-
-pub flat_both : (xs ys : Blocks) → flat (xs ++ ys) ≡ flat xs ++ flat ys
-flat_both [] ys = refl
-flat_both (x ∷ xs) ys = ap (λ r. x ++ r) (flat_both xs ys) ∙ sym (append_assoc x (flat xs) (flat ys))
 
 pub count_one_more : (bs : Blocks) (i : ℕ) (b : List Entry) → i < length bs → b ≡ slice_index_or bs i b → visible_count (flat (take (i + 1) bs)) ≡ visible_count (flat (take i bs)) + visible_count b
 count_one_more bs i b w is =

@@ -1,15 +1,16 @@
 -- What is noted of groups of blocks: how it stays where blocks change, and what is counted by it.
-use Rattle.std.proofs.Common.{nat_lt, min, ◌≡◌, ℕ, suc, zero, true, false, ◌+◌, ◌-◌, ◌*◌, ◌≤◌, ◌<◌, List, [], ◌∷◌, ◌++◌, length, take, drop, slice_index_or, refl, sym, ap, ◌∙◌, subst, arith, length-append, add-one}
+use Rattle.std.proofs.Common.{inl, inr, min, ◌≡◌, ℕ, suc, zero, ◌+◌, ◌-◌, ◌*◌, ◌≤◌, ◌<◌, List, [], ◌∷◌, ◌++◌, length, take, drop, slice_index_or, refl, sym, ap, ◌∙◌, subst, arith, length-append, add-one}
 use Rattle.std.specs.Prelude.{insert, remove, slice_get, slice_set, sum}
 use Rattle.rga_ops.specs.Identifier.{Identifier}
 use Rattle.std.proofs.lemmas.List.{get_or_default, get_or_append_left, get_or_push, take_at, length-set, length-take, length-take-le, take-append-drop, take-take, take-set-le, get_or-take, get_or-set_same, get_or-set_other}
+use Rattle.std.proofs.lemmas.Bool.{cases_eq, cases_order}
 use Rattle.std.proofs.lemmas.List.Sums.{sum_by_more}
 use Rattle.rga_sequence.specs.declared.entry.Entry.{Entry}
 use Rattle.rga_sequence.specs.declared.groups.TheConstants.{GROUP}
 use Rattle.rga_sequence.specs.Entries.{visible_count, visible_ids}
 use Rattle.rga_sequence.specs.Blocks.{Blocks, flat, cut_in, AreNotes, IsCount, AreCounts}
-use Rattle.rga_sequence.proofs.PlaceLaws.{lt_so, le_so}
-use Rattle.rga_sequence.proofs.CountLaws.{flat_both, count_both, count_ids, count_one_more, ids_both, slice_back, range_both, range_none}
+use Rattle.rga_pages.proofs.PartLaws.{flat_both}
+use Rattle.rga_sequence.proofs.CountLaws.{count_both, count_ids, count_one_more, ids_both, slice_back, range_both, range_none}
 
 -- ---- blocks that come or go stand behind a beginning that stays
 
@@ -40,16 +41,14 @@ notes_taken IsNoted n notes bs all k d w =
     subst (λ x. IsNoted x (k * GROUP) (k * GROUP + GROUP) bs) (sym (get_or-take n notes k d (omega (arith, fewer, w)))) (all k d (omega (arith, fewer, w)))
 
 pub notes_more : {A : Type 0} (IsNoted : A → ℕ → ℕ → Blocks → Type 0) (notes : List A) (x : A) (bs : Blocks) → AreNotes IsNoted notes bs → IsNoted x (length notes * GROUP) (length notes * GROUP + GROUP) bs → AreNotes IsNoted (notes ++ x ∷ []) bs
-notes_more {A} IsNoted notes x bs all one k d w =
-    let more : length (notes ++ x ∷ []) ≡ length notes + 1 = length-append notes (x ∷ []) in
-    elim (nat_lt k (length notes)) as (λ t. nat_lt k (length notes) ≡ t → IsNoted (slice_index_or (notes ++ x ∷ []) k d) (k * GROUP) (k * GROUP + GROUP) bs) [
-      | true ↦ λ t. let v : k < length notes = lt_so k (length notes) t in
-          subst (λ m. IsNoted m (k * GROUP) (k * GROUP + GROUP) bs) (sym (get_or_append_left notes (x ∷ []) d k v)) (all k d v)
-      | false ↦ λ t. let past : length notes ≤ k = le_so k (length notes) t in
-          let last : length notes ≡ k = omega (arith, past, more, w) in
-          subst (λ n. IsNoted (slice_index_or (notes ++ x ∷ []) n d) (n * GROUP) (n * GROUP + GROUP) bs) last
-          (subst (λ m. IsNoted m (length notes * GROUP) (length notes * GROUP + GROUP) bs) (sym (get_or_push notes x d (length notes) refl)) one)
-    ] refl
+notes_more {A} IsNoted notes x bs all one k d w = elim (cases_eq (length notes) k) [
+  | inl last ↦
+      subst (λ n. IsNoted (slice_index_or (notes ++ x ∷ []) n d) (n * GROUP) (n * GROUP + GROUP) bs) last
+      (subst (λ m. IsNoted m (length notes * GROUP) (length notes * GROUP + GROUP) bs) (sym (get_or_push notes x d (length notes) refl)) one)
+  | inr other ↦
+      let v : k < length notes = omega (arith, other, length-append notes (x ∷ []), w) in
+      subst (λ m. IsNoted m (k * GROUP) (k * GROUP + GROUP) bs) (sym (get_or_append_left notes (x ∷ []) d k v)) (all k d v)
+]
 
 -- ---- counts
 
@@ -108,16 +107,10 @@ counts_set counts bs b g n v y all h first last e =
       whole = omega (arith, length-set counts g n, length-set bs b y, all.whole);
       counted = λ k d w.
           let there : k < length counts = subst (λ m. k < m) (length-set counts g n) w in
-          elim (nat_lt k g) as (λ t. nat_lt k g ≡ t → IsCount (slice_index_or (slice_set counts g n) k d) (k * GROUP) (k * GROUP + GROUP) (slice_set bs b y)) [
-            | true ↦ λ t. before k d there (lt_so k g t)
-            | false ↦ λ t. elim (nat_lt g k) as (λ u. nat_lt g k ≡ u → IsCount (slice_index_or (slice_set counts g n) k d) (k * GROUP) (k * GROUP + GROUP) (slice_set bs b y)) [
-              | true ↦ λ u. behind within k d there (lt_so g k u)
-              | false ↦ λ u. let not_less : g ≤ k = le_so k g t in
-                  let not_more : k ≤ g = le_so g k u in
-                  let same : g ≡ k = omega (arith, not_less, not_more) in
-                  subst (λ m. IsCount (slice_index_or (slice_set counts g n) m d) (m * GROUP) (m * GROUP + GROUP) (slice_set bs b y)) same (here within d)
-            ] refl
-          ] refl;
+          elim (cases_order g k) [
+            | inl same ↦ subst (λ m. IsCount (slice_index_or (slice_set counts g n) m d) (m * GROUP) (m * GROUP + GROUP) (slice_set bs b y)) same (here within d)
+            | inr apart ↦ elim apart [ inl more ↦ behind within k d there more | inr less ↦ before k d there less ]
+          ];
     }
   where
     before : (k d : ℕ) → k < length counts → k < g → IsCount (slice_index_or (slice_set counts g n) k d) (k * GROUP) (k * GROUP + GROUP) (slice_set bs b y)
