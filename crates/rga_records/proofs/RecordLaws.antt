@@ -23,6 +23,7 @@ use Rattle.rga_store.proofs.StepLaws.{deleted_then, deleted_now}
 use Rattle.rga_store.proofs.CaseSteps.{true_where}
 use Rattle.rga_store.specs.Without.{without_insertion, without_deletion}
 use Rattle.rga_pages.specs.declared.entry.Record.{Record}
+use Rattle.rga_pages.specs.Pages.{marked}
 use Rattle.rga_records.specs.Records.{Entries, element_of_record, insertion_of_record, ids_of_records_where, marked_record_ids, is_meaningful, content_of_records, AreOrdered}
 
 -- ---- what is found at an identifier
@@ -54,6 +55,10 @@ element_back v = shown v.ch
     shown : (o : Option ℕ) → option_map (λ x. element x.0 x.1) (option_map {U = Identifier × ℕ} (λ ch. (v.parent, ch)) o) ≡ option_map (λ ch. element v.parent ch) o
     shown None = refl
     shown (Some ch) = refl
+
+pub marked_element : (o : Option Record) → element_of (marked o) ≡ element_of o
+marked_element None = refl
+marked_element (Some r) = refl
 
 -- what is deleted or inserted has a record
 pub some_marked : (o : Option Record) → mark_of o ≡ true → is_some o ≡ true
