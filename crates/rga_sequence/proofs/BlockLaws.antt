@@ -1,9 +1,9 @@
 -- What a block keeps: an identifier that none is less than.
-use Rattle.std.proofs.Common.{◌≡◌, ℕ, suc, zero, Bool, true, false, List, [], ◌∷◌, ◌++◌, take, drop, refl, sym, ap, ◌∙◌, true≢false, length, ◌<◌, ◌+◌, cond, subst, slice_index_or}
+use Rattle.std.proofs.Common.{arith, rules, ◌≡◌, ℕ, suc, zero, Bool, true, false, List, [], ◌∷◌, ◌++◌, take, drop, refl, sym, ap, ◌∙◌, true≢false, length, ◌<◌, ◌+◌, subst, slice_index_or}
 use Rattle.std.specs.Prelude.{remove}
 use Rattle.std.specs.Cmp.{tied_itself}
 use Rattle.std.specs.Ordering.{is_gt}
-use Rattle.std.specs.declared.cmp.Ordering.TheVariants.{Less, Equal, Greater}
+use Rattle.std.specs.declared.cmp.Ordering.TheVariants.{Greater}
 use Rattle.std.proofs.lemmas.Bool.{false_from_ne_true}
 use Rattle.std.proofs.lemmas.List.{take_more}
 use Rattle.rga_pages.proofs.EntryLaws.{greater, turn}
@@ -14,18 +14,11 @@ use Rattle.rga_sequence.specs.Blocks.{AreFrom, larger_at_front, insert_all, mark
 
 -- where the least is larger than an identifier, so is each from it on
 larger_from : (least id k : Identifier) → is_gt (id_cmp least id) ≡ true → is_gt (id_cmp least k) ≡ false → id_cmp k id ≡ Greater
-larger_from least id k big from =
-    elim (id_cmp least k) as (λ o. id_cmp least k ≡ o → id_cmp k id ≡ Greater) [
-      | Less ↦ λ e. turn id k Less (ids_total.trans id least k (turn least id Greater (greater (id_cmp least id) big)) e)
-      | Equal ↦ λ e. ap (λ q. id_cmp q id) (sym (ids_exact least k e)) ∙ greater (id_cmp least id) big
-      | Greater ↦ λ e. absurd (true≢false (sym (ap is_gt e) ∙ from))
-    ] refl
+larger_from least id k big from = search (rules, turn, greater, ids_exact)
 
 pub all_larger : (least id : Identifier) (xs : List Entry) → is_gt (id_cmp least id) ≡ true → AreFrom least xs → larger_at_front id xs ≡ length xs
 all_larger least id [] big from = refl
-all_larger least id (x ∷ xs) big from =
-    ap (λ o. cond (is_gt o) (suc (larger_at_front id xs)) 0) (larger_from least id x.id big from.0)
-    ∙ ap (λ n. suc n) (all_larger least id xs big from.1)
+all_larger least id (x ∷ xs) big from = grind (arith, larger_from, all_larger least id xs big from.1)
 
 -- what is not larger than another, that is not larger than a third
 pub not_larger : (a b d : Identifier) → is_gt (id_cmp a b) ≡ false → is_gt (id_cmp b d) ≡ false → is_gt (id_cmp a d) ≡ false

@@ -1,5 +1,5 @@
 -- Bounds of groups of blocks: how they stay, and what is passed by them.
-use Rattle.std.proofs.Common.{inl, inr, ◌≡◌, ℕ, suc, zero, false, true, ◌+◌, ◌*◌, ◌≤◌, ◌<◌, List, [], ◌∷◌, ◌++◌, length, take, slice_index_or, refl, sym, ap, ◌∙◌, subst, arith}
+use Rattle.std.proofs.Common.{rules, ◌≡◌, ℕ, suc, zero, false, true, ◌+◌, ◌*◌, ◌≤◌, ◌<◌, List, [], ◌∷◌, ◌++◌, length, take, slice_index_or, refl, sym, ap, ◌∙◌, subst, arith}
 use Rattle.std.specs.Prelude.{slice_set}
 use Rattle.std.specs.Ordering.{is_gt}
 use Rattle.std.proofs.lemmas.Bool.{cases_eq}
@@ -8,7 +8,7 @@ use Rattle.rga_ops.specs.Identifier.{Identifier, id_cmp}
 use Rattle.rga_sequence.specs.declared.entry.Entry.{Entry}
 use Rattle.rga_sequence.specs.declared.groups.TheConstants.{GROUP}
 use Rattle.rga_sequence.specs.Entries.{put_entry_past_larger}
-use Rattle.rga_sequence.specs.Blocks.{Blocks, before, behind, larger_at_front, insert_all, AreFrom, Passes, AreBlocksFrom, AreLarger, AreBounds, IsLow}
+use Rattle.rga_sequence.specs.Blocks.{Blocks, larger_at_front, insert_all, AreFrom, Passes, AreBlocksFrom, AreLarger, AreBounds, IsLow}
 use Rattle.rga_sequence.proofs.PlaceLaws.{past, front_place, next_before, next_behind}
 use Rattle.rga_sequence.proofs.BlockLaws.{all_larger, itself, lesser_from, from_put}
 
@@ -28,9 +28,7 @@ bounds_set bounds bs b y all on k d w i lo hi =
     (λ e. on k d w (subst (λ n. k * GROUP ≤ n) e lo) (subst (λ n. n < k * GROUP + GROUP) e hi) (subst (λ n. AreFrom (slice_index_or bounds k d) (slice_index_or bs n [])) e (all k d w i lo hi)))
 
 pub bounds_put : (bounds : List Identifier) (bs : Blocks) (b i : ℕ) (least : Identifier) (es : List Entry) → AreBounds bounds bs → AreFrom least es → IsLow bounds b least → AreBounds bounds (slice_set bs b (insert_all (slice_index_or bs b []) i es))
-bounds_put bounds bs b i least es all above low =
-    bounds_set bounds bs b (insert_all (slice_index_or bs b []) i es) all
-    (λ k d w lo hi from. from_put (slice_index_or bounds k d) es (slice_index_or bs b []) i from (lesser_from least (slice_index_or bounds k d) es (low k d w lo hi) above))
+bounds_put bounds bs b i least es all above low = search (rules, bounds_set, from_put, lesser_from)
 
 -- ---- blocks come and go behind the groups
 
@@ -55,18 +53,12 @@ bounds_lowered bounds g l d bs h all k e w i lo hi =
     (all k e (subst (λ n. k < n) (length-set bounds g l) w) i lo hi)
 
 pub is_low : (bounds : List Identifier) (g block : ℕ) (l id : Identifier) → g * GROUP ≤ block → block < g * GROUP + GROUP → g < length bounds → is_gt (id_cmp l id) ≡ false → IsLow (slice_set bounds g l) block id
-is_low bounds g block l id first last w h k d v lo hi =
-    let same : g ≡ k = omega (arith, first, last, lo, hi) in
-    subst (λ n. is_gt (id_cmp (slice_index_or (slice_set bounds g l) n d) id) ≡ false) same
-    (subst (λ m. is_gt (id_cmp m id) ≡ false) (sym (get_or-set_same bounds g l d w)) h)
+is_low bounds g block l id first last w h k d v lo hi = grind (arith, get_or-set_same)
 
 -- ---- what none is less than in some blocks
 
 pub blocks_more : (least less next : Identifier) (lo n : ℕ) (bs : Blocks) → is_gt (id_cmp less least) ≡ false → is_gt (id_cmp less next) ≡ false → AreFrom next (slice_index_or bs n []) → AreBlocksFrom least lo n bs → AreBlocksFrom less lo (n + 1) bs
-blocks_more least less next lo n bs h k from all i w v = elim (cases_eq n i) [
-  | inl same ↦ subst (λ m. AreFrom less (slice_index_or bs m [])) same (lesser_from next less (slice_index_or bs n []) k from)
-  | inr other ↦ lesser_from least less (slice_index_or bs i []) h (all i w (omega (arith, other, v)))
-]
+blocks_more least less next lo n bs h k from all i w v = grind (arith, cases_eq, lesser_from)
 
 pub larger_by : (bound id : Identifier) (lo hi : ℕ) (bs : Blocks) → is_gt (id_cmp bound id) ≡ true → AreBlocksFrom bound lo hi bs → AreLarger id lo hi bs
 larger_by bound id lo hi bs big from i w v = all_larger bound id (slice_index_or bs i []) big (from i w v)
@@ -79,11 +71,5 @@ pass_one bs b e w h =
     ∙ (λ k. next_before bs b [] w k ++ put_entry_past_larger e (next_behind bs b [] w k))
 
 pub pass_blocks : (bs : Blocks) (b n : ℕ) (e : Entry) → b + n < length bs → AreLarger e.id b (b + n) bs → Passes bs b 0 (b + n) 0 e
-pass_blocks bs b zero e w all =
-    let none : b ≡ b + 0 = omega arith in
-    ap (λ m. before bs m 0 ++ put_entry_past_larger e (behind bs m 0)) none
-pass_blocks bs b (suc n) e w all =
-    let on : suc b + n ≡ b + suc n = omega arith in
-    pass_one bs b e (omega (arith, w)) (all b (omega arith) (omega arith))
-    ∙ pass_blocks bs (suc b) n e (omega (arith, w)) (λ i lo hi. all i (omega (arith, lo)) (omega (arith, hi)))
-    ∙ ap (λ m. before bs m 0 ++ put_entry_past_larger e (behind bs m 0)) on
+pass_blocks bs b zero e w all = grind (arith)
+pass_blocks bs b (suc n) e w all = grind (arith, pass_one, pass_blocks bs (suc b) n e (omega (arith, w)) (λ i lo hi. all i (omega (arith, lo)) (omega (arith, hi))))

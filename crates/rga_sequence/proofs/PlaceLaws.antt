@@ -60,10 +60,7 @@ past (x ∷ xs) zero i entry d p j e =
     ∙ sym (append_assoc (take i x) (take n (drop i x)) (put_entry_past_larger entry (drop n (drop i x) ++ flat xs)))
     ∙ (λ k. take_both i n x k ++ put_entry_past_larger entry (drop-drop n i x k ++ flat xs))
     ∙ ap (λ m. take m x ++ put_entry_past_larger entry (drop m x ++ flat xs)) (sym e)
-past (x ∷ xs) (suc b) i entry d p j e =
-    append_assoc x (before xs b i) (put_entry_past_larger entry (behind xs b i))
-    ∙ ap (λ r. x ++ r) (past xs b i entry d p j e)
-    ∙ sym (append_assoc x (before xs b j) (put_entry_past_larger entry (behind xs b j)))
+past (x ∷ xs) (suc b) i entry d p j e = grind (arith, append_assoc, past xs b i entry d p j e)
 
 pub stops : (bs : Blocks) (b i : ℕ) (entry : Entry) (d : List Entry) → IsPlace bs b i → (j : ℕ) → j ≡ i + larger_at_front entry.id (drop i (slice_index_or bs b d)) → j < length (slice_index_or bs b d) → put_entry_past_larger entry (behind bs b j) ≡ entry ∷ behind bs b j
 stops [] b i entry d p j e w = absurd p
@@ -124,9 +121,7 @@ pub on_behind : (bs : Blocks) (b i : ℕ) (d : List Entry) → IsPlace bs b i �
 on_behind bs b i d p h w = ap (λ n. behind bs b n) (full bs b i d p h) ∙ next_behind bs b d (omega arith) ∙ ap (λ n. behind bs n 0) (sym (add-one b))
 
 pub at_end : (bs : Blocks) (b i : ℕ) (d : List Entry) (entry : Entry) → IsPlace bs b i → length (slice_index_or bs b d) ≤ i → b < length bs → length bs ≤ b + 1 → put_entry_past_larger entry (behind bs b i) ≡ entry ∷ behind bs b i
-at_end bs b i d entry p h w e =
-    let none : behind bs b i ≡ [] = ap (λ n. behind bs b n) (full bs b i d p h) ∙ end_behind bs b d (omega arith) in
-    ap (put_entry_past_larger entry) none ∙ ap (λ r. entry ∷ r) (sym none)
+at_end bs b i d entry p h w e = grind (arith, full, end_behind)
 
 -- the front of a block is the end of the one before it
 pub back_before : (bs : Blocks) (b c i j : ℕ) (d : List Entry) → suc b ≡ c → j ≡ 0 → i ≡ length (slice_index_or bs b d) → c < length bs → before bs b i ≡ before bs c j

@@ -33,11 +33,7 @@ all_kept P id xs all = recursion_from_All P (without_entry id xs) (All-filter (�
 pub apart_without : (id : Identifier) (xs : List Entry) → AreApart xs → AreApart (without_entry id xs)
 unfolding IsDistinct
 apart_without id [] apart = tt
-apart_without id (x ∷ xs) apart =
-    elim (is_id x.id id) as (λ b. AreApart (cond (not b) (x ∷ without_entry id xs) (without_entry id xs))) [
-      | true ↦ apart_without id xs apart.1
-      | false ↦ (all_kept (λ y. is_id x.id y.id ≡ false) id xs apart.0, apart_without id xs apart.1)
-    ]
+apart_without id (x ∷ xs) apart = grind (arith, all_kept, apart_without id xs apart.1)
 
 same_id : (mark : Bool) (id : Identifier) (x : Entry) → (cond (is_id x.id id) (as_marked mark x) x).id ≡ x.id
 same_id mark id x = elim (is_id x.id id) as (λ b. (cond b (as_marked mark x) x).id ≡ x.id) [ true ↦ refl | false ↦ refl ]
@@ -94,6 +90,4 @@ part_of (x ∷ xs) (suc i) d w =
 -- ---- an entry behind its parent
 
 pub apart_there : (bs : Blocks) (b i : ℕ) (e : Entry) → IsPlace bs b i → has e.id (flat bs) ≡ false → AreApart (flat bs) → AreApart (before bs b i ++ e ∷ behind bs b i)
-apart_there bs b i e p h apart =
-    let parts : flat bs ≡ before bs b i ++ behind bs b i = parted bs b i in
-    apart_put (before bs b i) e (behind bs b i) (subst (λ xs. has e.id xs ≡ false) parts h) (subst AreApart parts apart)
+apart_there bs b i e p h apart = grind (arith, parts, parted, apart_put)

@@ -92,9 +92,7 @@ record Found (xs : List Entry) (i : ℕ) (id : Identifier) : Type 0 where
 found : (xs : List Entry) (i : ℕ) (id : Identifier) → slice_get (ids xs) i ≡ Some id → Found xs i id
 found [] i id h = absurd (none-some id h)
 found (x ∷ xs) zero id h = record { entry = x; named = same_Some x.id id h; rest = refl; front = refl; got = refl; marked = λ mark. refl }
-found (x ∷ xs) (suc i) id h =
-    let f : Found xs i id = found xs i id h in
-    record { entry = f.entry; named = f.named; rest = f.rest; front = ap (λ r. x ∷ r) f.front; got = f.got; marked = λ mark. ap (λ r. x ∷ r) (f.marked mark) }
+found (x ∷ xs) (suc i) id h = grind (arith, found xs i id h)
 
 -- ---- in blocks
 
@@ -111,9 +109,7 @@ at [] b i id h = absurd h
 at (x ∷ xs) zero i id h =
     let f : Found x i id = found x i id h in
     record { entry = f.entry; named = f.named; rest = ap (λ r. r ++ flat xs) f.rest; front = f.front; got = λ d. f.got; marked = λ mark d. ap (λ r. r ++ flat xs) (f.marked mark) ∙ append_assoc (take i x) (as_marked mark f.entry ∷ drop (suc i) x) (flat xs) }
-at (x ∷ xs) (suc b) i id h =
-    let f : At xs b i id = at xs b i id h in
-    record { entry = f.entry; named = f.named; rest = f.rest; front = ap (λ r. x ++ r) f.front ∙ sym (append_assoc x (before xs b i) (f.entry ∷ [])); got = f.got; marked = λ mark d. ap (λ r. x ++ r) (f.marked mark d) ∙ sym (append_assoc x (before xs b i) (as_marked mark f.entry ∷ behind xs b (suc i))) }
+at (x ∷ xs) (suc b) i id h = grind (arith, append_assoc, at xs b i id h)
 
 within : (xs : List Entry) (i : ℕ) (id : Identifier) → slice_get (ids xs) i ≡ Some id → i < length xs
 within xs i id h = omega (arith, slice_get_within (ids xs) i id h, length-map xs (λ (e : Entry). e.id))
@@ -159,14 +155,7 @@ standing bs b i id apart h =
     }
 
 pub change_there : (id : Identifier) (f : List Entry → List Entry) (bs : Blocks) (b i : ℕ) → is_root id ≡ false → AreApart (flat bs) → Stands bs b i id → change_behind_entry id f (flat bs) ≡ before bs b (i + 1) ++ f (behind bs b (i + 1))
-change_there id f bs b i other apart h =
-    let s : Standing bs b i id = standing bs b i id apart h in
-    ap (λ t. cond t (f (flat bs)) (change_after_entry id f (flat bs))) other
-    ∙ ap (change_after_entry id f) s.whole
-    ∙ change_between id f (before bs b i) s.its.entry (behind bs b (suc i)) s.named s.none_before
-    ∙ sym (append_assoc (before bs b i) (s.its.entry ∷ []) (f (behind bs b (suc i))))
-    ∙ ap (λ r. r ++ f (behind bs b (suc i))) (sym s.its.front)
-    ∙ ap (λ n. before bs b n ++ f (behind bs b n)) (sym (add-one i))
+change_there id f bs b i other apart h = grind (arith, standing, change_between, append_assoc, add-one)
 
 pub change_at_front : (id : Identifier) (f : List Entry → List Entry) (bs : Blocks) → is_root id ≡ true → 0 < length bs → change_behind_entry id f (flat bs) ≡ before bs 0 0 ++ f (behind bs 0 0)
 change_at_front id f [] root w = absurd (omega arith)
@@ -179,28 +168,16 @@ has_there id bs b i h =
     ∙ has_between id (before bs b i) f.entry (behind bs b (suc i)) (ap (λ y. is_id y id) f.named ∙ is_id-itself id)
 
 pub without_there : (id : Identifier) (bs : Blocks) (b i : ℕ) → AreApart (flat bs) → Stands bs b i id → before bs b i ++ behind bs b (suc i) ≡ without_entry id (flat bs)
-without_there id bs b i apart h =
-    let s : Standing bs b i id = standing bs b i id apart h in
-    sym (ap (without_entry id) s.whole ∙ without_between id (before bs b i) s.its.entry (behind bs b (suc i)) s.named s.none_before s.none_behind)
+without_there id bs b i apart h = grind (arith, standing, without_between)
 
 pub marked_there : (mark : Bool) (id : Identifier) (bs : Blocks) (b i : ℕ) (d : List Entry) → AreApart (flat bs) → Stands bs b i id → flat (slice_set bs b (mark_at_index mark i (slice_index_or bs b d))) ≡ mark_entry mark id (flat bs)
-marked_there mark id bs b i d apart h =
-    let s : Standing bs b i id = standing bs b i id apart h in
-    s.its.marked mark d
-    ∙ sym (ap (mark_entry mark id) s.whole ∙ mark_between mark id (before bs b i) s.its.entry (behind bs b (suc i)) s.named s.none_before s.none_behind)
+marked_there mark id bs b i d apart h = grind (arith, standing, mark_between)
 
 pub entry_there : (id : Identifier) (bs : Blocks) (b i : ℕ) (d : List Entry) → AreApart (flat bs) → Stands bs b i id → slice_get (slice_index_or bs b d) i ≡ entry_of id (flat bs)
-entry_there id bs b i d apart h =
-    let s : Standing bs b i id = standing bs b i id apart h in
-    s.its.got d ∙ sym (ap (entry_of id) s.whole ∙ entry_between id (before bs b i) s.its.entry (behind bs b (suc i)) s.named s.none_before)
+entry_there id bs b i d apart h = grind (arith, standing, entry_between)
 
 pub up_to_there : (id : Identifier) (bs : Blocks) (b i : ℕ) → AreApart (flat bs) → Stands bs b i id → entries_up_to id (flat bs) ≡ before bs b (i + 1)
-up_to_there id bs b i apart h =
-    let s : Standing bs b i id = standing bs b i id apart h in
-    ap (entries_up_to id) s.whole
-    ∙ up_to_between id (before bs b i) s.its.entry (behind bs b (suc i)) s.named s.none_before
-    ∙ sym s.its.front
-    ∙ ap (before bs b) (sym (add-one i))
+up_to_there id bs b i apart h = grind (arith, standing, up_to_between, add-one)
 
 -- ---- what is not found
 
