@@ -1,6 +1,6 @@
 -- That records stay in order and counted through each change.
-use Rattle.std.proofs.Common.{◌≡◌, ℕ, ◌+◌, ◌-◌, true, cond, [], is_some, refl, sym, true≢false}
-use Rattle.std.specs.Prelude.{Some, None, Ok, max}
+use Rattle.std.proofs.Common.{arith, ◌≡◌, ℕ, ◌+◌, ◌-◌, true, cond, [], refl}
+use Rattle.std.specs.Prelude.{Some, Ok, max}
 use Rattle.std.specs.List.Sorted.{IsStrictlySortedBy}
 use Rattle.std.specs.FinMap as finite_map
 use Rattle.std.specs.FinSet as finite_set
@@ -28,11 +28,7 @@ pub record IsFound (c : Content) (id : Identifier) : Type 0 where
   pub found : finite_map.get c.inserted id ≡ Some element
 
 pub found_there : (c : Content) (id : Identifier) → finite_map.contains_key c.inserted id ≡ true → IsFound c id
-found_there c id h =
-    elim (finite_map.get c.inserted id) as (λ o. finite_map.get c.inserted id ≡ o → is_some o ≡ true → IsFound c id) [
-      | None ↦ λ g t. absurd (true≢false (sym t))
-      | Some x ↦ λ g t. record { element = x; found = g }
-    ] refl h
+found_there c id h = grind (arith)
 
 -- counts that are said to be what they are to be
 pub recounted : (c d : Content) (latest insertions identifiers later inserted more limit : ℕ) → d ≡ c → later ≡ latest → inserted ≡ insertions → more ≡ identifiers → IsCounted c latest insertions identifiers limit → IsCounted d later inserted more limit

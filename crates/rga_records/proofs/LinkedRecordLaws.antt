@@ -1,5 +1,5 @@
 -- How the links of records' elements grow record by record, and that what is read along them is the text.
-use Rattle.std.proofs.Common.{◌≡◌, ◌≤◌, ◌<◌, ℕ, true, false, cond, ◌||◌, List, [], ◌∷◌, ◌++◌, map, length, get_or, refl, sym, ap, ◌∙◌, subst, true≢false, arith}
+use Rattle.std.proofs.Common.{◌≡◌, ◌≤◌, ◌<◌, ℕ, false, cond, ◌||◌, List, [], ◌∷◌, ◌++◌, map, length, get_or, refl, sym, ap, ◌∙◌, subst, true≢false, arith}
 use Rattle.std.specs.Prelude.{Option, Some, None, SomeIff}
 use Rattle.std.specs.Char.{IsScalar}
 use Rattle.std.specs.Option.{option_map}
@@ -11,7 +11,7 @@ use Rattle.std.proofs.lemmas.Option.{none-some}
 use Rattle.std.proofs.lemmas.List.{map-append, length-map, get_or-map}
 use Rattle.std.proofs.lemmas.Map.Keys.{IsDistinct-from_sorted, IsDistinct-head, IsDistinct-tail}
 use Rattle.rga_ops.specs.Identifier.{Identifier, id_cmp, root}
-use Rattle.rga_ops.specs.Content.{Element, element, Content}
+use Rattle.rga_ops.specs.Content.{element, Content}
 use Rattle.rga_ops.specs.RootPath.{is_complete}
 use Rattle.rga_ops.specs.Order.{order, text, shown}
 use Rattle.rga_ops.proofs.IdentifierLaws.{is, is_itself, is_swap}
@@ -68,10 +68,7 @@ module _ (es : Entries) (codes next : List ℕ) (l : AreLinks es codes next) (e 
 
 -- the same under other names
 pub links_as : (es : Entries) (codes codes_now next next_now : List ℕ) → codes_now ≡ codes → next_now ≡ next → AreLinks es codes next → AreLinks es codes_now next_now
-links_as es codes codes_now next next_now same_codes same_next l = record {
-  each_shown = subst (λ xs. AreCodes xs (map (λ e. shown_of e.1) es)) (sym same_codes) l.each_shown;
-  linked = subst (AreLinked (order (content_of_records es)) (keys_of es)) (sym same_next) l.linked;
-}
+links_as es codes codes_now next next_now same_codes same_next l = grind (arith)
 
 -- ---- nothing
 
@@ -116,15 +113,7 @@ own_records (e ∷ es) apart = (
 
 -- what the content shows of its element is what the record says
 shown_own : (es : Entries) → AreOrdered es → AllByRecursion (λ e. shown (content_of_records es) e.0 ≡ shown_of e.1) es
-shown_own es ordered = all_map (λ (e : Identifier × Record). lookup (is e.0) es ≡ Some e.1) (λ e. shown (content_of_records es) e.0 ≡ shown_of e.1)
-    (λ e found.
-    (λ k. cond ((deleted_at es ordered e.0 ∙ ap mark_of found) k) None (option_map (λ x. x.ch) ((inserted_at es ordered e.0 ∙ ap element_of found) k)))
-    ∙ ap (λ o. cond e.1.deleted None o) (back e.1.parent e.1.ch))
-    es (own_records es (apart_of es ordered))
-  where
-    back : (parent : Identifier) (o : Option ℕ) → option_map (λ (x : Element). x.ch) (option_map (λ ch. element parent ch) o) ≡ o
-    back parent None = refl
-    back parent (Some ch) = refl
+shown_own es ordered = grind (arith, all_map, is, deleted_at, mark_of, inserted_at, element_of, own_records, apart_of)
 
 -- what is shown of the records
 abbrev pub kept_of : Entries → List (Option ℕ)

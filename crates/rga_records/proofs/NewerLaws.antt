@@ -1,10 +1,9 @@
 -- What is newer than all that is known: that it is new, and what a chain of such makes of the records.
 use Rattle.std.proofs.lemmas.Bool.Decides.{nat_tests}
-use Rattle.std.proofs.Common.{◌≡◌, ℕ, suc, zero, ◌+◌, ◌<◌, ◌≤◌, ◌==◌, nat_le, ◌&&◌, true, false, cond, List, [], ◌∷◌, ◌++◌, length, slice_index_or, refl, sym, ap, ◌∙◌, subst, arith, append_assoc, inl, inr, ne_eqb, ◌||◌, true≢false}
+use Rattle.std.proofs.Common.{◌≡◌, ℕ, suc, zero, ◌+◌, ◌<◌, ◌≤◌, ◌==◌, nat_le, ◌&&◌, true, false, cond, List, [], ◌∷◌, ◌++◌, length, slice_index_or, refl, sym, ap, ◌∙◌, subst, arith, append_assoc, ne_eqb}
 use Rattle.std.specs.Prelude.{Some, None, Ok, max}
 use Rattle.std.proofs.lemmas.Bool.{false_from_ne_true}
 use Rattle.std.proofs.lemmas.List.{append-nil}
-use Rattle.std.proofs.lemmas.Option.{none-some}
 use Rattle.std.specs.Cmp.{tied_itself}
 use Rattle.std.specs.Ordering.{is_lt}
 use Rattle.std.specs.declared.cmp.Ordering.TheVariants.{Less}
@@ -19,9 +18,7 @@ use Rattle.rga_ops.specs.Content.{Content, element, join, single, clock_of, know
 use Rattle.rga_ops.specs.Answer.{answer}
 use Rattle.rga_ops.specs.declared.op.Op.TheVariants.{Insert, Delete}
 use Rattle.rga_ops.specs.declared.refusal.Taken.TheVariants.{New}
-use Rattle.rga_ops.specs.declared.refusal.Refusal.TheVariants.{BadId, BadOrder}
 use Rattle.rga_ops.proofs.IdentifierLaws.{ids_total}
-use Rattle.rga_ops.proofs.AnswerLaws.{new-iff, passed, bad, contains-known}
 use Rattle.rga_ops.proofs.ClockLaws.{within_clock, clock_insertion}
 use Rattle.rga_ops.proofs.NewestLaws.{lower_counter}
 use Rattle.rga_store.specs.Counted.{IsCounted}
@@ -56,28 +53,14 @@ proper id n h = ap (λ b. b && (id.replica == 0)) (ne_eqb id.counter 0 (λ z. om
 
 -- where there is room, what is not inserted is new
 pub absent_is_new : (limit : ℕ) (c : Content) (id parent : Identifier) (ch : ℕ) → finite_map.get c.inserted id ≡ None → parent.counter < id.counter → known_count c < limit → answer limit c (Insert id parent ch) ≡ Ok New
-absent_is_new limit c id parent ch absent rise room =
-    (new-iff limit c (Insert id parent ch)).1 (record {
-      well_formed =
-          ap (λ b. cond b (bad BadId) (cond (nat_le id.counter parent.counter) (bad BadOrder) passed)) (proper id parent.counter rise)
-          ∙ ap (λ b. cond b (bad BadOrder) passed) (rises id.counter parent.counter rise);
-      not_held = λ h. none-some _ (sym absent ∙ h);
-      no_other = λ (x, h, other). none-some _ (sym absent ∙ h);
-      room = inr (λ e. omega (arith, e, room));
-    })
+absent_is_new limit c id parent ch absent rise room = grind arith
 
 pub newer_is_new : (limit : ℕ) (c : Content) (id parent : Identifier) (ch : ℕ) → clock_of c < id.counter → parent.counter < id.counter → known_count c < limit → answer limit c (Insert id parent ch) ≡ Ok New
 newer_is_new limit c id parent ch newer rise room = absent_is_new limit c id parent ch (newer_absent c id newer) rise room
 
 -- and so is the deletion of what is inserted and not deleted
 pub deletion_is_new : (limit : ℕ) (c : Content) (id : Identifier) → 0 < id.counter → finite_map.contains_key c.inserted id ≡ true → finite_set.contains c.deleted id ≡ false → answer limit c (Delete id) ≡ Ok New
-deletion_is_new limit c id proper_id inserted unmarked =
-    (new-iff limit c (Delete id)).1 (record {
-      well_formed = ap (λ b. cond b (bad BadId) passed) (proper id 0 proper_id);
-      not_held = λ h. true≢false (sym h ∙ unmarked);
-      no_other = λ h. absurd h;
-      room = inl (contains-known c id ∙ ap (λ b. b || finite_set.contains c.deleted id) inserted);
-    })
+deletion_is_new limit c id proper_id inserted unmarked = grind arith
 
 -- and then it is the clock
 newer_clock : (c : Content) (id parent : Identifier) (ch : ℕ) → clock_of c < id.counter → parent.counter < id.counter → id.counter ≤ clock_of (join c (single (Insert id parent ch)))
