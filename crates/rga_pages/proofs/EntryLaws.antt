@@ -35,7 +35,7 @@ not_less Less h = absurd (true≢false (sym h))
 not_less Equal h = refl
 not_less Greater h = refl
 
-turn : (a b : Identifier) (o : Ordering) → id_cmp a b ≡ o → id_cmp b a ≡ ordering_reverse o
+pub turn : (a b : Identifier) (o : Ordering) → id_cmp a b ≡ o → id_cmp b a ≡ ordering_reverse o
 turn a b o h = ids_total.antisymm b a ∙ ap ordering_reverse h
 
 -- what is less than one that is not larger than an identifier is below it
@@ -48,10 +48,6 @@ below_less id a b h k =
     ] refl
 
 -- ---- in order
-
-pub ordered_one : (x : Identifier × Record) → AreOrdered (x ∷ [])
-unfolding IsStrictlySortedBy
-ordered_one x = (tt, tt)
 
 pub ordered_front : (xs ys : Entries) → AreOrdered (xs ++ ys) → AreOrdered xs
 unfolding IsStrictlySortedBy

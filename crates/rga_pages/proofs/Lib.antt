@@ -1,3 +1,4 @@
 pub mod EntryLaws
+pub mod PartLaws
 pub mod PlaceLaws
 pub mod SpotLaws

@@ -1,42 +1,16 @@
--- Places in pages, and what stands in pages that change.
+-- What stands in order in pages, and in pages that change.
 use Rattle.std.proofs.Common.{◌≡◌, ℕ, ◌+◌, ◌<◌, ◌≤◌, suc, zero, true, false, List, [], ◌∷◌, ◌++◌, length, take, drop, slice_index_or, refl, sym, ap, ◌∙◌, subst, arith, append_assoc, drop-cons}
-use Rattle.std.proofs.lemmas.List.{append-nil, take-append-drop, drop_more, take_all, drop_all, set_split, nil_from_length, length-append}
-use Rattle.std.proofs.lemmas.List.Edits.{length-remove}
+use Rattle.std.proofs.lemmas.List.{append-nil, take-append-drop, drop_more, drop_all, length-append}
 use Rattle.std.proofs.lemmas.List.Elements.{All-from_recursion}
-use Rattle.std.specs.Prelude.{insert, remove, slice_set}
+use Rattle.std.specs.Prelude.{insert, slice_set}
 use Rattle.std.specs.Ordering.{is_lt}
 use Rattle.rga_ops.specs.Identifier.{Identifier, id_cmp}
 use Rattle.rga_pages.specs.declared.entry.Record.{Record}
-use Rattle.rga_pages.specs.Pages.{Entries, entries_in, entries_before, entries_behind, AreOrdered, AreBelow, BeginsWith, StartsAbove, StartsAt, AreFilledPages, IsPlaceInPages}
+use Rattle.rga_pages.specs.Pages.{Entries, entries_in, entries_behind, AreOrdered, AreBelow, BeginsWith, StartsAbove, StartsAt, AreFilledPages}
 use Rattle.rga_pages.proofs.EntryLaws.{ordered_front, ordered_back, before_below, below_append, not_less}
-
-pub one_up : (n : ℕ) → suc n ≡ n + 1
-one_up n = omega arith
-
--- ---- places
-
-pub place_at : (ps : List Entries) (p i : ℕ) (d : Entries) → p < length ps → i ≤ length (slice_index_or ps p d) → IsPlaceInPages ps p i
-place_at [] p i d w h = absurd (omega arith)
-place_at (x ∷ xs) zero i d w h = h
-place_at (x ∷ xs) (suc p) i d w h = place_at xs p i d (omega arith) h
-
-pub index_within : (ps : List Entries) (p i : ℕ) (d : Entries) → IsPlaceInPages ps p i → i ≤ length (slice_index_or ps p d)
-index_within [] p i d h = absurd h
-index_within (x ∷ xs) zero i d h = h
-index_within (x ∷ xs) (suc p) i d h = index_within xs p i d h
 
 pub filled_at : (ps : List Entries) (p : ℕ) (d : Entries) → AreFilledPages ps → p < length ps → 0 < length (slice_index_or ps p d)
 filled_at ps p d f w = All-from_recursion (λ (y : Entries). 0 < length y) ps f p d w
-
-pub parted : (ps : List Entries) (p i : ℕ) → entries_in ps ≡ entries_before ps p i ++ entries_behind ps p i
-parted [] p i = refl
-parted (x ∷ xs) zero i = ap (λ y. y ++ entries_in xs) (sym (take-append-drop i x)) ∙ append_assoc (take i x) (drop i x) (entries_in xs)
-parted (x ∷ xs) (suc p) i = ap (λ r. x ++ r) (parted xs p i) ∙ sym (append_assoc x (entries_before xs p i) (entries_behind xs p i))
-
-pub before_is : (ps : List Entries) (p i : ℕ) (d : Entries) → p < length ps → entries_before ps p i ≡ entries_in (take p ps) ++ take i (slice_index_or ps p d)
-before_is [] p i d w = absurd (omega arith)
-before_is (x ∷ xs) zero i d w = refl
-before_is (x ∷ xs) (suc p) i d w = ap (λ r. x ++ r) (before_is xs p i d (omega arith)) ∙ sym (append_assoc x (entries_in (take p xs)) (take i (slice_index_or xs p d)))
 
 pub behind_is : (ps : List Entries) (p i : ℕ) (d : Entries) → p < length ps → entries_behind ps p i ≡ drop i (slice_index_or ps p d) ++ entries_in (drop (suc p) ps)
 behind_is [] p i d w = absurd (omega arith)
@@ -143,56 +117,12 @@ stood (x ∷ xs) (suc p) i id d w h =
 
 -- ---- pages that change
 
-pub put_there : (ps : List Entries) (p i : ℕ) (e : Identifier × Record) (d : Entries) → p < length ps → entries_in (slice_set ps p (insert (slice_index_or ps p d) i e)) ≡ entries_before ps p i ++ e ∷ entries_behind ps p i
-put_there [] p i e d w = absurd (omega arith)
-put_there (x ∷ xs) zero i e d w = append_assoc (take i x) (e ∷ drop i x) (entries_in xs)
-put_there (x ∷ xs) (suc p) i e d w = ap (λ r. x ++ r) (put_there xs p i e d (omega arith)) ∙ sym (append_assoc x (entries_before xs p i) (e ∷ entries_behind xs p i))
-
-pub set_there : (ps : List Entries) (p i : ℕ) (e : Identifier × Record) (d : Entries) → p < length ps → i < length (slice_index_or ps p d) → entries_in (slice_set ps p (slice_set (slice_index_or ps p d) i e)) ≡ entries_before ps p i ++ e ∷ entries_behind ps p (suc i)
-set_there [] p i e d w h = absurd (omega arith)
-set_there (x ∷ xs) zero i e d w h = ap (λ y. y ++ entries_in xs) (set_split x i e h) ∙ append_assoc (take i x) (e ∷ drop (suc i) x) (entries_in xs)
-set_there (x ∷ xs) (suc p) i e d w h = ap (λ r. x ++ r) (set_there xs p i e d (omega arith) h) ∙ sym (append_assoc x (entries_before xs p i) (e ∷ entries_behind xs p (suc i)))
-
-pub removed_there : (ps : List Entries) (p i : ℕ) (d : Entries) → p < length ps → entries_in (slice_set ps p (remove (slice_index_or ps p d) i)) ≡ entries_before ps p i ++ entries_behind ps p (suc i)
-removed_there [] p i d w = absurd (omega arith)
-removed_there (x ∷ xs) zero i d w = append_assoc (take i x) (drop (suc i) x) (entries_in xs)
-removed_there (x ∷ xs) (suc p) i d w = ap (λ r. x ++ r) (removed_there xs p i d (omega arith)) ∙ sym (append_assoc x (entries_before xs p i) (entries_behind xs p (suc i)))
-
--- a page of one entry goes with it
-pub page_gone : (ps : List Entries) (p i : ℕ) (d : Entries) → p < length ps → length (slice_index_or ps p d) ≡ 1 → i < 1 → entries_in (remove ps p) ≡ entries_before ps p i ++ entries_behind ps p (suc i)
-page_gone [] p i d w one h = absurd (omega arith)
-page_gone (x ∷ xs) zero i d w one h =
-    let single : length x ≡ 1 = one in
-    let there : i < length x = omega (arith, single, h) in
-    ap (λ y. y ++ entries_in xs) (sym (nil_from_length (remove x i) (omega (arith, length-remove x i there, single)))) ∙ append_assoc (take i x) (drop (suc i) x) (entries_in xs)
-page_gone (x ∷ xs) (suc p) i d w one h = ap (λ r. x ++ r) (page_gone xs p i d (omega arith) one h) ∙ sym (append_assoc x (entries_before xs p i) (entries_behind xs p (suc i)))
-
--- an entry begins a page behind another
-pub own_there : (ps : List Entries) (p i : ℕ) (e : Identifier × Record) (d : Entries) → p < length ps → length (slice_index_or ps p d) ≡ i → entries_in (insert ps (suc p) (e ∷ [])) ≡ entries_before ps p i ++ e ∷ entries_behind ps p i
-own_there [] p i e d w full = absurd (omega arith)
-own_there (x ∷ xs) zero i e d w full =
-    let long : length x ≡ i = full in
-    let whole : length x ≤ i = omega (arith, long) in
-    (λ k. sym (take_all i x whole) k ++ e ∷ (sym (drop_all i x whole) k ++ entries_in xs))
-own_there (x ∷ xs) (suc p) i e d w full = ap (λ r. x ++ r) (own_there xs p i e d (omega arith) full) ∙ sym (append_assoc x (entries_before xs p i) (e ∷ entries_behind xs p i))
-
 -- the last page gets more
 pub extended : (ps : List Entries) (p : ℕ) (more d : Entries) → p < length ps → length ps ≤ suc p → entries_in (slice_set ps p (slice_index_or ps p d ++ more)) ≡ entries_in ps ++ more
 extended [] p more d w l = absurd (omega arith)
 extended (x ∷ []) zero more d w l = append-nil (x ++ more) ∙ ap (λ y. y ++ more) (sym (append-nil x))
 extended (x ∷ y ∷ xs) zero more d w l = absurd (omega arith)
 extended (x ∷ xs) (suc p) more d w l = ap (λ r. x ++ r) (extended xs p more d (omega arith) (omega arith)) ∙ sym (append_assoc x (entries_in xs) more)
-
--- a page more
-pub flat_push : (ps : List Entries) (y : Entries) → entries_in (ps ++ y ∷ []) ≡ entries_in ps ++ y
-flat_push [] y = append-nil y
-flat_push (x ∷ xs) y = ap (λ r. x ++ r) (flat_push xs y) ∙ sym (append_assoc x (entries_in xs) y)
-
--- a page is two
-pub halved : (ps : List Entries) (p cut : ℕ) (d e : Entries) → p < length ps → entries_in (slice_set (insert ps (suc p) (drop cut (slice_index_or ps p d))) p (take cut (slice_index_or (insert ps (suc p) (drop cut (slice_index_or ps p d))) p e))) ≡ entries_in ps
-halved [] p cut d e w = absurd (omega arith)
-halved (x ∷ xs) zero cut d e w = sym (append_assoc (take cut x) (drop cut x) (entries_in xs)) ∙ ap (λ y. y ++ entries_in xs) (take-append-drop cut x)
-halved (x ∷ xs) (suc p) cut d e w = ap (λ r. x ++ r) (halved xs p cut d e (omega arith))
 
 -- what stands in a page from an index on is in front of the page behind it
 pub spilled : (ps : List Entries) (p cut : ℕ) (d e f : Entries) → suc p < length ps → entries_in (slice_set (slice_set ps (suc p) (drop cut (slice_index_or ps p d) ++ slice_index_or ps (suc p) e)) p (take cut (slice_index_or (slice_set ps (suc p) (drop cut (slice_index_or ps p d) ++ slice_index_or ps (suc p) e)) p f))) ≡ entries_in ps
@@ -203,24 +133,6 @@ spilled (x ∷ y ∷ xs) zero cut d e f w =
     ∙ sym (append_assoc (take cut x) (drop cut x) (y ++ entries_in xs))
     ∙ ap (λ r. r ++ (y ++ entries_in xs)) (take-append-drop cut x)
 spilled (x ∷ y ∷ xs) (suc p) cut d e f w = ap (λ r. x ++ r) (spilled (y ∷ xs) p cut d e f (omega arith))
-
--- ---- no page is empty
-
-pub filled_set : (ps : List Entries) (p : ℕ) (y : Entries) → AreFilledPages ps → 0 < length y → AreFilledPages (slice_set ps p y)
-filled_set [] p y f h = f
-filled_set (x ∷ xs) zero y f h = (h, f.1)
-filled_set (x ∷ xs) (suc p) y f h = (f.0, filled_set xs p y f.1 h)
-
-pub filled_insert : (ps : List Entries) (p : ℕ) (y : Entries) → AreFilledPages ps → 0 < length y → AreFilledPages (insert ps p y)
-filled_insert ps zero y f h = (h, f)
-filled_insert [] (suc p) y f h = (h, tt)
-filled_insert (x ∷ xs) (suc p) y f h = (f.0, filled_insert xs p y f.1 h)
-
-pub filled_remove : (ps : List Entries) (p : ℕ) → AreFilledPages ps → AreFilledPages (remove ps p)
-filled_remove [] zero f = tt
-filled_remove [] (suc p) f = tt
-filled_remove (x ∷ xs) zero f = f.1
-filled_remove (x ∷ xs) (suc p) f = (f.0, filled_remove xs p f.1)
 
 pub insert_some : (xs : Entries) (i : ℕ) (e : Identifier × Record) → 0 < length (insert xs i e)
 insert_some xs i e = omega (arith, length-append (take i xs) (e ∷ drop i xs))

@@ -1,10 +1,10 @@
 -- Where an identifier is: how that is seen, and what a change there makes of all entries.
-use Rattle.std.proofs.Common.{◌≡◌, ℕ, ◌+◌, ◌<◌, ◌≤◌, suc, Bool, true, false, List, [], ◌∷◌, ◌++◌, length, take, drop, slice_index_or, refl, sym, ap, ◌∙◌, subst, arith, append_assoc, true≢false}
+use Rattle.std.proofs.Common.{◌≡◌, ℕ, ◌+◌, ◌<◌, ◌≤◌, suc, Bool, true, false, List, [], ◌∷◌, ◌++◌, length, take, drop, slice_index_or, refl, sym, ap, ◌∙◌, subst, arith, append_assoc, true≢false, add-one}
 use Rattle.std.specs.Prelude.{Some, None, insert, remove, slice_set}
 use Rattle.std.specs.BTreeMap.{insert_entry}
 use Rattle.std.specs.Cmp.{tied_itself}
 use Rattle.std.specs.Ordering.{is_lt, is_gt}
-use Rattle.std.proofs.lemmas.List.{get_or_default, length-drop, take_more, drop_more}
+use Rattle.std.proofs.lemmas.List.{get_or_default, length-drop, take_more, drop_more, set_split}
 use Rattle.std.specs.List.Sorted.{IsStrictlySortedBy}
 use Rattle.std.specs.Map.{remove_entry, set_value}
 use Rattle.rga_ops.specs.Identifier.{Identifier, id_cmp}
@@ -12,7 +12,8 @@ use Rattle.rga_ops.proofs.IdentifierLaws.{is, ids_total}
 use Rattle.rga_pages.specs.declared.entry.Record.{Record}
 use Rattle.rga_pages.specs.Pages.{Entries, record_of, entries_in, entries_before, entries_behind, AreOrdered, AreBelow, StartsAbove, StartsAt, AreFilledPages, ArePages, IsSpot}
 use Rattle.rga_pages.proofs.EntryLaws.{not_less, ordered_front, before_below, above_append, above_some, below_append, insert_between, insert_over, set_between, ordered_insert, remove_between, ordered_remove, record_between, record_absent}
-use Rattle.rga_pages.proofs.PlaceLaws.{one_up, place_at, parted, before_is, behind_is, index_there, Stood, stood, put_there, set_there, removed_there, page_gone}
+use Rattle.rga_pages.proofs.PartLaws.{place_at, parted, before_is, changed_there, part_gone}
+use Rattle.rga_pages.proofs.PlaceLaws.{behind_is, index_there, Stood, stood}
 
 pub no_pages : ArePages []
 unfolding IsStrictlySortedBy
@@ -31,7 +32,7 @@ module _ (ps : List Entries) (p i : ℕ) (id : Identifier) (d : Entries) (w : p 
     below = subst (AreBelow id) (sym (before_is ps p i d w)) (below_append id (entries_in (take p ps)) (take i (slice_index_or ps p d)) below here);
     there = λ t. subst (λ y. StartsAt id (drop i y)) (sym the_page) (there t);
     absent = λ f. subst (StartsAbove id) (sym (behind_is ps p i d w))
-        (above_append id (drop i (slice_index_or ps p d)) (entries_in (drop (suc p) ps)) (absent f) (subst (λ n. StartsAbove id (entries_in (drop n ps))) (sym (one_up p)) above));
+        (above_append id (drop i (slice_index_or ps p d)) (entries_in (drop (suc p) ps)) (absent f) (subst (λ n. StartsAbove id (entries_in (drop n ps))) (add-one p) above));
   }
 
   -- before an entry of that page
@@ -65,7 +66,7 @@ module _ (ps : List Entries) (p i : ℕ) (id : Identifier) (d : Entries) (w : p 
       let last : Identifier × Record = slice_index_or page j e in
       let before : entries_before ps p i ≡ (entries_in (take p ps) ++ take j page) ++ last ∷ [] =
       before_is ps p i d w
-      ∙ ap (λ n. entries_in (take p ps) ++ take n page) (sym next ∙ one_up j)
+      ∙ ap (λ n. entries_in (take p ps) ++ take n page) (sym next ∙ sym (add-one j))
       ∙ ap (λ xs. entries_in (take p ps) ++ xs) (take_more page j e (omega (arith, next, h)))
       ∙ sym (append_assoc (entries_in (take p ps)) (take j page) (last ∷ [])) in
       let front : AreOrdered ((entries_in (take p ps) ++ take j page) ++ last ∷ []) =
@@ -93,15 +94,18 @@ module _ (ps : List Entries) (p i : ℕ) (id : Identifier) (d : Entries) (w : p 
     pub record_there : (e : Identifier × Record) → record_of id (entries_in ps) ≡ Some (slice_index_or (slice_index_or ps p d) i e).1
     record_there e = ap (record_of id) whole ∙ record_between id (entries_before ps p i) stands.entry (entries_behind ps p (suc i)) spot.below stands.named ∙ ap (λ (x : Identifier × Record). Some x.1) (sym (stands.is d e w))
 
+    set_there : (value : Record) → entries_in (slice_set ps p (slice_set (slice_index_or ps p d) i (id, value))) ≡ entries_before ps p i ++ (id, value) ∷ entries_behind ps p (suc i)
+    set_there value = ap (λ y. entries_in (slice_set ps p y)) (set_split (slice_index_or ps p d) i (id, value) index_found) ∙ changed_there ps p i (suc i) ((id, value) ∷ []) d w
+
     pub set_spot : (value : Record) → entries_in (slice_set ps p (slice_set (slice_index_or ps p d) i (id, value))) ≡ insert_entry id_cmp (entries_in ps) id value
     set_spot value =
-        set_there ps p i (id, value) d w index_found
+        set_there value
         ∙ sym (insert_over id value (entries_before ps p i) stands.entry (entries_behind ps p (suc i)) spot.below stands.named)
         ∙ ap (λ es. insert_entry id_cmp es id value) (sym whole)
 
     pub set_is : (value : Record) → entries_in (slice_set ps p (slice_set (slice_index_or ps p d) i (id, value))) ≡ set_value (is id) (entries_in ps) value
     set_is value =
-        set_there ps p i (id, value) d w index_found
+        set_there value
         ∙ sym (set_between id value (entries_before ps p i) stands.entry (entries_behind ps p (suc i)) spot.below stands.named)
         ∙ ap (λ es. set_value (is id) es value) (sym whole)
 
@@ -109,22 +113,19 @@ module _ (ps : List Entries) (p i : ℕ) (id : Identifier) (d : Entries) (w : p 
     removed_is = sym (remove_between id (entries_before ps p i) stands.entry (entries_behind ps p (suc i)) spot.below stands.named) ∙ ap (remove_entry (is id)) (sym whole)
 
     pub remove_spot : entries_in (slice_set ps p (remove (slice_index_or ps p d) i)) ≡ remove_entry (is id) (entries_in ps)
-    remove_spot = removed_there ps p i d w ∙ removed_is
+    remove_spot = changed_there ps p i (suc i) [] d w ∙ removed_is
 
     pub remove_page : length (slice_index_or ps p d) ≡ 1 → entries_in (remove ps p) ≡ remove_entry (is id) (entries_in ps)
-    remove_page one = page_gone ps p i d w one (let n : i < length (slice_index_or ps p d) = index_found in omega arith) ∙ removed_is
+    remove_page one = part_gone ps p i d w one (let n : i < length (slice_index_or ps p d) = index_found in omega arith) ∙ removed_is
 
   -- ---- where it would come in
 
   module _ (spot : IsSpot ps p i false id) where
-    put_is : (value : Record) → entries_before ps p i ++ (id, value) ∷ entries_behind ps p i ≡ insert_entry id_cmp (entries_in ps) id value
+    pub put_is : (value : Record) → entries_before ps p i ++ (id, value) ∷ entries_behind ps p i ≡ insert_entry id_cmp (entries_in ps) id value
     put_is value = sym (insert_between id value (entries_before ps p i) (entries_behind ps p i) spot.below (spot.absent refl)) ∙ ap (λ es. insert_entry id_cmp es id value) (sym (parted ps p i))
 
     pub put_spot : (value : Record) → entries_in (slice_set ps p (insert (slice_index_or ps p d) i (id, value))) ≡ insert_entry id_cmp (entries_in ps) id value
-    put_spot value = put_there ps p i (id, value) d w ∙ put_is value
-
-    pub own_spot : (value : Record) (qs : List Entries) → entries_in qs ≡ entries_before ps p i ++ (id, value) ∷ entries_behind ps p i → entries_in qs ≡ insert_entry id_cmp (entries_in ps) id value
-    own_spot value qs h = h ∙ put_is value
+    put_spot value = changed_there ps p i i ((id, value) ∷ []) d w ∙ put_is value
 
 pub record_none : {ps : List Entries} {p i : ℕ} {found : Bool} {id : Identifier} → IsSpot ps p i found id → found ≡ false → AreOrdered (entries_in ps) → record_of id (entries_in ps) ≡ None
 record_none {ps = ps} {p = p} {i = i} {id = id} spot none ordered =

@@ -1,11 +1,12 @@
 -- Entries in pages, and the places in these.
-use Rattle.std.specs.Prelude.{◌≡◌, ◌≤◌, ◌<◌, ℕ, Bool, true, false, cond, is_some, zero, suc, List, [], ◌∷◌, ◌++◌, length, take, drop, slice_index_or, Option, Some, None}
+use Rattle.std.specs.Prelude.{◌≡◌, ℕ, Bool, true, false, cond, is_some, List, [], ◌∷◌, drop, slice_index_or, Option, Some, None}
 use Rattle.std.specs.Ordering.{is_gt, is_lt, eq_by_cmp}
 use Rattle.std.specs.List.{AllByRecursion}
 use Rattle.std.specs.List.Sorted.{IsStrictlySortedBy}
 use Rattle.std.specs.Map.{keys_of, lookup}
 use Rattle.rga_ops.specs.Identifier.{Identifier, id_cmp}
 use Rattle.rga_pages.specs.declared.entry.Record.{Record}
+pub use Rattle.rga_pages.specs.Parts.{flat as entries_in, before as entries_before, behind as entries_behind, IsPlace as IsPlaceInPages, AreFilled as AreFilledPages}
 
 -- records under their identifiers
 abbrev pub Entries : Type 0
@@ -38,44 +39,15 @@ abbrev pub IsUnmarked : Option Record → Type 0
 IsUnmarked None = ⊥
 IsUnmarked (Some r) = (is_some r.ch ≡ true) × (r.deleted ≡ false)
 
--- the pages one after another
-abbrev pub entries_in : List Entries → Entries
-entries_in [] = []
-entries_in (p ∷ ps) = p ++ entries_in ps
-
 -- the identifier is that of the first entry, if there is one
 abbrev pub BeginsWith : Identifier → Entries → Type 0
 BeginsWith id [] = Unit {0}
 BeginsWith id (e ∷ es) = id ≡ e.0
 
--- no page is empty
-abbrev pub AreFilledPages : List Entries → Type 0
-AreFilledPages ps = AllByRecursion (λ p. 0 < length p) ps
-
 -- what pages keep
 pub record ArePages (ps : List Entries) : Type 0 where
   pub ordered : AreOrdered (entries_in ps)
   pub filled : AreFilledPages ps
-
--- ---- places
-
--- what stands before an index in a page
-abbrev pub entries_before : List Entries → ℕ → ℕ → Entries
-entries_before [] page index = []
-entries_before (p ∷ ps) zero index = take index p
-entries_before (p ∷ ps) (suc page) index = p ++ entries_before ps page index
-
--- what stands from an index in a page on
-abbrev pub entries_behind : List Entries → ℕ → ℕ → Entries
-entries_behind [] page index = []
-entries_behind (p ∷ ps) zero index = drop index p ++ entries_in ps
-entries_behind (p ∷ ps) (suc page) index = entries_behind ps page index
-
--- there is such a page, and the index is within it
-abbrev pub IsPlaceInPages : List Entries → ℕ → ℕ → Type 0
-IsPlaceInPages [] page index = ⊥
-IsPlaceInPages (p ∷ ps) zero index = index ≤ length p
-IsPlaceInPages (p ∷ ps) (suc page) index = IsPlaceInPages ps page index
 
 -- ---- where an identifier is
 

@@ -1,10 +1,10 @@
 //! An entry comes in, or takes the place of one with its identifier.
-ghost use Rattle.std.specs.Prelude.{◌≡◌, ◌≤◌, ◌<◌, ◌+◌, ◌++◌, ◌∷◌, [], None, Some, length, vec_len, slice_index_or, insert, false, true, IfErr, OnOk, OnErr};
+ghost use Rattle.std.specs.Prelude.{◌≡◌, ◌≤◌, ◌<◌, ◌+◌, ◌∷◌, [], None, Some, length, vec_len, slice_index_or, insert, false, true, IfErr, OnOk, OnErr};
 ghost use Rattle.std.specs.BTreeMap.{insert_entry};
 ghost use Rattle.std.specs.Map.{set_value};
 ghost use Rattle.std.specs.Ordering.{eq_by_cmp};
 ghost use Rattle.rga_ops.specs.Identifier.{id_cmp};
-ghost use Rattle.rga_pages.specs.Pages.{entries_in, record_of, entries_before, entries_behind, AreFilledPages, ArePages, IsSpot, Updates};
+ghost use Rattle.rga_pages.specs.Pages.{entries_in, record_of, AreFilledPages, ArePages, IsSpot, Updates};
 
 use crate::entry::Record;
 use crate::page::{MOST, Page};
@@ -35,7 +35,7 @@ pub(crate) fn insert(
     ensures memory { IfErr result (λ e. e ≡ Refusal.Memory) }
 {
     if pages.as_slice().len() == 0 {
-        put_first(alloc, pages, id, value)?;
+        put_own(alloc, pages, 0, id, value)?;
         return Ok(Spot {
             page: 0,
             index: 0,
@@ -48,18 +48,6 @@ pub(crate) fn insert(
         return Ok(spot);
     }
     insert_in_full(alloc, pages, spot, id, value)
-}
-
-/// The first entry comes in.
-fn put_first(alloc: Global, pages: &mut Vec<Page>, id: Id, value: Record) -> Result<(), Refusal>
-    requires { pages.old.items ≡ [] }
-    ensures ok { OnOk result (entries_in pages.new.items ≡ (id, value) ∷ []) }
-    ensures err { OnErr result (pages.new.items ≡ pages.old.items) }
-    ensures filled { AreFilledPages pages.new.items }
-    ensures memory { IfErr result (λ e. e ≡ Refusal.Memory) }
-{
-    let page = Page::of_some(alloc, &[(id, value)])?;
-    put_page(pages, 0, page)
 }
 
 /// Whether an identifier can get its record in the page of its spot.
@@ -134,53 +122,38 @@ pub(crate) fn insert_in_full(
     ensures memory { IfErr result (λ e. e ≡ Refusal.Memory) }
 {
     if at.index >= pages[at.page].entries().len() {
-        put_own(alloc, pages, at.page, at.index, id, value)?;
+        put_own(alloc, pages, at.page + 1, id, value)?;
         return Ok(Spot {
             page: at.page + 1,
             index: 0,
             found: true,
         });
     }
-    cut_page(alloc, pages, at.page, cut_for(at.index))?;
+    let cut = at.index.max(FEWEST).min(MOST - FEWEST);
+    cut_page(alloc, pages, at.page, cut)?;
     let spot = place_for(pages, at, id);
     write(pages, spot, id, value)?;
     Ok(spot)
 }
 
-/// An entry begins a page, behind the end of another.
+/// An entry begins a page, which comes in at an index. `Memory` alone.
 fn put_own(
     alloc: Global,
     pages: &mut Vec<Page>,
-    page: usize,
     index: usize,
     id: Id,
     value: Record,
 ) -> Result<(), Refusal>
     requires filled { AreFilledPages pages.old.items }
-    requires page { page < vec_len pages.old }
-    requires end { length (slice_index_or pages.old.items page []) ≡ index }
-    ensures ok { OnOk result (entries_in pages.new.items ≡ entries_before pages.old.items page index
-        ++ (id, value) ∷ entries_behind pages.old.items page index) }
+    requires within { index ≤ vec_len pages.old }
+    ensures ok { OnOk result (pages.new.items ≡ insert pages.old.items index ((id, value) ∷ [])) }
     ensures err { OnErr result (pages.new.items ≡ pages.old.items) }
     ensures filled { AreFilledPages pages.new.items }
     ensures memory { IfErr result (λ e. e ≡ Refusal.Memory) }
 {
     let own = Page::of_some(alloc, &[(id, value)])?;
-    put_page(pages, page + 1, own)
-}
-
-/// Where a full page is cut for an entry that comes in at an index.
-fn cut_for(index: usize) -> usize
-    ensures first { 0 < result }
-    ensures second { result < MOST }
-{
-    if index < FEWEST {
-        return FEWEST;
-    }
-    if index > MOST - FEWEST {
-        return MOST - FEWEST;
-    }
-    index
+    pages.insert(index, own)?;
+    Ok(())
 }
 
 /// A full page loses what stands from an index on: to the page behind it if that has room, and else
@@ -243,19 +216,7 @@ fn halve(alloc: Global, pages: &mut Vec<Page>, page: usize, cut: usize) -> Resul
     ensures memory { IfErr result (λ e. e ≡ Refusal.Memory) }
 {
     let tail = pages[page].tail(alloc, cut)?;
-    put_page(pages, page + 1, tail)?;
+    pages.insert(page + 1, tail)?;
     pages[page].cut(cut);
-    Ok(())
-}
-
-/// A page comes in.
-fn put_page(pages: &mut Vec<Page>, index: usize, page: Page) -> Result<(), Refusal>
-    requires { index ≤ vec_len pages.old }
-    ensures ok { OnOk result (pages.new.items ≡ insert pages.old.items index page) }
-    ensures len { OnOk result (vec_len pages.new ≡ vec_len pages.old + 1) }
-    ensures err { OnErr result (pages.new.items ≡ pages.old.items) }
-    ensures memory { IfErr result (λ e. e ≡ Refusal.Memory) }
-{
-    pages.insert(index, page)?;
     Ok(())
 }

@@ -250,19 +250,6 @@ fn is_past(pages: &Vec<Page>, page: usize, id: Id) -> bool
     !starts_above(pages, page, id)
 }
 
-/// Whether all behind a page is above an identifier.
-fn is_up_to(pages: &Vec<Page>, page: usize, id: Id) -> bool
-    requires ordered { AreOrdered (entries_in pages.now.items) }
-    requires filled { AreFilledPages pages.now.items }
-    requires within { page < vec_len pages.now }
-    ensures { result ≡ true → StartsAbove id (entries_in (drop (page + 1) pages.now.items)) }
-{
-    if page + 1 < pages.len() {
-        return starts_above(pages, page + 1, id);
-    }
-    true
-}
-
 /// Whether a page is the one in which an identifier must be.
 fn is_in(pages: &Vec<Page>, page: usize, id: Id) -> bool
     requires ordered { AreOrdered (entries_in pages.now.items) }
@@ -277,7 +264,10 @@ fn is_in(pages: &Vec<Page>, page: usize, id: Id) -> bool
     if !is_past(pages, page, id) {
         return false;
     }
-    is_up_to(pages, page, id)
+    if page + 1 >= pages.len() {
+        return true;
+    }
+    starts_above(pages, page + 1, id)
 }
 
 /// The last page that does not start above an identifier; the first one where there is none.

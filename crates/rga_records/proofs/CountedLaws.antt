@@ -1,6 +1,6 @@
 -- That records stay in order and counted through each change.
-use Rattle.std.proofs.Common.{◌≡◌, ℕ, ◌+◌, ◌-◌, true, cond, [], is_some, refl, sym, subst, true≢false}
-use Rattle.std.specs.Prelude.{Some, None, Ok, max}
+use Rattle.std.proofs.Common.{arith, ◌≡◌, ℕ, ◌+◌, ◌-◌, true, cond, [], refl}
+use Rattle.std.specs.Prelude.{Some, Ok, max}
 use Rattle.std.specs.List.Sorted.{IsStrictlySortedBy}
 use Rattle.std.specs.FinMap as finite_map
 use Rattle.std.specs.FinSet as finite_set
@@ -28,18 +28,11 @@ pub record IsFound (c : Content) (id : Identifier) : Type 0 where
   pub found : finite_map.get c.inserted id ≡ Some element
 
 pub found_there : (c : Content) (id : Identifier) → finite_map.contains_key c.inserted id ≡ true → IsFound c id
-found_there c id h =
-    elim (finite_map.get c.inserted id) as (λ o. finite_map.get c.inserted id ≡ o → is_some o ≡ true → IsFound c id) [
-      | None ↦ λ g t. absurd (true≢false (sym t))
-      | Some x ↦ λ g t. record { element = x; found = g }
-    ] refl h
+found_there c id h = grind (arith)
 
 -- counts that are said to be what they are to be
-recounted : (c d : Content) (latest insertions identifiers later more limit : ℕ) → d ≡ c → later ≡ latest → more ≡ identifiers → IsCounted c latest insertions identifiers limit → IsCounted d later insertions more limit
-recounted c d latest insertions identifiers later more limit same is_later is_more w =
-    subst (λ e. IsCounted e later insertions more limit) (sym same)
-    (subst (λ n. IsCounted c n insertions more limit) (sym is_later)
-    (subst (λ n. IsCounted c latest insertions n limit) (sym is_more) w))
+pub recounted : (c d : Content) (latest insertions identifiers later inserted more limit : ℕ) → d ≡ c → later ≡ latest → inserted ≡ insertions → more ≡ identifiers → IsCounted c latest insertions identifiers limit → IsCounted d later inserted more limit
+recounted c d latest insertions identifiers later inserted more limit same is_later is_inserted is_more w = rw (same, is_later, is_inserted, is_more) w
 
 module _ (es fs : Entries) (latest insertions identifiers limit : ℕ) (w : AreRecords es latest insertions identifiers limit) (ordered : AreOrdered fs) where
   abbrev held : Content
@@ -50,7 +43,7 @@ module _ (es fs : Entries) (latest insertions identifiers limit : ℕ) (w : AreR
       → later ≡ max latest id.counter → more ≡ cond (finite_set.contains held.deleted id) identifiers (identifiers + 1) → AreRecords fs later (insertions + 1) more limit
   records_insertion id parent ch later more answered joined is_later is_more = record {
     ordered = ordered;
-    counted = recounted _ _ _ _ _ later more limit joined is_later is_more (counted_insertion held latest insertions identifiers limit w.counted id parent ch answered);
+    counted = recounted _ _ _ _ _ later _ more limit joined is_later refl is_more (counted_insertion held latest insertions identifiers limit w.counted id parent ch answered);
   }
 
   pub records_deletion : (id : Identifier) (later more : ℕ) → answer limit held (Delete id) ≡ Ok New
@@ -58,7 +51,7 @@ module _ (es fs : Entries) (latest insertions identifiers limit : ℕ) (w : AreR
       → later ≡ max latest id.counter → more ≡ cond (finite_map.contains_key held.inserted id) identifiers (identifiers + 1) → AreRecords fs later insertions more limit
   records_deletion id later more answered joined is_later is_more = record {
     ordered = ordered;
-    counted = recounted _ _ _ _ _ later more limit joined is_later is_more (counted_deletion held latest insertions identifiers limit w.counted id answered);
+    counted = recounted _ _ _ _ _ later _ more limit joined is_later refl is_more (counted_deletion held latest insertions identifiers limit w.counted id answered);
   }
 
   pub records_without_insertion : (id : Identifier) (x : Element) (sooner less : ℕ) → finite_map.get held.inserted id ≡ Some x
@@ -66,7 +59,7 @@ module _ (es fs : Entries) (latest insertions identifiers limit : ℕ) (w : AreR
       → sooner ≡ clock_of (without_insertion id held) → less ≡ cond (finite_set.contains held.deleted id) identifiers (identifiers - 1) → AreRecords fs sooner (insertions - 1) less limit
   records_without_insertion id x sooner less found left is_sooner is_less = record {
     ordered = ordered;
-    counted = recounted _ _ _ _ _ sooner less limit left is_sooner is_less (counted_without_insertion held latest insertions identifiers limit w.counted id x found);
+    counted = recounted _ _ _ _ _ sooner _ less limit left is_sooner refl is_less (counted_without_insertion held latest insertions identifiers limit w.counted id x found);
   }
 
   pub records_without_deletion : (id : Identifier) (sooner less : ℕ) → finite_set.contains held.deleted id ≡ true
@@ -74,5 +67,5 @@ module _ (es fs : Entries) (latest insertions identifiers limit : ℕ) (w : AreR
       → sooner ≡ clock_of (without_deletion id held) → less ≡ cond (finite_map.contains_key held.inserted id) identifiers (identifiers - 1) → AreRecords fs sooner insertions less limit
   records_without_deletion id sooner less found left is_sooner is_less = record {
     ordered = ordered;
-    counted = recounted _ _ _ _ _ sooner less limit left is_sooner is_less (counted_without_deletion held latest insertions identifiers limit w.counted id found);
+    counted = recounted _ _ _ _ _ sooner _ less limit left is_sooner refl is_less (counted_without_deletion held latest insertions identifiers limit w.counted id found);
   }

@@ -70,16 +70,11 @@ module _ (old new : List ℕ) (longer : length old ≤ length new) (p m : ℕ) (
 
 few_after : (p m : ℕ) (chain : List ℕ) → length (put_after p m chain) ≤ suc (length chain)
 few_after p m [] = omega arith
-few_after p m (i ∷ later) =
-    let rest : length (put_after p m later) ≤ suc (length later) = few_after p m later in
-    elim (i == p) as (λ b. length (cond b (i ∷ m ∷ later) (i ∷ put_after p m later)) ≤ suc (length (i ∷ later))) [ true ↦ omega arith | false ↦ omega arith ]
+few_after p m (i ∷ later) = grind (arith, few_after p m later)
 
 others_after : (p m k : ℕ) (chain : List ℕ) → (m == k) ≡ false → list_any (λ j. j == k) (put_after p m chain) ≡ list_any (λ j. j == k) chain
 others_after p m k [] other = refl
-others_after p m k (i ∷ later) other = elim (i == p) as (λ b. list_any (λ j. j == k) (cond b (i ∷ m ∷ later) (i ∷ put_after p m later)) ≡ (i == k || list_any (λ j. j == k) later)) [
-  | true ↦ ap (λ b. i == k || (b || list_any (λ j. j == k) later)) other
-  | false ↦ ap (λ b. i == k || b) (others_after p m k later other)
-]
+others_after p m k (i ∷ later) other = grind (arith, others_after p m k later other)
 
 new_after : (p m : ℕ) (chain : List ℕ) → list_any (λ j. j == p) chain ≡ true → list_any (λ j. j == m) (put_after p m chain) ≡ true
 new_after p m [] h = absurd (true≢false (sym h))

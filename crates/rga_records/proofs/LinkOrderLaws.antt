@@ -1,6 +1,6 @@
 -- How the order of the elements grows as records are gone through by rising identifier: no identifier before is larger, so
 -- each new element goes directly behind its parent.
-use Rattle.std.proofs.Common.{◌≡◌, true, cond, ◌||◌, List, [], ◌∷◌, ◌++◌, filter, is_some, refl, sym, ap, ◌∙◌, subst}
+use Rattle.std.proofs.Common.{arith, ◌≡◌, true, cond, ◌||◌, List, [], ◌∷◌, ◌++◌, filter, is_some, refl, sym, ap, ◌∙◌, subst}
 use Rattle.std.specs.Prelude.{Option, Some, None}
 use Rattle.std.specs.Option.{option_map}
 use Rattle.std.specs.Cmp.{tied_itself}
@@ -33,7 +33,7 @@ use Rattle.rga_store.proofs.StepLaws.{sound_within}
 use Rattle.rga_pages.specs.declared.entry.Record.{Record}
 use Rattle.rga_pages.proofs.EntryLaws.{greater, ordered_front, ordered_back, before_below}
 use Rattle.rga_pages.specs.Pages.{AreBelow}
-use Rattle.rga_records.specs.Records.{Entries, AreOrdered, element_of_record, insertion_of_record, marked_record_ids, content_of_records}
+use Rattle.rga_records.specs.Records.{Entries, AreOrdered, element_of_record, marked_record_ids, content_of_records}
 use Rattle.rga_records.proofs.RecordLaws.{inserted_at, some_inserted}
 use Rattle.rga_records.proofs.SortedRecordLaws.{insertions_listed}
 
@@ -42,9 +42,7 @@ use Rattle.rga_records.proofs.SortedRecordLaws.{insertions_listed}
 module _ (done rest : Entries) (ordered : AreOrdered (done ++ rest)) where
   -- the insertions of both
   inserted-append : (content_of_records (done ++ rest)).inserted ≡ union (content_of_records done).inserted (content_of_records rest).inserted
-  inserted-append =
-      ap finite_map.from_entries (filter_map-append insertion_of_record done rest
-      ∙ (λ k. sym (insertions_listed done (ordered_front done rest ordered)) k ++ sym (insertions_listed rest (ordered_back done rest ordered)) k))
+  inserted-append = grind (arith, filter_map-append, insertions_listed, ordered_front, ordered_back)
 
   marked-append : marked_record_ids (done ++ rest) ≡ marked_record_ids done ++ marked_record_ids rest
   marked-append = ap keys_of (filter-append (λ e. e.1.deleted) done rest) ∙ map-append (λ e. e.0) (filter (λ e. e.1.deleted) done) (filter (λ e. e.1.deleted) rest)

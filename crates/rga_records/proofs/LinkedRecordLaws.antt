@@ -1,16 +1,17 @@
 -- How the links of records' elements grow record by record, and that what is read along them is the text.
-use Rattle.std.proofs.Common.{◌≡◌, ◌≤◌, ◌<◌, ℕ, true, false, cond, ◌||◌, List, [], ◌∷◌, ◌++◌, map, length, get_or, is_some, refl, sym, ap, ◌∙◌, subst, true≢false, arith}
+use Rattle.std.proofs.Common.{◌≡◌, ◌≤◌, ◌<◌, ℕ, false, cond, ◌||◌, List, [], ◌∷◌, ◌++◌, map, length, get_or, refl, sym, ap, ◌∙◌, subst, true≢false, arith}
 use Rattle.std.specs.Prelude.{Option, Some, None, SomeIff}
 use Rattle.std.specs.Char.{IsScalar}
 use Rattle.std.specs.Option.{option_map}
 use Rattle.std.specs.List.{list_any, filter_map, cons_option, AllByRecursion}
 use Rattle.std.specs.List.Sorted.{IsStrictlySortedBy}
 use Rattle.std.specs.Map.{keys_of, lookup}
+use Rattle.std.proofs.lemmas.Bool.{false_from_ne_true}
 use Rattle.std.proofs.lemmas.Option.{none-some}
 use Rattle.std.proofs.lemmas.List.{map-append, length-map, get_or-map}
 use Rattle.std.proofs.lemmas.Map.Keys.{IsDistinct-from_sorted, IsDistinct-head, IsDistinct-tail}
 use Rattle.rga_ops.specs.Identifier.{Identifier, id_cmp, root}
-use Rattle.rga_ops.specs.Content.{Element, element, Content}
+use Rattle.rga_ops.specs.Content.{element, Content}
 use Rattle.rga_ops.specs.RootPath.{is_complete}
 use Rattle.rga_ops.specs.Order.{order, text, shown}
 use Rattle.rga_ops.proofs.IdentifierLaws.{is, is_itself, is_swap}
@@ -19,7 +20,7 @@ use Rattle.rga_ops.proofs.OrderLaws.{order_distinct, order_list}
 use Rattle.rga_ops.proofs.PathLaws.{inserted_if_complete}
 use Rattle.rga_pages.specs.declared.entry.Record.{Record}
 use Rattle.rga_pages.proofs.EntryLaws.{ordered_front}
-use Rattle.rga_records.specs.Records.{Entries, AreOrdered, element_of_record, content_of_records}
+use Rattle.rga_records.specs.Records.{Entries, AreOrdered, content_of_records}
 use Rattle.rga_records.specs.Links.{shown_of, chars_along, AreCodes, IsNodeOf, AreLinked, AreLinks, AreSoundRecords, with_link}
 use Rattle.rga_records.proofs.RecordLaws.{AreApart, apart_of, element_of, mark_of, inserted_at, deleted_at}
 use Rattle.rga_records.proofs.LinkOrderLaws.{sound_front, order_linked, order_unlinked}
@@ -33,21 +34,6 @@ sound_before es rest s = record { ordered = ordered_front es rest s.ordered; sou
 
 -- ---- a record more
 
--- what a record with a character has as its element
-has_element : (v : Record) → is_some v.ch ≡ true → (x : Element) × (element_of_record v ≡ Some x) × (x.parent ≡ v.parent)
-has_element v some = of v.ch some
-  where
-    of : (o : Option ℕ) → is_some o ≡ true → (x : Element) × (option_map (λ ch. element v.parent ch) o ≡ Some x) × (x.parent ≡ v.parent)
-    of None some = absurd (true≢false (sym some))
-    of (Some ch) some = (element v.parent ch, refl, refl)
-
-has_none : (v : Record) → is_some v.ch ≡ false → element_of_record v ≡ None
-has_none v none = of v.ch none
-  where
-    of : (o : Option ℕ) → is_some o ≡ false → option_map (λ ch. element v.parent ch) o ≡ None
-    of None none = refl
-    of (Some ch) none = absurd (true≢false none)
-
 -- a number more
 codes_push : (xs : List ℕ) (os : List (Option ℕ)) (x : ℕ) (o : Option ℕ) → AreCodes xs os → SomeIff o (IsScalar x) x → AreCodes (xs ++ x ∷ []) (os ++ o ∷ [])
 codes_push [] [] x o h last = (last, tt)
@@ -60,34 +46,29 @@ module _ (es : Entries) (codes next : List ℕ) (l : AreLinks es codes next) (e 
   codes_more = subst (AreCodes (codes ++ code ∷ [])) (sym (map-append (λ d. shown_of d.1) es (e ∷ []))) (codes_push codes (map (λ d. shown_of d.1) es) code (shown_of e.1) l.each_shown of)
 
   -- its element is linked in
-  pub links_more : (above : Option ℕ) → is_some e.1.ch ≡ true → IsNodeOf e.1.parent (keys_of es) above → length next < WAITS
+  pub links_more : (above : Option ℕ) (ch : ℕ) → e.1.ch ≡ Some ch → IsNodeOf e.1.parent (keys_of es) above → length next < WAITS
       → AreLinks (es ++ e ∷ []) (codes ++ code ∷ []) (with_link above next)
-  links_more above some node room =
+  links_more above ch some node room =
       let before : AreSoundRecords es = sound_before es (e ∷ []) s in
       let c : Content = content_of_records es in
-      let has : (x : Element) × (element_of_record e.1 ≡ Some x) × (x.parent ≡ e.1.parent) = has_element e.1 some in
       record {
         each_shown = codes_more;
         linked = subst (λ ks. AreLinked (order (content_of_records (es ++ e ∷ []))) ks (with_link above next)) (sym (map-append (λ d. d.0) es (e ∷ [])))
-            (subst (λ xs. AreLinked xs (keys_of es ++ e.0 ∷ []) (with_link above next)) (sym (order_linked es e has.0 s.ordered s.sound has.1))
-            (step (order c) (keys_of es) next l.linked has.0.parent e.0 (IsDistinct-from_sorted id_cmp (keys_of es) before.ordered) (order_distinct c (order c) (order_list c).in_order) room above
-            (subst (λ p. IsNodeOf p (keys_of es) above) (sym has.2) node)));
+            (subst (λ xs. AreLinked xs (keys_of es ++ e.0 ∷ []) (with_link above next)) (sym (order_linked es e (element e.1.parent ch) s.ordered s.sound (ap (option_map (element e.1.parent)) some)))
+            (step (order c) (keys_of es) next l.linked e.1.parent e.0 (IsDistinct-from_sorted id_cmp (keys_of es) before.ordered) (order_distinct c (order c) (order_list c).in_order) room above node));
       }
 
   -- it waits, where it has none
-  pub links_same : is_some e.1.ch ≡ false → AreLinks (es ++ e ∷ []) (codes ++ code ∷ []) (next ++ WAITS ∷ [])
+  pub links_same : e.1.ch ≡ None → AreLinks (es ++ e ∷ []) (codes ++ code ∷ []) (next ++ WAITS ∷ [])
   links_same none = record {
     each_shown = codes_more;
     linked = subst (λ ks. AreLinked (order (content_of_records (es ++ e ∷ []))) ks (next ++ WAITS ∷ [])) (sym (map-append (λ d. d.0) es (e ∷ [])))
-        (step_waiting (order (content_of_records es)) (keys_of es) next l.linked e.0 (order (content_of_records (es ++ e ∷ []))) (order_unlinked es e s.ordered (has_none e.1 none)));
+        (step_waiting (order (content_of_records es)) (keys_of es) next l.linked e.0 (order (content_of_records (es ++ e ∷ []))) (order_unlinked es e s.ordered (ap (option_map (element e.1.parent)) none)));
   }
 
 -- the same under other names
 pub links_as : (es : Entries) (codes codes_now next next_now : List ℕ) → codes_now ≡ codes → next_now ≡ next → AreLinks es codes next → AreLinks es codes_now next_now
-links_as es codes codes_now next next_now same_codes same_next l = record {
-  each_shown = subst (λ xs. AreCodes xs (map (λ e. shown_of e.1) es)) (sym same_codes) l.each_shown;
-  linked = subst (AreLinked (order (content_of_records es)) (keys_of es)) (sym same_next) l.linked;
-}
+links_as es codes codes_now next next_now same_codes same_next l = grind (arith)
 
 -- ---- nothing
 
@@ -106,10 +87,8 @@ links_nothing = record {
 }
   where
     none : (k : Identifier) → is_complete (content_of_records []) k ≡ false
-    none k = elim (is_complete (content_of_records []) k) as (λ b. is_complete (content_of_records []) k ≡ b → b ≡ false) [
-      | true ↦ λ t. let y = inserted_if_complete (content_of_records []) k t in absurd (none-some _ (sym (inserted_at [] tt k) ∙ y.1))
-      | false ↦ λ f. refl
-    ] refl
+    none k = false_from_ne_true (is_complete (content_of_records []) k)
+        (λ t. let y = inserted_if_complete (content_of_records []) k t in none-some _ (sym (inserted_at [] tt k) ∙ y.1))
 
     empty : (xs : List Identifier) → ((k : Identifier) → list_any (is k) xs ≡ false) → xs ≡ []
     empty [] h = refl
@@ -134,15 +113,7 @@ own_records (e ∷ es) apart = (
 
 -- what the content shows of its element is what the record says
 shown_own : (es : Entries) → AreOrdered es → AllByRecursion (λ e. shown (content_of_records es) e.0 ≡ shown_of e.1) es
-shown_own es ordered = all_map (λ (e : Identifier × Record). lookup (is e.0) es ≡ Some e.1) (λ e. shown (content_of_records es) e.0 ≡ shown_of e.1)
-    (λ e found.
-    (λ k. cond ((deleted_at es ordered e.0 ∙ ap mark_of found) k) None (option_map (λ x. x.ch) ((inserted_at es ordered e.0 ∙ ap element_of found) k)))
-    ∙ ap (λ o. cond e.1.deleted None o) (back e.1.parent e.1.ch))
-    es (own_records es (apart_of es ordered))
-  where
-    back : (parent : Identifier) (o : Option ℕ) → option_map (λ (x : Element). x.ch) (option_map (λ ch. element parent ch) o) ≡ o
-    back parent None = refl
-    back parent (Some ch) = refl
+shown_own es ordered = grind (arith, all_map, is, deleted_at, mark_of, inserted_at, element_of, own_records, apart_of)
 
 -- what is shown of the records
 abbrev pub kept_of : Entries → List (Option ℕ)

@@ -1,5 +1,5 @@
 -- What two sets of records know together, and where they conflict, record by record.
-use Rattle.std.proofs.Common.{◌≡◌, suc, ◌||◌, ◌+◌, ◌≤◌, Bool, true, false, cond, not, List, [], ◌∷◌, ◌++◌, map, filter, length, is_some, refl, sym, ap, ◌∙◌, arith, true≢false}
+use Rattle.std.proofs.Common.{rules, ◌≡◌, suc, ◌||◌, ◌+◌, ◌≤◌, Bool, true, false, cond, not, List, [], ◌∷◌, ◌++◌, map, filter, length, is_some, refl, sym, ap, ◌∙◌, arith, true≢false}
 use Rattle.std.specs.Prelude.{Some, None, find}
 use Rattle.std.specs.Option.{option_map_or}
 use Rattle.std.specs.List.{filter_map, AllByRecursion}
@@ -62,9 +62,7 @@ least_is_first c es h =
 
 -- the join knows these too, and nothing else
 pub unknown_counted : (c : Content) (es : Entries) → AreOrdered es → finite_set.len (known_ids (join c (content_of_records es))) ≡ finite_set.len (known_ids c) + length (unknown_ids c es)
-unknown_counted c es h =
-    len-known_join c (content_of_records es) (ids_of_records_where is_meaningful es) (ids_distinct is_meaningful es h)
-    (λ q. known_at es h q ∙ sym (any_where is_meaningful q es (apart_of es h)))
+unknown_counted c es h = search (rules, len-known_join, ids_distinct, known_at, any_where, apart_of)
 
 -- they are no more than the records know
 pub unknown_few : (c : Content) (es : Entries) → AreOrdered es → length (unknown_ids c es) ≤ finite_set.len (known_ids (content_of_records es))

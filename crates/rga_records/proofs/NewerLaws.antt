@@ -1,9 +1,9 @@
 -- What is newer than all that is known: that it is new, and what a chain of such makes of the records.
 use Rattle.std.proofs.lemmas.Bool.Decides.{nat_tests}
-use Rattle.std.proofs.Common.{◌≡◌, ℕ, suc, zero, ◌+◌, ◌<◌, ◌≤◌, ◌==◌, nat_le, ◌&&◌, true, false, cond, List, [], ◌∷◌, ◌++◌, length, slice_index_or, refl, sym, ap, ◌∙◌, subst, arith, append_assoc, inl, inr, ne_eqb, ◌||◌, true≢false}
+use Rattle.std.proofs.Common.{◌≡◌, ℕ, suc, zero, ◌+◌, ◌<◌, ◌≤◌, ◌==◌, nat_le, ◌&&◌, true, false, cond, List, [], ◌∷◌, ◌++◌, length, slice_index_or, refl, sym, ap, ◌∙◌, subst, arith, append_assoc, ne_eqb}
 use Rattle.std.specs.Prelude.{Some, None, Ok, max}
+use Rattle.std.proofs.lemmas.Bool.{false_from_ne_true}
 use Rattle.std.proofs.lemmas.List.{append-nil}
-use Rattle.std.proofs.lemmas.Option.{none-some}
 use Rattle.std.specs.Cmp.{tied_itself}
 use Rattle.std.specs.Ordering.{is_lt}
 use Rattle.std.specs.declared.cmp.Ordering.TheVariants.{Less}
@@ -18,9 +18,7 @@ use Rattle.rga_ops.specs.Content.{Content, element, join, single, clock_of, know
 use Rattle.rga_ops.specs.Answer.{answer}
 use Rattle.rga_ops.specs.declared.op.Op.TheVariants.{Insert, Delete}
 use Rattle.rga_ops.specs.declared.refusal.Taken.TheVariants.{New}
-use Rattle.rga_ops.specs.declared.refusal.Refusal.TheVariants.{BadId, BadOrder}
 use Rattle.rga_ops.proofs.IdentifierLaws.{ids_total}
-use Rattle.rga_ops.proofs.AnswerLaws.{new-iff, passed, bad, contains-known}
 use Rattle.rga_ops.proofs.ClockLaws.{within_clock, clock_insertion}
 use Rattle.rga_ops.proofs.NewestLaws.{lower_counter}
 use Rattle.rga_store.specs.Counted.{IsCounted}
@@ -32,6 +30,7 @@ use Rattle.rga_pages.proofs.EntryLaws.{ordered_front, before_below, insert_betwe
 use Rattle.rga_records.specs.Records.{Entries, element_of_record, content_of_records, AreOrdered}
 use Rattle.rga_records.specs.Chains.{grown, AreNewer, AreRows, last_entry_of, latest_of}
 use Rattle.rga_records.proofs.RecordLaws.{deleted_at, content_inserted}
+use Rattle.rga_records.proofs.CountedLaws.{recounted}
 
 -- ---- one alone
 
@@ -44,11 +43,7 @@ newer_absent c id h =
     ] refl
 
 pub newer_unmarked : (c : Content) (id : Identifier) → clock_of c < id.counter → finite_set.contains c.deleted id ≡ false
-newer_unmarked c id h =
-    elim (finite_set.contains c.deleted id) as (λ b. finite_set.contains c.deleted id ≡ b → b ≡ false) [
-      | true ↦ λ e. absurd (omega (arith, h, (within_clock c).deleted id e))
-      | false ↦ λ e. refl
-    ] refl
+newer_unmarked c id h = false_from_ne_true (finite_set.contains c.deleted id) (λ e. omega (arith, h, (within_clock c).deleted id e))
 
 rises : (a b : ℕ) → b < a → nat_le a b ≡ false
 rises a b h = grind (arith, nat_tests)
@@ -58,28 +53,14 @@ proper id n h = ap (λ b. b && (id.replica == 0)) (ne_eqb id.counter 0 (λ z. om
 
 -- where there is room, what is not inserted is new
 pub absent_is_new : (limit : ℕ) (c : Content) (id parent : Identifier) (ch : ℕ) → finite_map.get c.inserted id ≡ None → parent.counter < id.counter → known_count c < limit → answer limit c (Insert id parent ch) ≡ Ok New
-absent_is_new limit c id parent ch absent rise room =
-    (new-iff limit c (Insert id parent ch)).1 (record {
-      well_formed =
-          ap (λ b. cond b (bad BadId) (cond (nat_le id.counter parent.counter) (bad BadOrder) passed)) (proper id parent.counter rise)
-          ∙ ap (λ b. cond b (bad BadOrder) passed) (rises id.counter parent.counter rise);
-      not_held = λ h. none-some _ (sym absent ∙ h);
-      no_other = λ (x, h, other). none-some _ (sym absent ∙ h);
-      room = inr (λ e. omega (arith, e, room));
-    })
+absent_is_new limit c id parent ch absent rise room = grind arith
 
 pub newer_is_new : (limit : ℕ) (c : Content) (id parent : Identifier) (ch : ℕ) → clock_of c < id.counter → parent.counter < id.counter → known_count c < limit → answer limit c (Insert id parent ch) ≡ Ok New
 newer_is_new limit c id parent ch newer rise room = absent_is_new limit c id parent ch (newer_absent c id newer) rise room
 
 -- and so is the deletion of what is inserted and not deleted
 pub deletion_is_new : (limit : ℕ) (c : Content) (id : Identifier) → 0 < id.counter → finite_map.contains_key c.inserted id ≡ true → finite_set.contains c.deleted id ≡ false → answer limit c (Delete id) ≡ Ok New
-deletion_is_new limit c id proper_id inserted unmarked =
-    (new-iff limit c (Delete id)).1 (record {
-      well_formed = ap (λ b. cond b (bad BadId) passed) (proper id 0 proper_id);
-      not_held = λ h. true≢false (sym h ∙ unmarked);
-      no_other = λ h. absurd h;
-      room = inl (contains-known c id ∙ ap (λ b. b || finite_set.contains c.deleted id) inserted);
-    })
+deletion_is_new limit c id proper_id inserted unmarked = grind arith
 
 -- and then it is the clock
 newer_clock : (c : Content) (id parent : Identifier) (ch : ℕ) → clock_of c < id.counter → parent.counter < id.counter → id.counter ≤ clock_of (join c (single (Insert id parent ch)))
@@ -110,35 +91,28 @@ latest_at n (e ∷ x ∷ es) (suc i) d h = latest_at e.id.counter (x ∷ es) i d
 
 -- ---- what is counted
 
-recounted : (c : Content) (latest insertions identifiers later more most limit : ℕ) → later ≡ latest → more ≡ insertions → most ≡ identifiers → IsCounted c latest insertions identifiers limit → IsCounted c later more most limit
-recounted c latest insertions identifiers later more most limit p q r w =
-    subst (λ n. IsCounted c n more most limit) (sym p)
-    (subst (λ n. IsCounted c latest n most limit) (sym q)
-    (subst (λ n. IsCounted c latest insertions n limit) (sym r) w))
-
 -- for the same content, whose insertions are counted anew
 pub counted_as : (c d : Content) (latest insertions identifiers more limit : ℕ) → d ≡ c → more ≡ identifiers → IsCounted c latest insertions identifiers limit → IsCounted d latest (finite_map.len d.inserted) more limit
 counted_as c d latest insertions identifiers more limit same is w =
-    subst (λ b. IsCounted b latest (finite_map.len b.inserted) more limit) (sym same)
-    (recounted c latest insertions identifiers latest (finite_map.len c.inserted) more limit refl (sym w.inserted) is w)
+    recounted c d latest insertions identifiers latest (finite_map.len d.inserted) more limit same refl (ap (λ b. finite_map.len b.inserted) same ∙ sym w.inserted) is w
 
 -- one that is newer counts as one more
 pub counted_newer : (c : Content) (latest insertions identifiers limit : ℕ) → IsCounted c latest insertions identifiers limit → (id parent : Identifier) (ch : ℕ) → clock_of c < id.counter → parent.counter < id.counter → identifiers < limit
     → IsCounted (join c (single (Insert id parent ch))) id.counter (insertions + 1) (identifiers + 1) limit
 counted_newer c latest insertions identifiers limit w id parent ch newer rise room =
-    recounted (join c (single (Insert id parent ch))) (max latest id.counter) (insertions + 1) (cond (finite_set.contains c.deleted id) identifiers (identifiers + 1)) id.counter (insertions + 1) (identifiers + 1) limit
-    (omega (arith, w.clocked, newer)) refl (sym (ap (λ b. cond b identifiers (identifiers + 1)) (newer_unmarked c id newer)))
+    recounted (join c (single (Insert id parent ch))) (join c (single (Insert id parent ch))) (max latest id.counter) (insertions + 1) (cond (finite_set.contains c.deleted id) identifiers (identifiers + 1)) id.counter (insertions + 1) (identifiers + 1) limit
+    refl (omega (arith, w.clocked, newer)) refl (sym (ap (λ b. cond b identifiers (identifiers + 1)) (newer_unmarked c id newer)))
     (counted_insertion c latest insertions identifiers limit w id parent ch (newer_is_new limit c id parent ch newer rise (subst (λ n. n < limit) w.known room)))
 
 pub counted_chain : (c : Content) (latest insertions identifiers limit : ℕ) (parent : Identifier) (es : List Entry) → IsCounted c latest insertions identifiers limit → AreNewer c parent es → identifiers + length es ≤ limit
     → IsCounted (grown c parent es) (latest_of latest es) (insertions + length es) (identifiers + length es) limit
 counted_chain c latest insertions identifiers limit parent [] w newer room =
-    recounted c latest insertions identifiers latest (insertions + 0) (identifiers + 0) limit refl (omega arith) (omega arith) w
+    recounted c c latest insertions identifiers latest (insertions + 0) (identifiers + 0) limit refl refl (omega arith) (omega arith) w
 counted_chain c latest insertions identifiers limit parent (e ∷ es) w newer room =
     let d : Content = join c (single (Insert e.id parent e.ch)) in
     let n : ℕ = length es in
     let more : n + 1 ≡ length (e ∷ es) = omega arith in
-    recounted (grown d e.id es) (latest_of e.id.counter es) (insertions + 1 + n) (identifiers + 1 + n) (latest_of e.id.counter es) (insertions + length (e ∷ es)) (identifiers + length (e ∷ es)) limit refl (omega (arith, more)) (omega (arith, more))
+    recounted (grown d e.id es) (grown d e.id es) (latest_of e.id.counter es) (insertions + 1 + n) (identifiers + 1 + n) (latest_of e.id.counter es) (insertions + length (e ∷ es)) (identifiers + length (e ∷ es)) limit refl refl (omega (arith, more)) (omega (arith, more))
     (counted_chain d e.id.counter (insertions + 1) (identifiers + 1) limit e.id es
     (counted_newer c latest insertions identifiers limit w e.id parent e.ch newer.0 newer.1 (omega (arith, more, room))) newer.2 (omega (arith, more, room)))
 

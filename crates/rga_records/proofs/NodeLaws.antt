@@ -12,7 +12,8 @@ use Rattle.rga_ops.proofs.IdentifierLaws.{is, is_id-same}
 use Rattle.rga_pages.specs.declared.entry.Record.{Record}
 use Rattle.rga_pages.specs.Pages.{Entries, entries_in, entries_before, entries_behind, record_of, AreOrdered, AreBelow, IsPlaceInPages, IsSpot}
 use Rattle.rga_pages.proofs.EntryLaws.{greater}
-use Rattle.rga_pages.proofs.PlaceLaws.{before_is, flat_push, index_within, parted, Stood}
+use Rattle.rga_pages.proofs.PartLaws.{before_is, flat_push, index_within, parted}
+use Rattle.rga_pages.proofs.PlaceLaws.{Stood}
 use Rattle.rga_pages.proofs.SpotLaws.{stands, record_none}
 use Rattle.rga_records.specs.Links.{IsNodeOf}
 

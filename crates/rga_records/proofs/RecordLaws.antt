@@ -1,9 +1,9 @@
 -- What records stand for, by look-ups: so what a change of one record changes.
-use Rattle.std.proofs.Common.{◌≡◌, ℕ, Bool, true, false, cond, not, ◌&&◌, ◌||◌, [], ◌∷◌, filter, is_some, refl, sym, ap, ◌∙◌, true≢false}
+use Rattle.std.proofs.Common.{arith, ◌≡◌, ℕ, Bool, true, false, cond, not, ◌&&◌, ◌||◌, [], ◌∷◌, is_some, refl, sym, ap, ◌∙◌, true≢false}
 use Rattle.std.specs.Prelude.{Option, Some, None}
 use Rattle.std.specs.Cmp.{eq_by_cmp_equiv}
 use Rattle.std.specs.Option.{option_map, option_and_then, option_map_or}
-use Rattle.std.specs.List.{list_any, filter_map, cons_option, IsDistinct}
+use Rattle.std.specs.List.{list_any, filter_map, IsDistinct}
 use Rattle.std.specs.Map.{lookup, keys_of}
 use Rattle.std.specs.FinMap as finite_map
 use Rattle.std.specs.FinMap.{find}
@@ -13,7 +13,7 @@ use Rattle.std.proofs.lemmas.Map.Entries.{none_past_head}
 use Rattle.std.proofs.lemmas.Map.Keys.{IsDistinct-from_sorted, IsDistinct-tail}
 use Rattle.rga_ops.specs.Identifier.{Identifier, id_cmp}
 use Rattle.rga_ops.specs.Content.{Element, element, join, single, known_ids}
-use Rattle.rga_ops.proofs.IdentifierLaws.{ids_total, is, is_swap, same_id}
+use Rattle.rga_ops.proofs.IdentifierLaws.{ids_total, is}
 use Rattle.rga_ops.proofs.ContentLaws.{same_content}
 use Rattle.rga_ops.proofs.AnswerLaws.{contains-known}
 use Rattle.rga_ops.proofs.ListSteps.{get-insertion, get-deletion}
@@ -23,6 +23,7 @@ use Rattle.rga_store.proofs.StepLaws.{deleted_then, deleted_now}
 use Rattle.rga_store.proofs.CaseSteps.{true_where}
 use Rattle.rga_store.specs.Without.{without_insertion, without_deletion}
 use Rattle.rga_pages.specs.declared.entry.Record.{Record}
+use Rattle.rga_pages.specs.Pages.{marked}
 use Rattle.rga_records.specs.Records.{Entries, element_of_record, insertion_of_record, ids_of_records_where, marked_record_ids, is_meaningful, content_of_records, AreOrdered}
 
 -- ---- what is found at an identifier
@@ -35,25 +36,17 @@ mark_of o = option_map_or (λ v. v.deleted) o false
 
 -- a record has an element where it has a character, and shows both as they are kept
 pub is_some-char : (v : Record) → is_some (element_of_record v) ≡ is_some v.ch
-is_some-char v = shown v.ch
-  where
-    shown : (o : Option ℕ) → is_some (option_map (λ ch. element v.parent ch) o) ≡ is_some o
-    shown None = refl
-    shown (Some ch) = refl
+is_some-char v = grind (arith)
 
 pub element_shown : (v : Record) → pair_of (element_of_record v) ≡ option_map (λ ch. (v.parent, ch)) v.ch
-element_shown v = shown v.ch
-  where
-    shown : (o : Option ℕ) → pair_of (option_map (λ ch. element v.parent ch) o) ≡ option_map (λ ch. (v.parent, ch)) o
-    shown None = refl
-    shown (Some ch) = refl
+element_shown v = grind arith
 
 pub element_back : (v : Record) → option_map (λ x. element x.0 x.1) (option_map {U = Identifier × ℕ} (λ ch. (v.parent, ch)) v.ch) ≡ element_of_record v
-element_back v = shown v.ch
-  where
-    shown : (o : Option ℕ) → option_map (λ x. element x.0 x.1) (option_map {U = Identifier × ℕ} (λ ch. (v.parent, ch)) o) ≡ option_map (λ ch. element v.parent ch) o
-    shown None = refl
-    shown (Some ch) = refl
+element_back v = grind (arith)
+
+pub marked_element : (o : Option Record) → element_of (marked o) ≡ element_of o
+marked_element None = refl
+marked_element (Some r) = refl
 
 -- what is deleted or inserted has a record
 pub some_marked : (o : Option Record) → mark_of o ≡ true → is_some o ≡ true
@@ -76,20 +69,7 @@ none_later q e es h t = lookup-none (is q) es (none_past_head (eq_by_cmp_equiv i
 
 find_insertions : (q : Identifier) (es : Entries) → AreApart es → find id_cmp q (filter_map insertion_of_record es) ≡ element_of (lookup (is q) es)
 find_insertions q [] h = refl
-find_insertions q (e ∷ es) h =
-    let rest : find id_cmp q (filter_map insertion_of_record es) ≡ element_of (lookup (is q) es) = find_insertions q es (IsDistinct-tail is e.0 (keys_of es) h) in
-    elim (is q e.0) as (λ b. is q e.0 ≡ b → find id_cmp q (cons_option (insertion_of_record e) (filter_map insertion_of_record es)) ≡ element_of (cond b (Some e.1) (lookup (is q) es))) [
-      | true ↦ λ t. here (element_of_record e.1) t (rest ∙ ap element_of (none_later q e es h t))
-      | false ↦ λ t. there (element_of_record e.1) t ∙ rest
-    ] refl
-  where
-    here : (o : Option Element) → is q e.0 ≡ true → find id_cmp q (filter_map insertion_of_record es) ≡ None → find id_cmp q (cons_option (option_map (λ x. (e.0, x)) o) (filter_map insertion_of_record es)) ≡ o
-    here None t none = none
-    here (Some x) t none = ap (λ b. cond b (Some x) (find id_cmp q (filter_map insertion_of_record es))) t
-
-    there : (o : Option Element) → is q e.0 ≡ false → find id_cmp q (cons_option (option_map (λ x. (e.0, x)) o) (filter_map insertion_of_record es)) ≡ find id_cmp q (filter_map insertion_of_record es)
-    there None t = refl
-    there (Some x) t = ap (λ b. cond b (Some x) (find id_cmp q (filter_map insertion_of_record es))) t
+find_insertions q (e ∷ es) h = grind (arith, is, none_later, find_insertions q es (IsDistinct-tail is e.0 (keys_of es) h))
 
 -- an identifier is inserted as its record says
 pub inserted_at : (es : Entries) → AreOrdered es → (q : Identifier) → finite_map.get (content_of_records es).inserted q ≡ element_of (lookup (is q) es)
@@ -98,20 +78,7 @@ inserted_at es h q = finite_map.get-from_entries ids_total (filter_map insertion
 -- an identifier is among those of the records that pass a test as its record says
 pub any_where : (test : Record → Bool) (q : Identifier) (es : Entries) → AreApart es → list_any (is q) (ids_of_records_where test es) ≡ option_map_or test (lookup (is q) es) false
 any_where test q [] h = refl
-any_where test q (e ∷ es) h =
-    let rest : list_any (is q) (ids_of_records_where test es) ≡ option_map_or test (lookup (is q) es) false = any_where test q es (IsDistinct-tail is e.0 (keys_of es) h) in
-    elim (is q e.0) as (λ b. is q e.0 ≡ b → list_any (is q) (ids_of_records_where test (e ∷ es)) ≡ option_map_or test (cond b (Some e.1) (lookup (is q) es)) false) [
-      | true ↦ λ t. here (test e.1) t (rest ∙ ap (λ o. option_map_or test o false) (none_later q e es h t))
-      | false ↦ λ t. there (test e.1) t ∙ rest
-    ] refl
-  where
-    here : (b : Bool) → is q e.0 ≡ true → list_any (is q) (ids_of_records_where test es) ≡ false → list_any (is q) (keys_of (cond b (e ∷ filter (λ d. test d.1) es) (filter (λ d. test d.1) es))) ≡ b
-    here true t none = ap (λ b. b || list_any (is q) (ids_of_records_where test es)) t
-    here false t none = none
-
-    there : (b : Bool) → is q e.0 ≡ false → list_any (is q) (keys_of (cond b (e ∷ filter (λ d. test d.1) es) (filter (λ d. test d.1) es))) ≡ list_any (is q) (ids_of_records_where test es)
-    there true t = ap (λ b. b || list_any (is q) (ids_of_records_where test es)) t
-    there false t = refl
+any_where test q (e ∷ es) h = grind (arith, is, none_later, any_where test q es (IsDistinct-tail is e.0 (keys_of es) h))
 
 -- and deleted as its record says
 pub deleted_at : (es : Entries) → AreOrdered es → (q : Identifier) → finite_set.contains (content_of_records es).deleted q ≡ mark_of (lookup (is q) es)
@@ -136,20 +103,11 @@ IsChanged es fs id new = (q : Identifier) → lookup (is q) fs ≡ cond (is id q
 
 -- what is seen of the records is as it was, but at the identifier
 seen_now : {A : Type 0} (see : Option Record → A) (es fs : Entries) (id : Identifier) (new : Option Record) → IsChanged es fs id new → (q : Identifier) → see (lookup (is q) fs) ≡ cond (is q id) (see new) (see (lookup (is q) es))
-seen_now see es fs id new changed q = ap see (changed q) ∙ split (is id q) ∙ ap (λ b. cond b (see new) (see (lookup (is q) es))) (is_swap id q)
-  where
-    split : (b : Bool) → see (cond b new (lookup (is q) es)) ≡ cond b (see new) (see (lookup (is q) es))
-    split true = refl
-    split false = refl
+seen_now see es fs id new changed q = grind arith
 
 -- and at the identifier too, where it shows the same
 seen_same : {A : Type 0} (see : Option Record → A) (es fs : Entries) (id : Identifier) (new : Option Record) → IsChanged es fs id new → see new ≡ see (lookup (is id) es) → (q : Identifier) → see (lookup (is q) fs) ≡ see (lookup (is q) es)
-seen_same see es fs id new changed same q =
-    seen_now see es fs id new changed q
-    ∙ elim (is q id) as (λ b. is q id ≡ b → cond b (see new) (see (lookup (is q) es)) ≡ see (lookup (is q) es)) [
-      | true ↦ λ t. same ∙ ap (λ k. see (lookup (is k) es)) (sym (same_id q id t))
-      | false ↦ λ t. refl
-    ] refl
+seen_same see es fs id new changed same q = grind arith
 
 module _ (es fs : Entries) (id : Identifier) (new : Option Record) (ordered : AreOrdered es) (ordered_now : AreOrdered fs) (changed : IsChanged es fs id new) where
   -- neither the element nor the mark changes

@@ -1,16 +1,13 @@
 -- Operations told one by one: how a list grows by what an entry, or a page, tells.
-use Rattle.std.proofs.Common.{◌≡◌, ℕ, ◌+◌, ◌<◌, List, [], ◌∷◌, ◌++◌, length, map, take, slice_index_or, refl, sym, ap, ◌∙◌, subst, append_assoc}
-use Rattle.std.specs.Prelude.{filter}
+use Rattle.std.proofs.Common.{arith, ◌≡◌, ℕ, ◌+◌, ◌<◌, List, [], ◌∷◌, ◌++◌, length, map, take, slice_index_or, sym, ap, ◌∙◌, subst}
 use Rattle.std.specs.List.{filter_map}
-use Rattle.std.specs.Map.{keys_of}
 use Rattle.std.proofs.lemmas.List.{append-nil, map-append, take_more}
 use Rattle.std.proofs.lemmas.List.Elements.{filter_map-append, filter-append}
-use Rattle.rga_ops.specs.Identifier.{Identifier}
 use Rattle.rga_ops.specs.Operations.{insertion_of}
 use Rattle.rga_ops.specs.declared.op.Op.{Op}
 use Rattle.rga_ops.specs.declared.op.Op.TheVariants.{Delete}
-use Rattle.rga_pages.specs.declared.entry.Record.{Record}
 use Rattle.rga_pages.specs.Pages.{entries_in}
+use Rattle.rga_pages.proofs.PartLaws.{flat_both}
 use Rattle.rga_records.specs.Records.{Entries, insertion_of_record, marked_record_ids}
 
 -- what entries and pages tell
@@ -39,20 +36,13 @@ pub insertions_split : (xs ys : Entries) → told_insertions (xs ++ ys) ≡ told
 insertions_split xs ys = ap (map insertion_of) (filter_map-append insertion_of_record xs ys) ∙ map-append insertion_of (filter_map insertion_of_record xs) (filter_map insertion_of_record ys)
 
 pub deletions_split : (xs ys : Entries) → told_deletions (xs ++ ys) ≡ told_deletions xs ++ told_deletions ys
-deletions_split xs ys =
-    ap (λ (es : Entries). map Delete (keys_of es)) (filter-append (λ e. e.1.deleted) xs ys)
-    ∙ ap (map Delete) (map-append (λ (e : Identifier × Record). e.0) (filter (λ e. e.1.deleted) xs) (filter (λ e. e.1.deleted) ys))
-    ∙ map-append Delete (marked_record_ids xs) (marked_record_ids ys)
-
-pub flat_split : (ps qs : List Entries) → entries_in (ps ++ qs) ≡ entries_in ps ++ entries_in qs
-flat_split [] qs = refl
-flat_split (p ∷ ps) qs = ap (λ r. p ++ r) (flat_split ps qs) ∙ sym (append_assoc p (entries_in ps) (entries_in qs))
+deletions_split xs ys = grind (arith, filter-append, map-append)
 
 pub page_insertions_split : (ps qs : List Entries) → told_insertions (entries_in (ps ++ qs)) ≡ told_insertions (entries_in ps) ++ told_insertions (entries_in qs)
-page_insertions_split ps qs = ap told_insertions (flat_split ps qs) ∙ insertions_split (entries_in ps) (entries_in qs)
+page_insertions_split ps qs = ap told_insertions (flat_both ps qs) ∙ insertions_split (entries_in ps) (entries_in qs)
 
 pub page_deletions_split : (ps qs : List Entries) → told_deletions (entries_in (ps ++ qs)) ≡ told_deletions (entries_in ps) ++ told_deletions (entries_in qs)
-page_deletions_split ps qs = ap told_deletions (flat_split ps qs) ∙ deletions_split (entries_in ps) (entries_in qs)
+page_deletions_split ps qs = ap told_deletions (flat_both ps qs) ∙ deletions_split (entries_in ps) (entries_in qs)
 
 pub one_page : (p : Entries) → entries_in (p ∷ []) ≡ p
 one_page p = append-nil p

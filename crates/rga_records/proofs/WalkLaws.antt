@@ -1,8 +1,7 @@
 -- What is left to be read along links.
-use Rattle.std.proofs.Common.{◌≡◌, ◌≤◌, ◌+◌, ◌<◌, ◌-◌, ◌++◌, ℕ, zero, suc, List, [], ◌∷◌, length, get_or, refl, sym, ap, ◌∙◌, subst, append_assoc, arith, encode_utf8, encode_utf8_all}
-use Rattle.std.specs.Prelude.{◌≢◌, Option, Some, None, SomeIff}
+use Rattle.std.proofs.Common.{◌≡◌, ◌≤◌, ◌+◌, ◌<◌, ◌-◌, ◌++◌, ℕ, zero, suc, List, [], ◌∷◌, length, get_or, refl, sym, ap, ◌∙◌, subst, append_assoc, arith, encode_utf8_all}
+use Rattle.std.specs.Prelude.{◌≢◌, Option, None, SomeIff}
 use Rattle.std.specs.Char.{IsScalar}
-use Rattle.std.specs.List.{cons_option}
 use Rattle.std.proofs.lemmas.List.{append-nil}
 use Rattle.rga_records.specs.Links.{AreCodes, IsLinkChain, chars_along}
 
@@ -17,10 +16,7 @@ pub record IsLeft (next : List ℕ) (shown : List (Option ℕ)) (chain : List �
 
 -- two that the same number stands for are the same
 one_code : (x : ℕ) (o p : Option ℕ) → SomeIff o (IsScalar x) x → SomeIff p (IsScalar x) x → o ≡ p
-one_code x None None h k = refl
-one_code x None (Some d) h k = absurd (h k.0)
-one_code x (Some c) None h k = absurd (k h.0)
-one_code x (Some c) (Some d) h k = ap Some (h.1 ∙ sym k.1)
+one_code x zp1 zp2 h k = grind (arith)
 
 pub code_at : (codes : List ℕ) (kept : List (Option ℕ)) (i d : ℕ) (o : Option ℕ) → AreCodes codes kept → i < length codes → SomeIff o (IsScalar (get_or codes i d)) (get_or codes i d) → get_or kept i None ≡ o
 code_at [] kept i d o h w is = absurd (omega (arith, w))
@@ -61,11 +57,7 @@ module _ (next : List ℕ) (shown : List (Option ℕ)) (chain : List ℕ) where
       root (i ∷ js) h few = absurd (omega (arith, few, all))
 
   first_apart : (i : ℕ) (left : List ℕ) → encode_utf8_all (chars_along shown (i ∷ left)) ≡ encode_utf8_all (chars_along shown (i ∷ [])) ++ encode_utf8_all (chars_along shown left)
-  first_apart i left = of (get_or shown i None)
-    where
-      of : (o : Option ℕ) → encode_utf8_all (cons_option o (chars_along shown left)) ≡ encode_utf8_all (cons_option o []) ++ encode_utf8_all (chars_along shown left)
-      of None = refl
-      of (Some ch) = ap (λ xs. xs ++ encode_utf8_all (chars_along shown left)) (sym (append-nil (encode_utf8 ch)))
+  first_apart i left = grind (arith, append-nil)
 
   -- one element more
   pub read_more : (node count : ℕ) (bytes more : List ℕ) → IsLeft next shown chain node count bytes → node ≢ 0 → more ≡ bytes ++ encode_utf8_all (chars_along shown ((node - 1) ∷ [])) → IsLeft next shown chain (get_or next node 0) (count + 1) more

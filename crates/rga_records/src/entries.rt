@@ -32,18 +32,12 @@ pub(crate) fn found_or_new(found: Option<Record>) -> Record
 
 /// The name of a block as records have it: 0 where it has no room there.
 pub(crate) fn short_name(block: usize) -> u32 {
-    match u32::try_from(block) {
-        Ok(name) => name,
-        Err(_) => 0,
-    }
+    u32::try_from(block).unwrap_or(0)
 }
 
 /// An index in a block as records have it: 0 where it has no room there.
 pub(crate) fn short_index(index: usize) -> u8 {
-    match u8::try_from(index) {
-        Ok(index) => index,
-        Err(_) => 0,
-    }
+    u8::try_from(index).unwrap_or(0)
 }
 
 /// The parent and the character of an element that is inserted.

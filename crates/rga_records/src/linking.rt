@@ -123,18 +123,9 @@ fn link(next: &mut Vec<usize>, above: Option<usize>) -> Result<(), Refusal>
     ensures room { OnOk result (length next.old.items < WAITS) }
     ensures memory { IfErr result (λ e. e ≡ Refusal.Memory) }
 {
-    match above {
-        Some(above) => link_behind(next, above),
-        None => push_one(next, WAITS),
-    }
-}
-
-/// One more element is linked in directly behind a node, or waits where that does.
-fn link_behind(next: &mut Vec<usize>, above: usize) -> Result<(), Refusal>
-    ensures ok { OnOk result (next.new.items ≡ with_link (Some above) next.old.items) }
-    ensures room { OnOk result (length next.old.items < WAITS) }
-    ensures memory { IfErr result (λ e. e ≡ Refusal.Memory) }
-{
+    let Some(above) = above else {
+        return push_one(next, WAITS);
+    };
     let behind = link_at(next.as_slice(), above);
     if behind != WAITS {
         relink(next, above);

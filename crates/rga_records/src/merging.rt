@@ -80,17 +80,9 @@ fn conflicts(entries: &Pages, id: Id, other: &Record) -> bool
     ensures { let content = content_of_records entries.now in result
         ≡ option_map_or (λ ch. has_another content (Op.Insert id other.now.parent ch)) other.now.ch false }
 {
-    match other.element() {
-        Some(element) => have_another(entries, id, element),
-        None => false,
-    }
-}
-
-/// Whether the records insert another element under this identifier.
-fn have_another(entries: &Pages, id: Id, element: (Id, char)) -> bool
-    ensures { let content = content_of_records entries.now in
-        result ≡ has_another content (Op.Insert id element.0 element.1) }
-{
+    let Some(element) = other.element() else {
+        return false;
+    };
     match find_element(entries, id) {
         Some(present) => present != element,
         None => false,

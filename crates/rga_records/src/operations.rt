@@ -1,6 +1,6 @@
 //! A content as a list of operations.
-use rga_ops::{Id, Op, Refusal};
-use rga_pages::{Page, Record};
+use rga_ops::{Op, Refusal};
+use rga_pages::Page;
 use rga_store::Listener;
 use std::marker::Model;
 
@@ -39,17 +39,10 @@ impl Listener for Told {
 pub(crate) fn count_marked(pages: &Vec<Page>) -> usize {
     let mut count = 0usize;
     for page in pages {
-        count = count.saturating_add(count_marked_in(page.entries()));
-    }
-    count
-}
-
-/// How many of some records are marked.
-fn count_marked_in(entries: &[(Id, Record)]) -> usize {
-    let mut count = 0usize;
-    for (_, record) in entries {
-        if record.deleted {
-            count = count.saturating_add(1);
+        for (_, record) in page.entries() {
+            if record.deleted {
+                count = count.saturating_add(1);
+            }
         }
     }
     count

@@ -255,10 +255,7 @@ impl Records {
         if id.counter() <= self.clock {
             return false;
         }
-        if id.counter() <= parent.counter() {
-            return false;
-        }
-        self.known < self.limit
+        self.has_room_for(id, parent)
     }
 
     /// Whether an insertion is newer than its parent, and has room. Takes no memory.

@@ -1,12 +1,12 @@
 -- Entries that are put one behind the other stand in one piece.
-use Rattle.std.proofs.Common.{◌≡◌, ◌<◌, Bool, true, false, cond, ◌||◌, List, [], ◌∷◌, ◌++◌, length, slice_index_or, refl, sym, ap, ◌∙◌, subst, arith, true≢false, append_assoc}
+use Rattle.std.proofs.Common.{◌≡◌, ◌<◌, true, false, cond, ◌||◌, List, [], ◌∷◌, ◌++◌, length, slice_index_or, refl, sym, ap, ◌∙◌, subst, arith, true≢false, append_assoc}
 use Rattle.std.specs.Ordering.{is_gt}
 use Rattle.std.proofs.lemmas.List.{append-nil}
 use Rattle.std.specs.List.{IsDistinct}
 use Rattle.rga_ops.specs.Identifier.{Identifier, id_cmp, is_root}
 use Rattle.rga_ops.proofs.IdentifierLaws.{is_id-itself}
 use Rattle.rga_sequence.specs.declared.entry.Entry.{Entry}
-use Rattle.rga_sequence.specs.Entries.{has, change_after_entry, put_entry_past_larger, put_entry, put_chain, CanFollow, IsChain, AreApart}
+use Rattle.rga_sequence.specs.Entries.{has, put_entry_past_larger, put_entry, put_chain, CanFollow, IsChain, AreApart}
 use Rattle.rga_sequence.proofs.BlockLaws.{itself, not_larger, never_less}
 use Rattle.rga_sequence.proofs.StandLaws.{change_between, apart_front}
 use Rattle.rga_sequence.proofs.PutLaws.{apart_put}
@@ -25,17 +25,11 @@ stops_too e f (x ∷ ws) up stops =
 
 -- the next one comes directly behind an entry
 next_there : (xs ws : List Entry) (e f : Entry) → is_root e.id ≡ false → is_gt (id_cmp f.id e.id) ≡ true → AreApart (xs ++ e ∷ ws) → put_entry_past_larger e ws ≡ e ∷ ws → put_entry e.id f (xs ++ e ∷ ws) ≡ (xs ++ e ∷ []) ++ f ∷ ws
-next_there xs ws e f root up apart stops =
-    ap (λ b. cond b (put_entry_past_larger f (xs ++ e ∷ ws)) (change_after_entry e.id (put_entry_past_larger f) (xs ++ e ∷ ws))) root
-    ∙ change_between e.id (put_entry_past_larger f) xs e ws (is_id-itself e.id) (apart_front xs e ws apart)
-    ∙ ap (λ r. xs ++ e ∷ r) (stops_too e f ws up stops)
-    ∙ sym (append_assoc xs (e ∷ []) (f ∷ ws))
+next_there xs ws e f root up apart stops = grind (arith, change_between, is_id-itself, apart_front, stops_too, append_assoc)
 
 module _ (ws : List Entry) where
   next_apart : (xs : List Entry) (e f : Entry) → has f.id (xs ++ e ∷ ws) ≡ false → AreApart (xs ++ e ∷ ws) → AreApart ((xs ++ e ∷ []) ++ f ∷ ws)
-  next_apart xs e f none apart =
-      let whole : xs ++ e ∷ ws ≡ (xs ++ e ∷ []) ++ ws = sym (append_assoc xs (e ∷ []) ws) in
-      apart_put (xs ++ e ∷ []) f ws (subst (λ y. has f.id y ≡ false) whole none) (subst AreApart whole apart)
+  next_apart xs e f none apart = grind (arith, append_assoc, apart_put)
 
   following : (es xs : List Entry) (e : Entry) → CanFollow e.id es (xs ++ e ∷ ws) → AreApart (xs ++ e ∷ ws) → put_entry_past_larger e ws ≡ e ∷ ws → put_chain e.id es (xs ++ e ∷ ws) ≡ xs ++ e ∷ (es ++ ws)
   following [] xs e can apart stops = refl
@@ -76,11 +70,7 @@ module _ (parent : Identifier) (d : Entry) (s xs ws : List Entry) (apart : has d
 -- ---- the first entries of all
 
 first_of_all : (parent : Identifier) (e : Entry) → (is_root parent || has parent []) ≡ true → put_entry parent e [] ≡ e ∷ []
-first_of_all parent e root = ap (λ b. cond b (e ∷ []) []) (sym (or_none (is_root parent)) ∙ root)
-  where
-    or_none : (b : Bool) → (b || false) ≡ b
-    or_none true = refl
-    or_none false = refl
+first_of_all parent e root = grind (arith)
 
 one_apart : (e : Entry) → AreApart ([] ++ e ∷ [])
 unfolding IsDistinct

@@ -1,11 +1,12 @@
 -- How many entries are visible in a list that changes, and which these are.
-use Rattle.std.proofs.Common.{min, ◌≡◌, ℕ, ◌+◌, ◌-◌, ◌<◌, ◌≤◌, suc, zero, Bool, true, false, cond, not, List, [], ◌∷◌, ◌++◌, length, take, drop, slice_index_or, refl, sym, ap, ◌∙◌, arith, append_assoc, length-append, drop-cons}
+use Rattle.std.proofs.Common.{min, ◌≡◌, ℕ, ◌+◌, ◌-◌, ◌<◌, ◌≤◌, suc, zero, Bool, true, false, cond, not, List, [], ◌∷◌, ◌++◌, length, take, drop, slice_index_or, refl, sym, ap, ◌∙◌, arith, length-append, drop-cons}
 use Rattle.std.specs.Prelude.{remove}
 use Rattle.std.specs.List.{slice_get}
 use Rattle.std.proofs.lemmas.List.{append-nil, take_more, drop_more, map-append, take-append-drop, drop-take, length-take, length-take-le, take_min, length-map, take-map, drop-map, drop_all}
 use Rattle.std.proofs.lemmas.List.Sums.{length-filter, count_by-le-length}
 use Rattle.std.proofs.lemmas.List.Elements.{filter-append}
 use Rattle.rga_ops.specs.Identifier.{Identifier}
+use Rattle.rga_pages.proofs.PartLaws.{before_is, flat_both}
 use Rattle.rga_sequence.specs.declared.entry.Entry.{Entry}
 use Rattle.rga_sequence.specs.Entries.{ids, visible_entries, visible_count, visible_ids}
 use Rattle.rga_sequence.specs.Blocks.{Blocks, flat, before, insert_all, mark_at_index}
@@ -69,12 +70,7 @@ remove_marked mark (x ∷ xs) zero = refl
 remove_marked mark (x ∷ xs) (suc i) = ap (λ r. x ∷ r) (remove_marked mark xs i)
 
 pub count_marked : (mark : Bool) (xs : List Entry) (i : ℕ) (x y : Entry) → i < length xs → x ≡ slice_index_or xs i x → y ≡ slice_index_or (mark_at_index mark i xs) i y → visible_count (mark_at_index mark i xs) + visible_count (x ∷ []) ≡ visible_count xs + visible_count (y ∷ [])
-count_marked mark xs i x y w old new =
-    let long : length (mark_at_index mark i xs) ≡ length xs = length_marked mark xs i in
-    let before : visible_count xs ≡ visible_count (remove xs i) + visible_count (x ∷ []) = count_remove xs i x w old in
-    let now : visible_count (mark_at_index mark i xs) ≡ visible_count (remove (mark_at_index mark i xs) i) + visible_count (y ∷ []) = count_remove (mark_at_index mark i xs) i y (omega (arith, long, w)) new in
-    let rest : visible_count (remove (mark_at_index mark i xs) i) ≡ visible_count (remove xs i) = ap visible_count (remove_marked mark xs i) in
-    omega (arith, before, now, rest)
+count_marked mark xs i x y w old new = grind (arith, length_marked, count_remove, remove_marked)
 
 -- ---- by index
 
@@ -114,13 +110,8 @@ pub range_none : (xs : List Identifier) (lo hi : ℕ) → length xs ≤ lo → d
 range_none xs lo hi h = drop_all lo (take hi xs) (omega (arith, length-take hi xs, h))
 
 pub range_both : (xs ys : List Identifier) (lo hi lo_left hi_left : ℕ) → lo_left ≡ lo - length xs → hi_left ≡ hi - length xs → drop lo (take hi (xs ++ ys)) ≡ drop lo (take hi xs) ++ drop lo_left (take hi_left ys)
-range_both [] ys lo hi lo_left hi_left e f =
-    let same : lo ≡ lo_left = omega arith in
-    let too : hi ≡ hi_left = omega arith in
-    (λ k. drop (same k) (take (too k) ys)) ∙ ap (λ r. r ++ drop lo_left (take hi_left ys)) (sym (range_none [] lo hi (omega arith)))
-range_both (x ∷ xs) ys lo zero lo_left hi_left e f =
-    let over : hi_left ≡ 0 = omega arith in
-    sym (append-nil (drop {A = Identifier} lo [])) ∙ ap (λ r. drop {A = Identifier} lo [] ++ r) (sym (none_left lo_left hi_left ys (omega (arith, over))))
+range_both [] ys lo hi lo_left hi_left e f = grind (arith, range_none)
+range_both (x ∷ xs) ys lo zero lo_left hi_left e f = grind (arith, append-nil, none_left)
 range_both (x ∷ xs) ys zero (suc hi) lo_left hi_left e f =
     ap (λ r. x ∷ r) (range_both xs ys zero hi lo_left hi_left (omega arith) (omega arith))
 range_both (x ∷ xs) ys (suc lo) (suc hi) lo_left hi_left e f = range_both xs ys lo hi lo_left hi_left (omega arith) (omega arith)
@@ -136,15 +127,6 @@ ids_range xs lo hi end h e =
     up i n w = omega arith
 
 -- ---- before a place
-
-pub before_is : (bs : Blocks) (b i : ℕ) (d : List Entry) → b < length bs → before bs b i ≡ flat (take b bs) ++ take i (slice_index_or bs b d)
-before_is [] b i d w = absurd (omega arith)
-before_is (x ∷ xs) zero i d w = refl
-before_is (x ∷ xs) (suc b) i d w = ap (λ r. x ++ r) (before_is xs b i d (omega arith)) ∙ sym (append_assoc x (flat (take b xs)) (take i (slice_index_or xs b d)))
-
-pub flat_both : (xs ys : Blocks) → flat (xs ++ ys) ≡ flat xs ++ flat ys
-flat_both [] ys = refl
-flat_both (x ∷ xs) ys = ap (λ r. x ++ r) (flat_both xs ys) ∙ sym (append_assoc x (flat xs) (flat ys))
 
 pub count_one_more : (bs : Blocks) (i : ℕ) (b : List Entry) → i < length bs → b ≡ slice_index_or bs i b → visible_count (flat (take (i + 1) bs)) ≡ visible_count (flat (take i bs)) + visible_count b
 count_one_more bs i b w is =

@@ -1,15 +1,16 @@
 -- What is noted of groups of blocks: how it stays where blocks change, and what is counted by it.
-use Rattle.std.proofs.Common.{nat_lt, min, ◌≡◌, ℕ, suc, zero, true, false, ◌+◌, ◌-◌, ◌*◌, ◌≤◌, ◌<◌, List, [], ◌∷◌, ◌++◌, length, take, drop, slice_index_or, refl, sym, ap, ◌∙◌, subst, arith, length-append, add-one}
+use Rattle.std.proofs.Common.{inl, inr, ◌≡◌, ℕ, suc, zero, ◌+◌, ◌-◌, ◌*◌, ◌≤◌, ◌<◌, List, [], ◌∷◌, ◌++◌, length, take, drop, slice_index_or, refl, sym, ap, ◌∙◌, subst, arith, length-append, add-one}
 use Rattle.std.specs.Prelude.{insert, remove, slice_get, slice_set, sum}
 use Rattle.rga_ops.specs.Identifier.{Identifier}
 use Rattle.std.proofs.lemmas.List.{get_or_default, get_or_append_left, get_or_push, take_at, length-set, length-take, length-take-le, take-append-drop, take-take, take-set-le, get_or-take, get_or-set_same, get_or-set_other}
+use Rattle.std.proofs.lemmas.Bool.{cases_eq, cases_order}
 use Rattle.std.proofs.lemmas.List.Sums.{sum_by_more}
 use Rattle.rga_sequence.specs.declared.entry.Entry.{Entry}
 use Rattle.rga_sequence.specs.declared.groups.TheConstants.{GROUP}
 use Rattle.rga_sequence.specs.Entries.{visible_count, visible_ids}
 use Rattle.rga_sequence.specs.Blocks.{Blocks, flat, cut_in, AreNotes, IsCount, AreCounts}
-use Rattle.rga_sequence.proofs.PlaceLaws.{lt_so, le_so}
-use Rattle.rga_sequence.proofs.CountLaws.{flat_both, count_both, count_ids, count_one_more, ids_both, slice_back, range_both, range_none}
+use Rattle.rga_pages.proofs.PartLaws.{flat_both}
+use Rattle.rga_sequence.proofs.CountLaws.{count_both, count_ids, count_one_more, ids_both, slice_back, range_both, range_none}
 
 -- ---- blocks that come or go stand behind a beginning that stays
 
@@ -35,21 +36,10 @@ pub taken_early : {A : Type 0} (n b : ℕ) (xs : List A) → n * GROUP ≤ b →
 taken_early n b xs h = omega (arith, length-take n xs, h)
 
 pub notes_taken : {A : Type 0} (IsNoted : A → ℕ → ℕ → Blocks → Type 0) (n : ℕ) (notes : List A) (bs : Blocks) → AreNotes IsNoted notes bs → AreNotes IsNoted (take n notes) bs
-notes_taken IsNoted n notes bs all k d w =
-    let fewer : length (take n notes) ≡ min n (length notes) = length-take n notes in
-    subst (λ x. IsNoted x (k * GROUP) (k * GROUP + GROUP) bs) (sym (get_or-take n notes k d (omega (arith, fewer, w)))) (all k d (omega (arith, fewer, w)))
+notes_taken IsNoted n notes bs all k d w = grind (arith, length-take, get_or-take)
 
 pub notes_more : {A : Type 0} (IsNoted : A → ℕ → ℕ → Blocks → Type 0) (notes : List A) (x : A) (bs : Blocks) → AreNotes IsNoted notes bs → IsNoted x (length notes * GROUP) (length notes * GROUP + GROUP) bs → AreNotes IsNoted (notes ++ x ∷ []) bs
-notes_more {A} IsNoted notes x bs all one k d w =
-    let more : length (notes ++ x ∷ []) ≡ length notes + 1 = length-append notes (x ∷ []) in
-    elim (nat_lt k (length notes)) as (λ t. nat_lt k (length notes) ≡ t → IsNoted (slice_index_or (notes ++ x ∷ []) k d) (k * GROUP) (k * GROUP + GROUP) bs) [
-      | true ↦ λ t. let v : k < length notes = lt_so k (length notes) t in
-          subst (λ m. IsNoted m (k * GROUP) (k * GROUP + GROUP) bs) (sym (get_or_append_left notes (x ∷ []) d k v)) (all k d v)
-      | false ↦ λ t. let past : length notes ≤ k = le_so k (length notes) t in
-          let last : length notes ≡ k = omega (arith, past, more, w) in
-          subst (λ n. IsNoted (slice_index_or (notes ++ x ∷ []) n d) (n * GROUP) (n * GROUP + GROUP) bs) last
-          (subst (λ m. IsNoted m (length notes * GROUP) (length notes * GROUP + GROUP) bs) (sym (get_or_push notes x d (length notes) refl)) one)
-    ] refl
+notes_more {A} IsNoted notes x bs all one k d w = grind (arith, cases_eq, get_or_push, length-append, get_or_append_left)
 
 -- ---- counts
 
@@ -64,9 +54,7 @@ pub is_count : (bs : Blocks) (n lo hi : ℕ) → lo ≤ hi → visible_count (fl
 is_count bs n lo hi h e = omega (arith, count_part bs lo hi h, e)
 
 count_at : (counts : List ℕ) (bs : Blocks) (k d : ℕ) → AreCounts counts bs → k < length counts → visible_count (flat (take (k * GROUP + GROUP) bs)) ≡ visible_count (flat (take (k * GROUP) bs)) + slice_index_or counts k d
-count_at counts bs k d all w =
-    let within : k * GROUP ≤ k * GROUP + GROUP = omega arith in
-    omega (arith, count_part bs (k * GROUP) (k * GROUP + GROUP) within, all.counted k d w)
+count_at counts bs k d all w = grind (arith, count_part)
 
 pub counts_taken : (n : ℕ) (counts : List ℕ) (bs : Blocks) → AreCounts counts bs → AreCounts (take n counts) bs
 counts_taken n counts bs all =
@@ -92,14 +80,8 @@ counts_aside counts bs b y all h =
 count_set : (bs : Blocks) (b j : ℕ) (y : List Entry) → b < j → b < length bs → visible_count (flat (take j (slice_set bs b y))) + visible_count (slice_index_or bs b []) ≡ visible_count (flat (take j bs)) + visible_count y
 count_set [] b j y h w = absurd (omega arith)
 count_set (x ∷ bs) b zero y h w = absurd (omega arith)
-count_set (x ∷ bs) zero (suc j) y h w =
-    let new : visible_count (y ++ flat (take j bs)) ≡ visible_count y + visible_count (flat (take j bs)) = count_both y (flat (take j bs)) in
-    let old : visible_count (x ++ flat (take j bs)) ≡ visible_count x + visible_count (flat (take j bs)) = count_both x (flat (take j bs)) in
-    omega (arith, new, old)
-count_set (x ∷ bs) (suc b) (suc j) y h w =
-    let new : visible_count (x ++ flat (take j (slice_set bs b y))) ≡ visible_count x + visible_count (flat (take j (slice_set bs b y))) = count_both x (flat (take j (slice_set bs b y))) in
-    let old : visible_count (x ++ flat (take j bs)) ≡ visible_count x + visible_count (flat (take j bs)) = count_both x (flat (take j bs)) in
-    omega (arith, new, old, count_set bs b j y (omega arith) (omega arith))
+count_set (x ∷ bs) zero (suc j) y h w = grind (arith, count_both)
+count_set (x ∷ bs) (suc b) (suc j) y h w = grind (arith, count_both, count_set bs b j y (omega arith) (omega arith))
 
 pub counts_set : (counts : List ℕ) (bs : Blocks) (b g n v : ℕ) (y : List Entry) → AreCounts counts bs → g < length counts → g * GROUP ≤ b → b < g * GROUP + GROUP → n + visible_count (slice_index_or bs b []) ≡ slice_index_or counts g v + visible_count y → AreCounts (slice_set counts g n) (slice_set bs b y)
 counts_set counts bs b g n v y all h first last e =
@@ -108,16 +90,10 @@ counts_set counts bs b g n v y all h first last e =
       whole = omega (arith, length-set counts g n, length-set bs b y, all.whole);
       counted = λ k d w.
           let there : k < length counts = subst (λ m. k < m) (length-set counts g n) w in
-          elim (nat_lt k g) as (λ t. nat_lt k g ≡ t → IsCount (slice_index_or (slice_set counts g n) k d) (k * GROUP) (k * GROUP + GROUP) (slice_set bs b y)) [
-            | true ↦ λ t. before k d there (lt_so k g t)
-            | false ↦ λ t. elim (nat_lt g k) as (λ u. nat_lt g k ≡ u → IsCount (slice_index_or (slice_set counts g n) k d) (k * GROUP) (k * GROUP + GROUP) (slice_set bs b y)) [
-              | true ↦ λ u. behind within k d there (lt_so g k u)
-              | false ↦ λ u. let not_less : g ≤ k = le_so k g t in
-                  let not_more : k ≤ g = le_so g k u in
-                  let same : g ≡ k = omega (arith, not_less, not_more) in
-                  subst (λ m. IsCount (slice_index_or (slice_set counts g n) m d) (m * GROUP) (m * GROUP + GROUP) (slice_set bs b y)) same (here within d)
-            ] refl
-          ] refl;
+          elim (cases_order g k) [
+            | inl same ↦ subst (λ m. IsCount (slice_index_or (slice_set counts g n) m d) (m * GROUP) (m * GROUP + GROUP) (slice_set bs b y)) same (here within d)
+            | inr apart ↦ elim apart [ inl more ↦ behind within k d there more | inr less ↦ before k d there less ]
+          ];
     }
   where
     before : (k d : ℕ) → k < length counts → k < g → IsCount (slice_index_or (slice_set counts g n) k d) (k * GROUP) (k * GROUP + GROUP) (slice_set bs b y)

@@ -1,7 +1,6 @@
 -- The identifiers of entries that change.
-use Rattle.std.proofs.Common.{◌≡◌, Bool, true, false, cond, not, List, [], ◌∷◌, refl, ap}
-use Rattle.std.specs.Ordering.{is_gt}
-use Rattle.rga_ops.specs.Identifier.{Identifier, id_cmp, is_id, is_root}
+use Rattle.std.proofs.Common.{arith, ◌≡◌, Bool, true, false, cond, List, [], ◌∷◌, refl}
+use Rattle.rga_ops.specs.Identifier.{Identifier, is_id, is_root}
 use Rattle.rga_ops.specs.Placement.{put_by_skip_rule, without}
 use Rattle.rga_ops.specs.Placement as placement
 use Rattle.rga_sequence.specs.declared.entry.Entry.{Entry}
@@ -9,19 +8,11 @@ use Rattle.rga_sequence.specs.Entries.{ids, put_entry_past_larger, change_after_
 
 past : (e : Entry) (es : List Entry) → ids (put_entry_past_larger e es) ≡ placement.put_past_larger e.id (ids es)
 past e [] = refl
-past e (x ∷ es) =
-    elim (is_gt (id_cmp x.id e.id)) as (λ b. ids (cond b (x ∷ put_entry_past_larger e es) (e ∷ x ∷ es)) ≡ cond b (x.id ∷ placement.put_past_larger e.id (ids es)) (e.id ∷ x.id ∷ ids es)) [
-      | true ↦ ap (λ r. x.id ∷ r) (past e es)
-      | false ↦ refl
-    ]
+past e (x ∷ es) = grind (arith, past e es)
 
 after : (parent : Identifier) (e : Entry) (es : List Entry) → ids (change_after_entry parent (put_entry_past_larger e) es) ≡ placement.change_after parent (placement.put_past_larger e.id) (ids es)
 after parent e [] = refl
-after parent e (x ∷ es) =
-    elim (is_id x.id parent) as (λ b. ids (cond b (x ∷ put_entry_past_larger e es) (x ∷ change_after_entry parent (put_entry_past_larger e) es)) ≡ cond b (x.id ∷ placement.put_past_larger e.id (ids es)) (x.id ∷ placement.change_after parent (placement.put_past_larger e.id) (ids es))) [
-      | true ↦ ap (λ r. x.id ∷ r) (past e es)
-      | false ↦ ap (λ r. x.id ∷ r) (after parent e es)
-    ]
+after parent e (x ∷ es) = grind (arith, past, after parent e es)
 
 pub ids_put : (parent : Identifier) (e : Entry) (es : List Entry) → ids (put_entry parent e es) ≡ put_by_skip_rule parent e.id (ids es)
 ids_put parent e es =
@@ -32,11 +23,7 @@ ids_put parent e es =
 
 pub ids_without : (id : Identifier) (es : List Entry) → ids (without_entry id es) ≡ without id (ids es)
 ids_without id [] = refl
-ids_without id (x ∷ es) =
-    elim (is_id x.id id) as (λ b. ids (cond (not b) (x ∷ without_entry id es) (without_entry id es)) ≡ cond (not b) (x.id ∷ without id (ids es)) (without id (ids es))) [
-      | true ↦ ids_without id es
-      | false ↦ ap (λ r. x.id ∷ r) (ids_without id es)
-    ]
+ids_without id (x ∷ es) = grind (arith, ids_without id es)
 
 one : (mark : Bool) (id : Identifier) (x : Entry) → (cond (is_id x.id id) (as_marked mark x) x).id ≡ x.id
 one mark id x = elim (is_id x.id id) as (λ b. (cond b (as_marked mark x) x).id ≡ x.id) [ true ↦ refl | false ↦ refl ]

@@ -28,11 +28,7 @@ take_both i n xs =
 
 pub passed : (entry : Entry) (xs rest : List Entry) → put_entry_past_larger entry (xs ++ rest) ≡ take (larger_at_front entry.id xs) xs ++ put_entry_past_larger entry (drop (larger_at_front entry.id xs) xs ++ rest)
 passed entry [] rest = refl
-passed entry (x ∷ xs) rest =
-    elim (is_gt (id_cmp x.id entry.id)) as (λ b. is_gt (id_cmp x.id entry.id) ≡ b → cond b (x ∷ put_entry_past_larger entry (xs ++ rest)) (entry ∷ x ∷ xs ++ rest) ≡ take (cond b (suc (larger_at_front entry.id xs)) 0) (x ∷ xs) ++ put_entry_past_larger entry (drop (cond b (suc (larger_at_front entry.id xs)) 0) (x ∷ xs) ++ rest)) [
-      | true ↦ λ t. ap (λ r. x ∷ r) (passed entry xs rest)
-      | false ↦ λ f. sym (ap (λ b. cond b (x ∷ put_entry_past_larger entry (xs ++ rest)) (entry ∷ x ∷ xs ++ rest)) f)
-    ] refl
+passed entry (x ∷ xs) rest = grind (arith, passed entry xs rest)
 
 pub stopped : (entry : Entry) (xs rest : List Entry) → larger_at_front entry.id xs < length xs → put_entry_past_larger entry (drop (larger_at_front entry.id xs) xs ++ rest) ≡ entry ∷ drop (larger_at_front entry.id xs) xs ++ rest
 stopped entry [] rest h = absurd (omega arith)

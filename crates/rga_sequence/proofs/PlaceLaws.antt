@@ -1,46 +1,21 @@
 -- Places in a list in blocks.
 use Rattle.std.proofs.lemmas.Bool.Decides.{nat_tests}
 use Rattle.std.proofs.Common.{nat_lt, true, false, subst, ◌≡◌, ℕ, ◌+◌, ◌-◌, ◌<◌, ◌≤◌, suc, zero, List, [], ◌∷◌, ◌++◌, length, take, drop, slice_index_or, refl, sym, ap, ◌∙◌, append_assoc, arith, add-one}
-use Rattle.std.specs.Prelude.{insert, slice_set}
 use Rattle.std.proofs.lemmas.List.{append-nil, take-take, drop-drop, drop_all, take_all, length-take, length-drop}
+use Rattle.rga_pages.proofs.PartLaws.{index_within}
 use Rattle.rga_sequence.specs.declared.entry.Entry.{Entry}
 use Rattle.rga_sequence.specs.Entries.{put_entry_past_larger}
-use Rattle.rga_sequence.specs.Blocks.{Blocks, flat, before, behind, IsPlace, larger_at_front, insert_all, cut_in}
+use Rattle.rga_sequence.specs.Blocks.{Blocks, flat, before, behind, IsPlace, larger_at_front, cut_in}
 use Rattle.rga_sequence.proofs.ListLaws.{drop_early, take_both, passed, stopped}
-
-pub index_within : (bs : Blocks) (b i : ℕ) (d : List Entry) → IsPlace bs b i → i ≤ length (slice_index_or bs b d)
-index_within [] b i d h = absurd h
-index_within (x ∷ xs) zero i d h = h
-index_within (x ∷ xs) (suc b) i d h = index_within xs b i d h
-
-pub place_at : (bs : Blocks) (b i : ℕ) (d : List Entry) → b < length bs → i ≤ length (slice_index_or bs b d) → IsPlace bs b i
-place_at [] b i d w h = absurd (omega arith)
-place_at (x ∷ xs) zero i d w h = h
-place_at (x ∷ xs) (suc b) i d w h = place_at xs b i d (omega arith) h
 
 pub block_within : (bs : Blocks) (b i : ℕ) → IsPlace bs b i → b < length bs
 block_within [] b i h = absurd h
 block_within (x ∷ xs) zero i h = omega arith
 block_within (x ∷ xs) (suc b) i h = let rest : b < length xs = block_within xs b i h in omega arith
 
-pub parted : (bs : Blocks) (b i : ℕ) → IsPlace bs b i → flat bs ≡ before bs b i ++ behind bs b i
-parted [] b i h = absurd h
-parted (x ∷ xs) zero i h = ap (λ y. y ++ flat xs) (sym (drop_early zero i x (omega arith))) ∙ append_assoc (take i x) (drop i x) (flat xs)
-parted (x ∷ xs) (suc b) i h = ap (λ r. x ++ r) (parted xs b i h) ∙ sym (append_assoc x (before xs b i) (behind xs b i))
-
 -- ---- entries come in
 
-pub put_there : (bs : Blocks) (b i : ℕ) (es d : List Entry) → IsPlace bs b i → flat (slice_set bs b (insert_all (slice_index_or bs b d) i es)) ≡ before bs b i ++ (es ++ behind bs b i)
-put_there [] b i es d h = absurd h
-put_there (x ∷ xs) zero i es d h = append_assoc (take i x) (es ++ drop i x) (flat xs) ∙ ap (λ r. take i x ++ r) (append_assoc es (drop i x) (flat xs))
-put_there (x ∷ xs) (suc b) i es d h = ap (λ r. x ++ r) (put_there xs b i es d h) ∙ sym (append_assoc x (before xs b i) (es ++ behind xs b i))
-
 -- ---- a block becomes two
-
-pub cut_is : (bs : Blocks) (b cut : ℕ) (d e : List Entry) → b < length bs → slice_set (insert bs (suc b) (drop cut (slice_index_or bs b d))) b (take cut (slice_index_or (insert bs (suc b) (drop cut (slice_index_or bs b d))) b e)) ≡ cut_in bs b cut
-cut_is [] b cut d e w = absurd (omega arith)
-cut_is (x ∷ xs) zero cut d e w = refl
-cut_is (x ∷ xs) (suc b) cut d e w = ap (λ r. x ∷ r) (cut_is xs b cut d e (omega arith))
 
 pub early_place : (bs : Blocks) (b i cut : ℕ) → IsPlace bs b i → IsPlace bs b cut → i ≤ cut → IsPlace (cut_in bs b cut) b i
 early_place [] b i cut p q h = absurd p
@@ -85,10 +60,7 @@ past (x ∷ xs) zero i entry d p j e =
     ∙ sym (append_assoc (take i x) (take n (drop i x)) (put_entry_past_larger entry (drop n (drop i x) ++ flat xs)))
     ∙ (λ k. take_both i n x k ++ put_entry_past_larger entry (drop-drop n i x k ++ flat xs))
     ∙ ap (λ m. take m x ++ put_entry_past_larger entry (drop m x ++ flat xs)) (sym e)
-past (x ∷ xs) (suc b) i entry d p j e =
-    append_assoc x (before xs b i) (put_entry_past_larger entry (behind xs b i))
-    ∙ ap (λ r. x ++ r) (past xs b i entry d p j e)
-    ∙ sym (append_assoc x (before xs b j) (put_entry_past_larger entry (behind xs b j)))
+past (x ∷ xs) (suc b) i entry d p j e = grind (arith, append_assoc, past xs b i entry d p j e)
 
 pub stops : (bs : Blocks) (b i : ℕ) (entry : Entry) (d : List Entry) → IsPlace bs b i → (j : ℕ) → j ≡ i + larger_at_front entry.id (drop i (slice_index_or bs b d)) → j < length (slice_index_or bs b d) → put_entry_past_larger entry (behind bs b j) ≡ entry ∷ behind bs b j
 stops [] b i entry d p j e w = absurd p
@@ -131,11 +103,6 @@ front_place [] b w = absurd (omega arith)
 front_place (x ∷ xs) zero w = omega arith
 front_place (x ∷ xs) (suc b) w = front_place xs b (omega arith)
 
-pub cut_flat : (bs : Blocks) (b cut : ℕ) → flat (cut_in bs b cut) ≡ flat bs
-cut_flat [] b cut = refl
-cut_flat (x ∷ xs) zero cut = sym (append_assoc (take cut x) (drop cut x) (flat xs)) ∙ ap (λ y. y ++ flat xs) (drop_early zero cut x (omega arith))
-cut_flat (x ∷ xs) (suc b) cut = ap (λ r. x ++ r) (cut_flat xs b cut)
-
 -- ---- with numbers as code has them
 
 pub lt_so : (a b : ℕ) → nat_lt a b ≡ true → a < b
@@ -154,9 +121,7 @@ pub on_behind : (bs : Blocks) (b i : ℕ) (d : List Entry) → IsPlace bs b i �
 on_behind bs b i d p h w = ap (λ n. behind bs b n) (full bs b i d p h) ∙ next_behind bs b d (omega arith) ∙ ap (λ n. behind bs n 0) (sym (add-one b))
 
 pub at_end : (bs : Blocks) (b i : ℕ) (d : List Entry) (entry : Entry) → IsPlace bs b i → length (slice_index_or bs b d) ≤ i → b < length bs → length bs ≤ b + 1 → put_entry_past_larger entry (behind bs b i) ≡ entry ∷ behind bs b i
-at_end bs b i d entry p h w e =
-    let none : behind bs b i ≡ [] = ap (λ n. behind bs b n) (full bs b i d p h) ∙ end_behind bs b d (omega arith) in
-    ap (put_entry_past_larger entry) none ∙ ap (λ r. entry ∷ r) (sym none)
+at_end bs b i d entry p h w e = grind (arith, full, end_behind)
 
 -- the front of a block is the end of the one before it
 pub back_before : (bs : Blocks) (b c i j : ℕ) (d : List Entry) → suc b ≡ c → j ≡ 0 → i ≡ length (slice_index_or bs b d) → c < length bs → before bs b i ≡ before bs c j
@@ -175,6 +140,3 @@ moved_before bs b i cut h p = ap (λ n. before (cut_in bs b cut) n (i - cut)) (a
 
 pub moved_behind : (bs : Blocks) (b i cut : ℕ) → cut ≤ i → IsPlace bs b i → behind (cut_in bs b cut) (b + 1) (i - cut) ≡ behind bs b i
 moved_behind bs b i cut h p = ap (λ n. behind (cut_in bs b cut) n (i - cut)) (add-one b) ∙ late_behind bs b i cut h p
-
-pub halved : (bs : Blocks) (b cut : ℕ) (d e : List Entry) → b < length bs → slice_set (insert bs (b + 1) (drop cut (slice_index_or bs b d))) b (take cut (slice_index_or (insert bs (b + 1) (drop cut (slice_index_or bs b d))) b e)) ≡ cut_in bs b cut
-halved bs b cut d e w = ap (λ n. slice_set (insert bs n (drop cut (slice_index_or bs b d))) b (take cut (slice_index_or (insert bs n (drop cut (slice_index_or bs b d))) b e))) (add-one b) ∙ cut_is bs b cut d e w

@@ -1,15 +1,15 @@
 -- Blocks into which an entry comes or from which one goes: what stands in them, apart and in no empty block.
-use Rattle.std.proofs.Common.{◌≡◌, ℕ, ◌+◌, ◌-◌, ◌<◌, ◌≤◌, suc, zero, Bool, true, false, cond, not, ◌||◌, List, [], ◌∷◌, ◌++◌, length, take, drop, slice_index_or, refl, sym, ap, ◌∙◌, subst, arith, true≢false, append_assoc, length-drop, add-one}
-use Rattle.std.proofs.lemmas.List.{length-take, take_all, drop_all, nil_from_length}
-use Rattle.std.proofs.lemmas.List.Edits.{length-remove}
-use Rattle.std.specs.Prelude.{insert, remove, slice_set}
+use Rattle.std.proofs.Common.{◌≡◌, ℕ, ◌+◌, ◌-◌, ◌<◌, ◌≤◌, suc, zero, Bool, true, false, cond, not, List, [], ◌∷◌, ◌++◌, length, slice_index_or, refl, sym, ap, ◌∙◌, subst, arith, append_assoc, length-drop, add-one}
+use Rattle.std.proofs.lemmas.List.{length-take}
+use Rattle.std.proofs.lemmas.List.Elements.{All-filter, All-from_recursion, recursion_from_All}
+use Rattle.std.specs.Prelude.{insert}
 use Rattle.std.specs.List.{AllByRecursion, IsDistinct}
 use Rattle.rga_ops.specs.Identifier.{Identifier, is_id}
 use Rattle.rga_sequence.specs.declared.entry.Entry.{Entry}
 use Rattle.rga_sequence.specs.Entries.{has, without_entry, as_marked, mark_entry, AreApart, IsPart}
-use Rattle.rga_sequence.specs.Blocks.{Blocks, flat, before, behind, cut_in, IsPlace, AreFilled}
-use Rattle.rga_sequence.proofs.PlaceLaws.{parted}
-use Rattle.rga_sequence.proofs.StandLaws.{id_swap}
+use Rattle.rga_sequence.specs.Blocks.{Blocks, flat, before, behind, cut_in, IsPlace}
+use Rattle.rga_pages.proofs.PartLaws.{parted}
+use Rattle.rga_sequence.proofs.StandLaws.{id_swap, parts}
 
 -- ---- apart
 
@@ -19,37 +19,21 @@ all_put P (x ∷ front) e back h all = (all.0, all_put P front e back h all.1)
 
 all_other : (e : Entry) (xs : List Entry) → has e.id xs ≡ false → AllByRecursion (λ y. is_id e.id y.id ≡ false) xs
 all_other e [] h = tt
-all_other e (x ∷ xs) h =
-    elim (is_id x.id e.id) as (λ b. is_id x.id e.id ≡ b → (b || has e.id xs) ≡ false → AllByRecursion (λ y. is_id e.id y.id ≡ false) (x ∷ xs)) [
-      | true ↦ λ t k. absurd (true≢false k)
-      | false ↦ λ f k. (id_swap x.id e.id f, all_other e xs k)
-    ] refl h
+all_other e (x ∷ xs) h = (id_swap x.id e.id (parts e.id x xs h).0, all_other e xs (parts e.id x xs h).1)
 
 pub apart_put : (front : List Entry) (e : Entry) (back : List Entry) → has e.id (front ++ back) ≡ false → AreApart (front ++ back) → AreApart (front ++ e ∷ back)
 unfolding IsDistinct
 apart_put [] e back h apart = (all_other e back h, apart)
 apart_put (x ∷ front) e back h apart =
-    elim (is_id x.id e.id) as (λ b. is_id x.id e.id ≡ b → (b || has e.id (front ++ back)) ≡ false → AreApart (x ∷ front ++ e ∷ back)) [
-      | true ↦ λ t k. absurd (true≢false k)
-      | false ↦ λ f k. (all_put (λ y. is_id x.id y.id ≡ false) front e back f apart.0, apart_put front e back k apart.1)
-    ] refl h
+    (all_put (λ y. is_id x.id y.id ≡ false) front e back (parts e.id x (front ++ back) h).0 apart.0, apart_put front e back (parts e.id x (front ++ back) h).1 apart.1)
 
 all_kept : (P : Entry → Type 0) (id : Identifier) (xs : List Entry) → AllByRecursion P xs → AllByRecursion P (without_entry id xs)
-all_kept P id [] all = tt
-all_kept P id (x ∷ xs) all =
-    elim (is_id x.id id) as (λ b. AllByRecursion P (cond (not b) (x ∷ without_entry id xs) (without_entry id xs))) [
-      | true ↦ all_kept P id xs all.1
-      | false ↦ (all.0, all_kept P id xs all.1)
-    ]
+all_kept P id xs all = recursion_from_All P (without_entry id xs) (All-filter (λ e. not (is_id e.id id)) P xs (All-from_recursion P xs all))
 
 pub apart_without : (id : Identifier) (xs : List Entry) → AreApart xs → AreApart (without_entry id xs)
 unfolding IsDistinct
 apart_without id [] apart = tt
-apart_without id (x ∷ xs) apart =
-    elim (is_id x.id id) as (λ b. AreApart (cond (not b) (x ∷ without_entry id xs) (without_entry id xs))) [
-      | true ↦ apart_without id xs apart.1
-      | false ↦ (all_kept (λ y. is_id x.id y.id ≡ false) id xs apart.0, apart_without id xs apart.1)
-    ]
+apart_without id (x ∷ xs) apart = grind (arith, all_kept, apart_without id xs apart.1)
 
 same_id : (mark : Bool) (id : Identifier) (x : Entry) → (cond (is_id x.id id) (as_marked mark x) x).id ≡ x.id
 same_id mark id x = elim (is_id x.id id) as (λ b. (cond b (as_marked mark x) x).id ≡ x.id) [ true ↦ refl | false ↦ refl ]
@@ -70,56 +54,9 @@ apart_none = tt
 
 -- ---- no block is empty
 
-pub filled_set : (bs : Blocks) (b : ℕ) (y : List Entry) → AreFilled bs → 0 < length y → AreFilled (slice_set bs b y)
-filled_set [] b y f h = f
-filled_set (x ∷ xs) zero y f h = (h, f.1)
-filled_set (x ∷ xs) (suc b) y f h = (f.0, filled_set xs b y f.1 h)
-
-pub filled_insert : (bs : Blocks) (b : ℕ) (y : List Entry) → AreFilled bs → 0 < length y → AreFilled (insert bs b y)
-filled_insert bs zero y f h = (h, f)
-filled_insert [] (suc b) y f h = (h, tt)
-filled_insert (x ∷ xs) (suc b) y f h = (f.0, filled_insert xs b y f.1 h)
-
-pub filled_remove : (bs : Blocks) (b : ℕ) → AreFilled bs → AreFilled (remove bs b)
-filled_remove [] zero f = tt
-filled_remove [] (suc b) f = tt
-filled_remove (x ∷ xs) zero f = f.1
-filled_remove (x ∷ xs) (suc b) f = (f.0, filled_remove xs b f.1)
-
-pub filled_cut : (bs : Blocks) (b cut : ℕ) (d : List Entry) → AreFilled bs → 0 < cut → cut < length (slice_index_or bs b d) → AreFilled (cut_in bs b cut)
-filled_cut [] b cut d f h w = tt
-filled_cut (x ∷ xs) zero cut d f h w =
-    let within : cut < length x = w in
-    (omega (arith, length-take cut x, h, within), (omega (arith, length-drop cut x, within), f.1))
-filled_cut (x ∷ xs) (suc b) cut d f h w = (f.0, filled_cut xs b cut d f.1 h w)
-
 -- ---- what stands in blocks that change
 
-own_there : (bs : Blocks) (b : ℕ) (es d : List Entry) → b < length bs → flat (insert bs (suc b) es) ≡ before bs b (length (slice_index_or bs b d)) ++ (es ++ behind bs b (length (slice_index_or bs b d)))
-own_there [] b es d w = absurd (omega arith)
-own_there (x ∷ xs) zero es d w = (λ k. sym (take_all (length x) x (omega arith)) k ++ (es ++ (sym (drop_all (length x) x (omega arith)) k ++ flat xs)))
-own_there (x ∷ xs) (suc b) es d w =
-    ap (λ r. x ++ r) (own_there xs b es d (omega arith))
-    ∙ sym (append_assoc x (before xs b (length (slice_index_or xs b d))) (es ++ behind xs b (length (slice_index_or xs b d))))
-
-pub removed_there : (bs : Blocks) (b i : ℕ) (d : List Entry) → b < length bs → flat (slice_set bs b (remove (slice_index_or bs b d) i)) ≡ before bs b i ++ behind bs b (suc i)
-removed_there [] b i d w = absurd (omega arith)
-removed_there (x ∷ xs) zero i d w = append_assoc (take i x) (drop (suc i) x) (flat xs)
-removed_there (x ∷ xs) (suc b) i d w = ap (λ r. x ++ r) (removed_there xs b i d (omega arith)) ∙ sym (append_assoc x (before xs b i) (behind xs b (suc i)))
-
--- a block of one entry goes with it
-pub block_gone : (bs : Blocks) (b i : ℕ) (d : List Entry) → b < length bs → length (slice_index_or bs b d) ≡ 1 → i < 1 → flat (remove bs b) ≡ before bs b i ++ behind bs b (suc i)
-block_gone [] b i d w one h = absurd (omega arith)
-block_gone (x ∷ xs) zero i d w one h =
-    let single : length x ≡ 1 = one in
-    let there : i < length x = omega (arith, single, h) in
-    ap (λ y. y ++ flat xs) (sym (nil_from_length (remove x i) (omega (arith, length-remove x i there, single)))) ∙ append_assoc (take i x) (drop (suc i) x) (flat xs)
-block_gone (x ∷ xs) (suc b) i d w one h = ap (λ r. x ++ r) (block_gone xs b i d (omega arith) one h) ∙ sym (append_assoc x (before xs b i) (behind xs b (suc i)))
-
 -- ---- with numbers as code has them
-
-pub own_at : (bs : Blocks) (b : ℕ) (es d : List Entry) → b < length bs → flat (insert bs (b + 1) es) ≡ before bs b (length (slice_index_or bs b d)) ++ (es ++ behind bs b (length (slice_index_or bs b d)))
-own_at bs b es d w = ap (λ n. flat (insert bs n es)) (add-one b) ∙ own_there bs b es d w
 
 pub own_front : (bs : Blocks) (b : ℕ) (es : List Entry) → b < length bs → flat (insert bs b es) ≡ before bs b 0 ++ (es ++ behind bs b 0)
 own_front [] b es w = absurd (omega arith)
@@ -153,6 +90,4 @@ part_of (x ∷ xs) (suc i) d w =
 -- ---- an entry behind its parent
 
 pub apart_there : (bs : Blocks) (b i : ℕ) (e : Entry) → IsPlace bs b i → has e.id (flat bs) ≡ false → AreApart (flat bs) → AreApart (before bs b i ++ e ∷ behind bs b i)
-apart_there bs b i e p h apart =
-    let parts : flat bs ≡ before bs b i ++ behind bs b i = parted bs b i p in
-    apart_put (before bs b i) e (behind bs b i) (subst (λ xs. has e.id xs ≡ false) parts h) (subst AreApart parts apart)
+apart_there bs b i e p h apart = grind (arith, parts, parted, apart_put)

@@ -1,94 +1,63 @@
 -- What stands where an identifier does: one entry, with no other of that identifier before or behind it.
-use Rattle.std.proofs.Common.{◌≡◌, ℕ, ◌+◌, ◌<◌, ◌≤◌, suc, zero, Bool, true, false, cond, not, ◌||◌, List, [], ◌∷◌, ◌++◌, length, take, drop, slice_index_or, refl, sym, ap, ◌∙◌, subst, arith, true≢false, append_assoc, add-one}
+use Rattle.std.proofs.Common.{◌≡◌, ℕ, ◌+◌, ◌<◌, ◌≤◌, suc, zero, Bool, true, false, cond, ◌||◌, List, [], ◌∷◌, ◌++◌, length, take, drop, slice_index_or, refl, sym, ap, ◌∙◌, subst, arith, append_assoc, add-one}
 use Rattle.std.specs.Prelude.{Some, None, slice_set}
 use Rattle.std.specs.List.{slice_get, AllByRecursion, IsDistinct}
 use Rattle.std.proofs.lemmas.Option.{same_Some, none-some, slice_get_within}
-use Rattle.std.proofs.lemmas.List.{length-map}
+use Rattle.std.proofs.lemmas.Bool.{or_from, or_parts, or_right}
+use Rattle.std.proofs.lemmas.List.{length-map, take_more}
 use Rattle.std.proofs.lemmas.List.Folds.{list_any-append}
 use Rattle.rga_ops.specs.Identifier.{Identifier, is_id, is_root}
 use Rattle.rga_ops.proofs.IdentifierLaws.{is_swap, is_id-same, is_id-itself}
 use Rattle.rga_sequence.specs.declared.entry.Entry.{Entry}
 use Rattle.rga_sequence.specs.Entries.{ids, has, entry_of, entries_up_to, change_after_entry, change_behind_entry, without_entry, as_marked, mark_entry, AreApart}
 use Rattle.rga_sequence.specs.Blocks.{Blocks, flat, before, behind, mark_at_index, IsPlace, Stands}
-use Rattle.rga_sequence.proofs.PlaceLaws.{parted}
+use Rattle.rga_pages.proofs.PartLaws.{flat_push, parted}
 
 pub id_swap : (a b : Identifier) → is_id a b ≡ false → is_id b a ≡ false
 id_swap a b h = is_id-same b a ∙ is_swap a b ∙ sym (is_id-same a b) ∙ h
 
 -- ---- an entry between others
 
+-- the first entry has another identifier, and so have those behind it
+pub parts : (id : Identifier) (x : Entry) (xs : List Entry) → has id (x ∷ xs) ≡ false → (is_id x.id id ≡ false) × (has id xs ≡ false)
+parts id x xs h = or_parts (is_id x.id id) (has id xs) h
+
 -- the change comes behind the entry
 pub change_between : (id : Identifier) (f : List Entry → List Entry) (front : List Entry) (e : Entry) (back : List Entry) → is_id e.id id ≡ true → has id front ≡ false → change_after_entry id f (front ++ e ∷ back) ≡ front ++ e ∷ f back
-change_between id f [] e back named h = ap (λ b. cond b (e ∷ f back) (e ∷ change_after_entry id f back)) named
-change_between id f (x ∷ front) e back named h =
-    elim (is_id x.id id) as (λ b. (b || has id front) ≡ false → cond b (x ∷ f (front ++ e ∷ back)) (x ∷ change_after_entry id f (front ++ e ∷ back)) ≡ x ∷ front ++ e ∷ f back) [
-      | true ↦ λ h. absurd (true≢false h)
-      | false ↦ λ h. ap (λ r. x ∷ r) (change_between id f front e back named h)
-    ] h
+change_between id f [] e back named h = rw named
+change_between id f (x ∷ front) e back named h = rw (parts id x front h).0 (ap (λ r. x ∷ r) (change_between id f front e back named (parts id x front h).1))
 
 pub without_absent : (id : Identifier) (xs : List Entry) → has id xs ≡ false → without_entry id xs ≡ xs
 without_absent id [] h = refl
-without_absent id (x ∷ xs) h =
-    elim (is_id x.id id) as (λ b. (b || has id xs) ≡ false → cond (not b) (x ∷ without_entry id xs) (without_entry id xs) ≡ x ∷ xs) [
-      | true ↦ λ h. absurd (true≢false h)
-      | false ↦ λ h. ap (λ r. x ∷ r) (without_absent id xs h)
-    ] h
+without_absent id (x ∷ xs) h = rw (parts id x xs h).0 (ap (λ r. x ∷ r) (without_absent id xs (parts id x xs h).1))
 
 pub without_between : (id : Identifier) (front : List Entry) (e : Entry) (back : List Entry) → is_id e.id id ≡ true → has id front ≡ false → has id back ≡ false → without_entry id (front ++ e ∷ back) ≡ front ++ back
-without_between id [] e back named h k = ap (λ b. cond (not b) (e ∷ without_entry id back) (without_entry id back)) named ∙ without_absent id back k
-without_between id (x ∷ front) e back named h k =
-    elim (is_id x.id id) as (λ b. (b || has id front) ≡ false → cond (not b) (x ∷ without_entry id (front ++ e ∷ back)) (without_entry id (front ++ e ∷ back)) ≡ x ∷ front ++ back) [
-      | true ↦ λ h. absurd (true≢false h)
-      | false ↦ λ h. ap (λ r. x ∷ r) (without_between id front e back named h k)
-    ] h
+without_between id [] e back named h k = rw named (without_absent id back k)
+without_between id (x ∷ front) e back named h k = rw (parts id x front h).0 (ap (λ r. x ∷ r) (without_between id front e back named (parts id x front h).1 k))
 
 pub mark_absent : (mark : Bool) (id : Identifier) (xs : List Entry) → has id xs ≡ false → mark_entry mark id xs ≡ xs
 mark_absent mark id [] h = refl
-mark_absent mark id (x ∷ xs) h =
-    elim (is_id x.id id) as (λ b. (b || has id xs) ≡ false → cond b (as_marked mark x) x ∷ mark_entry mark id xs ≡ x ∷ xs) [
-      | true ↦ λ h. absurd (true≢false h)
-      | false ↦ λ h. ap (λ r. x ∷ r) (mark_absent mark id xs h)
-    ] h
+mark_absent mark id (x ∷ xs) h = rw (parts id x xs h).0 (ap (λ r. x ∷ r) (mark_absent mark id xs (parts id x xs h).1))
 
 pub mark_between : (mark : Bool) (id : Identifier) (front : List Entry) (e : Entry) (back : List Entry) → is_id e.id id ≡ true → has id front ≡ false → has id back ≡ false → mark_entry mark id (front ++ e ∷ back) ≡ front ++ as_marked mark e ∷ back
-mark_between mark id [] e back named h k = (λ j. cond (named j) (as_marked mark e) e ∷ mark_absent mark id back k j)
-mark_between mark id (x ∷ front) e back named h k =
-    elim (is_id x.id id) as (λ b. (b || has id front) ≡ false → cond b (as_marked mark x) x ∷ mark_entry mark id (front ++ e ∷ back) ≡ x ∷ front ++ as_marked mark e ∷ back) [
-      | true ↦ λ h. absurd (true≢false h)
-      | false ↦ λ h. ap (λ r. x ∷ r) (mark_between mark id front e back named h k)
-    ] h
+mark_between mark id [] e back named h k = rw named (ap (λ r. as_marked mark e ∷ r) (mark_absent mark id back k))
+mark_between mark id (x ∷ front) e back named h k = rw (parts id x front h).0 (ap (λ r. x ∷ r) (mark_between mark id front e back named (parts id x front h).1 k))
 
 pub up_to_between : (id : Identifier) (front : List Entry) (e : Entry) (back : List Entry) → is_id e.id id ≡ true → has id front ≡ false → entries_up_to id (front ++ e ∷ back) ≡ front ++ e ∷ []
-up_to_between id [] e back named h = ap (λ b. cond b (e ∷ []) (e ∷ entries_up_to id back)) named
-up_to_between id (x ∷ front) e back named h =
-    elim (is_id x.id id) as (λ b. (b || has id front) ≡ false → cond b (x ∷ []) (x ∷ entries_up_to id (front ++ e ∷ back)) ≡ x ∷ front ++ e ∷ []) [
-      | true ↦ λ h. absurd (true≢false h)
-      | false ↦ λ h. ap (λ r. x ∷ r) (up_to_between id front e back named h)
-    ] h
+up_to_between id [] e back named h = rw named
+up_to_between id (x ∷ front) e back named h = rw (parts id x front h).0 (ap (λ r. x ∷ r) (up_to_between id front e back named (parts id x front h).1))
 
 pub entry_between : (id : Identifier) (front : List Entry) (e : Entry) (back : List Entry) → is_id e.id id ≡ true → has id front ≡ false → entry_of id (front ++ e ∷ back) ≡ Some e
-entry_between id [] e back named h = ap (λ b. cond b (Some e) (entry_of id back)) named
-entry_between id (x ∷ front) e back named h =
-    elim (is_id x.id id) as (λ b. (b || has id front) ≡ false → cond b (Some x) (entry_of id (front ++ e ∷ back)) ≡ Some e) [
-      | true ↦ λ h. absurd (true≢false h)
-      | false ↦ λ h. entry_between id front e back named h
-    ] h
+entry_between id [] e back named h = rw named
+entry_between id (x ∷ front) e back named h = rw (parts id x front h).0 (entry_between id front e back named (parts id x front h).1)
 
 pub entry_absent : (id : Identifier) (xs : List Entry) → has id xs ≡ false → entry_of id xs ≡ None
 entry_absent id [] h = refl
-entry_absent id (x ∷ xs) h =
-    elim (is_id x.id id) as (λ b. (b || has id xs) ≡ false → cond b (Some x) (entry_of id xs) ≡ None) [
-      | true ↦ λ h. absurd (true≢false h)
-      | false ↦ λ h. entry_absent id xs h
-    ] h
+entry_absent id (x ∷ xs) h = rw (parts id x xs h).0 (entry_absent id xs (parts id x xs h).1)
 
 pub has_between : (id : Identifier) (front : List Entry) (e : Entry) (back : List Entry) → is_id e.id id ≡ true → has id (front ++ e ∷ back) ≡ true
-has_between id [] e back named = ap (λ b. b || has id back) named
-has_between id (x ∷ front) e back named =
-    elim (is_id x.id id) as (λ b. (b || has id (front ++ e ∷ back)) ≡ true) [
-      | true ↦ refl
-      | false ↦ has_between id front e back named
-    ]
+has_between id [] e back named = rw named
+has_between id (x ∷ front) e back named = or_right (is_id x.id id) (has id (front ++ e ∷ back)) (has_between id front e back named)
 
 -- ---- no other of that identifier
 
@@ -123,13 +92,11 @@ record Found (xs : List Entry) (i : ℕ) (id : Identifier) : Type 0 where
 found : (xs : List Entry) (i : ℕ) (id : Identifier) → slice_get (ids xs) i ≡ Some id → Found xs i id
 found [] i id h = absurd (none-some id h)
 found (x ∷ xs) zero id h = record { entry = x; named = same_Some x.id id h; rest = refl; front = refl; got = refl; marked = λ mark. refl }
-found (x ∷ xs) (suc i) id h =
-    let f : Found xs i id = found xs i id h in
-    record { entry = f.entry; named = f.named; rest = f.rest; front = ap (λ r. x ∷ r) f.front; got = f.got; marked = λ mark. ap (λ r. x ∷ r) (f.marked mark) }
+found (x ∷ xs) (suc i) id h = grind (arith, found xs i id h)
 
 -- ---- in blocks
 
-pub record At (bs : Blocks) (b i : ℕ) (id : Identifier) : Type 0 where
+record At (bs : Blocks) (b i : ℕ) (id : Identifier) : Type 0 where
   pub entry : Entry
   pub named : entry.id ≡ id
   pub rest : behind bs b i ≡ entry ∷ behind bs b (suc i)
@@ -137,14 +104,12 @@ pub record At (bs : Blocks) (b i : ℕ) (id : Identifier) : Type 0 where
   pub got : (d : List Entry) → slice_get (slice_index_or bs b d) i ≡ Some entry
   pub marked : (mark : Bool) (d : List Entry) → flat (slice_set bs b (mark_at_index mark i (slice_index_or bs b d))) ≡ before bs b i ++ as_marked mark entry ∷ behind bs b (suc i)
 
-pub at : (bs : Blocks) (b i : ℕ) (id : Identifier) → Stands bs b i id → At bs b i id
+at : (bs : Blocks) (b i : ℕ) (id : Identifier) → Stands bs b i id → At bs b i id
 at [] b i id h = absurd h
 at (x ∷ xs) zero i id h =
     let f : Found x i id = found x i id h in
     record { entry = f.entry; named = f.named; rest = ap (λ r. r ++ flat xs) f.rest; front = f.front; got = λ d. f.got; marked = λ mark d. ap (λ r. r ++ flat xs) (f.marked mark) ∙ append_assoc (take i x) (as_marked mark f.entry ∷ drop (suc i) x) (flat xs) }
-at (x ∷ xs) (suc b) i id h =
-    let f : At xs b i id = at xs b i id h in
-    record { entry = f.entry; named = f.named; rest = f.rest; front = ap (λ r. x ++ r) f.front ∙ sym (append_assoc x (before xs b i) (f.entry ∷ [])); got = f.got; marked = λ mark d. ap (λ r. x ++ r) (f.marked mark d) ∙ sym (append_assoc x (before xs b i) (as_marked mark f.entry ∷ behind xs b (suc i))) }
+at (x ∷ xs) (suc b) i id h = grind (arith, append_assoc, at xs b i id h)
 
 within : (xs : List Entry) (i : ℕ) (id : Identifier) → slice_get (ids xs) i ≡ Some id → i < length xs
 within xs i id h = omega (arith, slice_get_within (ids xs) i id h, length-map xs (λ (e : Entry). e.id))
@@ -160,9 +125,6 @@ places [] b i j id h w = absurd h
 places (x ∷ xs) zero i j id h w = let l : i < length x = within x i id h in omega arith
 places (x ∷ xs) (suc b) i j id h w = places xs b i j id h w
 
-pub place_there : (bs : Blocks) (b i : ℕ) (id : Identifier) → Stands bs b i id → IsPlace bs b i
-place_there bs b i id h = places bs b i i id h (omega arith)
-
 pub place_behind : (bs : Blocks) (b i : ℕ) (id : Identifier) → Stands bs b i id → IsPlace bs b (i + 1)
 place_behind bs b i id h = places bs b i (i + 1) id h (omega arith)
 
@@ -172,43 +134,28 @@ stands_in (x ∷ xs) zero i id d w e = e
 stands_in (x ∷ xs) (suc b) i id d w e = stands_in xs b i id d (omega arith) e
 
 -- the list is what stands before, the entry, and what stands behind
-pub record Standing (bs : Blocks) (b i : ℕ) (id : Identifier) : Type 0 where
-  pub entry : Entry
-  pub named : is_id entry.id id ≡ true
-  pub whole : flat bs ≡ before bs b i ++ entry ∷ behind bs b (suc i)
-  pub front : before bs b (suc i) ≡ before bs b i ++ entry ∷ []
-  pub rest : behind bs b i ≡ entry ∷ behind bs b (suc i)
-  pub got : (d : List Entry) → slice_get (slice_index_or bs b d) i ≡ Some entry
-  pub marked : (mark : Bool) (d : List Entry) → flat (slice_set bs b (mark_at_index mark i (slice_index_or bs b d))) ≡ before bs b i ++ as_marked mark entry ∷ behind bs b (suc i)
+record Standing (bs : Blocks) (b i : ℕ) (id : Identifier) : Type 0 where
+  pub its : At bs b i id
+  pub named : is_id its.entry.id id ≡ true
+  pub whole : flat bs ≡ before bs b i ++ its.entry ∷ behind bs b (suc i)
   pub none_before : has id (before bs b i) ≡ false
   pub none_behind : has id (behind bs b (suc i)) ≡ false
 
-pub standing : (bs : Blocks) (b i : ℕ) (id : Identifier) → AreApart (flat bs) → Stands bs b i id → Standing bs b i id
+standing : (bs : Blocks) (b i : ℕ) (id : Identifier) → AreApart (flat bs) → Stands bs b i id → Standing bs b i id
 standing bs b i id apart h =
     let f : At bs b i id = at bs b i id h in
-    let whole : flat bs ≡ before bs b i ++ f.entry ∷ behind bs b (suc i) = parted bs b i (place_there bs b i id h) ∙ ap (λ r. before bs b i ++ r) f.rest in
+    let whole : flat bs ≡ before bs b i ++ f.entry ∷ behind bs b (suc i) = parted bs b i ∙ ap (λ r. before bs b i ++ r) f.rest in
     let apart_there : AreApart (before bs b i ++ f.entry ∷ behind bs b (suc i)) = subst AreApart whole apart in
     record {
-      entry = f.entry;
+      its = f;
       named = ap (λ y. is_id y id) f.named ∙ is_id-itself id;
       whole = whole;
-      front = f.front;
-      rest = f.rest;
-      got = f.got;
-      marked = f.marked;
       none_before = subst (λ y. has y (before bs b i) ≡ false) f.named (apart_front (before bs b i) f.entry (behind bs b (suc i)) apart_there);
       none_behind = subst (λ y. has y (behind bs b (suc i)) ≡ false) f.named (apart_back (before bs b i) f.entry (behind bs b (suc i)) apart_there);
     }
 
 pub change_there : (id : Identifier) (f : List Entry → List Entry) (bs : Blocks) (b i : ℕ) → is_root id ≡ false → AreApart (flat bs) → Stands bs b i id → change_behind_entry id f (flat bs) ≡ before bs b (i + 1) ++ f (behind bs b (i + 1))
-change_there id f bs b i other apart h =
-    let s : Standing bs b i id = standing bs b i id apart h in
-    ap (λ t. cond t (f (flat bs)) (change_after_entry id f (flat bs))) other
-    ∙ ap (change_after_entry id f) s.whole
-    ∙ change_between id f (before bs b i) s.entry (behind bs b (suc i)) s.named s.none_before
-    ∙ sym (append_assoc (before bs b i) (s.entry ∷ []) (f (behind bs b (suc i))))
-    ∙ ap (λ r. r ++ f (behind bs b (suc i))) (sym s.front)
-    ∙ ap (λ n. before bs b n ++ f (behind bs b n)) (sym (add-one i))
+change_there id f bs b i other apart h = grind (arith, standing, change_between, append_assoc, add-one)
 
 pub change_at_front : (id : Identifier) (f : List Entry → List Entry) (bs : Blocks) → is_root id ≡ true → 0 < length bs → change_behind_entry id f (flat bs) ≡ before bs 0 0 ++ f (behind bs 0 0)
 change_at_front id f [] root w = absurd (omega arith)
@@ -217,45 +164,25 @@ change_at_front id f (x ∷ xs) root w = ap (λ t. cond t (f (x ++ flat xs)) (ch
 pub has_there : (id : Identifier) (bs : Blocks) (b i : ℕ) → Stands bs b i id → has id (flat bs) ≡ true
 has_there id bs b i h =
     let f : At bs b i id = at bs b i id h in
-    ap (has id) (parted bs b i (place_there bs b i id h) ∙ ap (λ r. before bs b i ++ r) f.rest)
+    ap (has id) (parted bs b i ∙ ap (λ r. before bs b i ++ r) f.rest)
     ∙ has_between id (before bs b i) f.entry (behind bs b (suc i)) (ap (λ y. is_id y id) f.named ∙ is_id-itself id)
 
 pub without_there : (id : Identifier) (bs : Blocks) (b i : ℕ) → AreApart (flat bs) → Stands bs b i id → before bs b i ++ behind bs b (suc i) ≡ without_entry id (flat bs)
-without_there id bs b i apart h =
-    let s : Standing bs b i id = standing bs b i id apart h in
-    sym (ap (without_entry id) s.whole ∙ without_between id (before bs b i) s.entry (behind bs b (suc i)) s.named s.none_before s.none_behind)
+without_there id bs b i apart h = grind (arith, standing, without_between)
 
 pub marked_there : (mark : Bool) (id : Identifier) (bs : Blocks) (b i : ℕ) (d : List Entry) → AreApart (flat bs) → Stands bs b i id → flat (slice_set bs b (mark_at_index mark i (slice_index_or bs b d))) ≡ mark_entry mark id (flat bs)
-marked_there mark id bs b i d apart h =
-    let s : Standing bs b i id = standing bs b i id apart h in
-    s.marked mark d
-    ∙ sym (ap (mark_entry mark id) s.whole ∙ mark_between mark id (before bs b i) s.entry (behind bs b (suc i)) s.named s.none_before s.none_behind)
+marked_there mark id bs b i d apart h = grind (arith, standing, mark_between)
 
 pub entry_there : (id : Identifier) (bs : Blocks) (b i : ℕ) (d : List Entry) → AreApart (flat bs) → Stands bs b i id → slice_get (slice_index_or bs b d) i ≡ entry_of id (flat bs)
-entry_there id bs b i d apart h =
-    let s : Standing bs b i id = standing bs b i id apart h in
-    s.got d ∙ sym (ap (entry_of id) s.whole ∙ entry_between id (before bs b i) s.entry (behind bs b (suc i)) s.named s.none_before)
+entry_there id bs b i d apart h = grind (arith, standing, entry_between)
 
 pub up_to_there : (id : Identifier) (bs : Blocks) (b i : ℕ) → AreApart (flat bs) → Stands bs b i id → entries_up_to id (flat bs) ≡ before bs b (i + 1)
-up_to_there id bs b i apart h =
-    let s : Standing bs b i id = standing bs b i id apart h in
-    ap (entries_up_to id) s.whole
-    ∙ up_to_between id (before bs b i) s.entry (behind bs b (suc i)) s.named s.none_before
-    ∙ sym s.front
-    ∙ ap (before bs b) (sym (add-one i))
+up_to_there id bs b i apart h = grind (arith, standing, up_to_between, add-one)
 
 -- ---- what is not found
 
-pub none_in_blocks : (id : Identifier) (bs : Blocks) (b : ℕ) (d : List Entry) → b < length bs → has id (flat (take b bs)) ≡ false → has id (slice_index_or bs b d) ≡ false → has id (flat (take (suc b) bs)) ≡ false
-none_in_blocks id [] b d w none other = absurd (omega arith)
-none_in_blocks id (x ∷ xs) zero d w none other = list_any-append (λ y. is_id y.id id) x [] ∙ ap (λ b. b || false) other
-none_in_blocks id (x ∷ xs) (suc b) d w none other =
-    let here : (has id x || has id (flat (take b xs))) ≡ false = sym (list_any-append (λ y. is_id y.id id) x (flat (take b xs))) ∙ none in
-    list_any-append (λ y. is_id y.id id) x (flat (take (suc b) xs))
-    ∙ (elim (has id x) as (λ a. (a || has id (flat (take b xs))) ≡ false → (a || has id (flat (take (suc b) xs))) ≡ false) [
-      | true ↦ λ h. absurd (true≢false h)
-      | false ↦ λ h. none_in_blocks id xs b d (omega arith) h other
-    ] here)
-
 pub none_one_more : (id : Identifier) (bs : Blocks) (b : ℕ) (d : List Entry) → b < length bs → has id (flat (take b bs)) ≡ false → has id (slice_index_or bs b d) ≡ false → has id (flat (take (b + 1) bs)) ≡ false
-none_one_more id bs b d w none other = ap (λ n. has id (flat (take n bs))) (add-one b) ∙ none_in_blocks id bs b d w none other
+none_one_more id bs b d w none other =
+    ap (has id) (ap flat (take_more bs b d w) ∙ flat_push (take b bs) (slice_index_or bs b d))
+    ∙ list_any-append (λ y. is_id y.id id) (flat (take b bs)) (slice_index_or bs b d)
+    ∙ or_from (has id (flat (take b bs))) (has id (slice_index_or bs b d)) none other

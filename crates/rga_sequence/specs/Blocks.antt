@@ -8,14 +8,10 @@ use Rattle.rga_sequence.specs.Entries.{ids, visible_count, put_entry_past_larger
 use Rattle.rga_sequence.specs.declared.block.TheConstants.{MOST}
 use Rattle.rga_sequence.specs.declared.groups.TheConstants.{GROUP}
 use Rattle.rga_sequence.specs.declared.groups.Groups.{Groups}
+pub use Rattle.rga_pages.specs.Parts.{flat, before, behind, cut_in, insert_all, IsPlace, AreFilled}
 
 abbrev pub Blocks : Type 0
 Blocks = List (List Entry)
-
--- the blocks one after another
-abbrev pub flat : Blocks → List Entry
-flat [] = []
-flat (b ∷ bs) = b ++ flat bs
 
 -- ---- one block
 
@@ -34,10 +30,6 @@ mark_at_index mark index [] = []
 mark_at_index mark zero (e ∷ es) = as_marked mark e ∷ es
 mark_at_index mark (suc index) (e ∷ es) = e ∷ mark_at_index mark index es
 
--- a list comes in at an index
-abbrev pub insert_all : {A : Type 0} → List A → ℕ → List A → List A
-insert_all xs index ys = take index xs ++ (ys ++ drop index xs)
-
 -- what a block keeps of its entries
 pub record IsBlock (visible : ℕ) (least : Identifier) (es : List Entry) : Type 0 where
   pub counted : visible ≡ visible_count es
@@ -45,24 +37,6 @@ pub record IsBlock (visible : ℕ) (least : Identifier) (es : List Entry) : Type
   pub room : length es ≤ MOST
 
 -- ---- places
-
--- what stands before an index in a block
-abbrev pub before : Blocks → ℕ → ℕ → List Entry
-before [] block index = []
-before (b ∷ bs) zero index = take index b
-before (b ∷ bs) (suc block) index = b ++ before bs block index
-
--- what stands from an index in a block on
-abbrev pub behind : Blocks → ℕ → ℕ → List Entry
-behind [] block index = []
-behind (b ∷ bs) zero index = drop index b ++ flat bs
-behind (b ∷ bs) (suc block) index = behind bs block index
-
--- there is such a block, and the index is within it
-abbrev pub IsPlace : Blocks → ℕ → ℕ → Type 0
-IsPlace [] block index = ⊥
-IsPlace (b ∷ bs) zero index = index ≤ length b
-IsPlace (b ∷ bs) (suc block) index = IsPlace bs block index
 
 -- from one place as from another an entry comes to the same, past the larger ones
 abbrev pub Passes : Blocks → ℕ → ℕ → ℕ → ℕ → Entry → Type 0
@@ -75,21 +49,11 @@ abbrev pub Stops : Blocks → ℕ → ℕ → Entry → Type 0
 Stops bs block index e = index < length (slice_index_or bs block []) →
     put_entry_past_larger e (behind bs block index) ≡ e ∷ behind bs block index
 
--- a block is two
-abbrev pub cut_in : Blocks → ℕ → ℕ → Blocks
-cut_in [] block cut = []
-cut_in (b ∷ bs) zero cut = take cut b ∷ drop cut b ∷ bs
-cut_in (b ∷ bs) (suc block) cut = b ∷ cut_in bs block cut
-
 -- an identifier stands at an index of a block
 abbrev pub Stands : Blocks → ℕ → ℕ → Identifier → Type 0
 Stands [] block index id = ⊥
 Stands (b ∷ bs) zero index id = slice_get (ids b) index ≡ Some id
 Stands (b ∷ bs) (suc block) index id = Stands bs block index id
-
--- no block is empty
-abbrev pub AreFilled : Blocks → Type 0
-AreFilled bs = AllByRecursion (λ b. 0 < length b) bs
 
 -- what a sequence keeps of its blocks
 pub record IsSequence (bs : Blocks) : Type 0 where

@@ -1,14 +1,13 @@
 //! Some entries in a row.
-ghost use Rattle.std.specs.Prelude.{◌≡◌, ◌≤◌, ◌<◌, ◌+◌, ◌++◌, length, vec_len, vec_capacity, slice_get, None, Some, IfSome, true, false, take, drop, remove, IfOk, IfErr, OnOk, OnErr};
-ghost use Rattle.rga_sequence.specs.Entries.{ids, has, visible_count, visible_ids};
+ghost use Rattle.std.specs.Prelude.{◌≡◌, ◌≤◌, ◌<◌, ◌+◌, ◌++◌, length, vec_len, slice_get, Some, take, drop, remove, IfOk, IfErr, OnOk, OnErr};
+ghost use Rattle.rga_sequence.specs.Entries.{visible_count, visible_ids};
 ghost use Rattle.rga_sequence.specs.Blocks.{larger_at_front, insert_all, mark_at_index, AreFrom};
 
 use crate::entry::Entry;
 use crate::scans::{
-    count_one, count_visible, id_at, index_from, is_at, is_larger, least_of, lesser, past_larger,
-    push_id_range, push_visible, visible_at,
+    count_one, count_visible, id_at, is_larger, least_of, lesser, past_larger, push_id_range,
+    push_visible, visible_at,
 };
-use crate::turning::turn_last;
 use rga_ops::{Id, Refusal};
 use std::alloc::Global;
 use std::marker::Model;
@@ -49,23 +48,8 @@ fn room_for(len: usize, more: usize) -> usize
     (len + more + (ROOM - 1)) / ROOM * ROOM - len
 }
 
-/// Entries go behind others, in room for them.
-fn push_all(entries: &mut Vec<Entry>, more: &[Entry])
-    requires { vec_len entries.old + length more.now ≤ vec_capacity entries.old }
-    ensures items { entries.new.items ≡ entries.old.items ++ more.now }
-    ensures capacity { vec_capacity entries.old ≤ vec_capacity entries.new }
-{
-    let _room = entries.extend_from_slice(more);
-}
-
-/// Entries come in at an index. Where it is one, those from there on are moved in one go; where it
-/// is more, they wait beside.
-fn insert_into(
-    alloc: Global,
-    entries: &mut Vec<Entry>,
-    index: usize,
-    more: &[Entry],
-) -> Result<(), Refusal>
+/// Entries come in at an index. Those from there on are moved in one go.
+fn insert_into(entries: &mut Vec<Entry>, index: usize, more: &[Entry]) -> Result<(), Refusal>
     requires index { index ≤ vec_len entries.old }
     requires room { vec_len entries.old + length more.now ≤ MOST }
     ensures ok { OnOk result (entries.new.items ≡ insert_all entries.old.items index more.now) }
@@ -74,15 +58,8 @@ fn insert_into(
 {
     let len = entries.as_slice().len();
     entries.reserve_exact(room_for(len, more.len()))?;
-    if more.len() == 1 {
-        entries.push(more[0])?;
-        turn_last(entries.as_mut_slice(), index);
-        return Ok(());
-    }
-    let behind = Vec::from_slice(alloc, &entries.as_slice()[index..])?;
-    entries.truncate(index);
-    push_all(entries, more);
-    push_all(entries, behind.as_slice());
+    entries.extend_from_slice(more)?;
+    entries.as_mut_slice()[index..].rotate_right(more.len());
     Ok(())
 }
 
@@ -206,7 +183,8 @@ impl Block {
 
     /// The entries.
     pub(crate) fn entries(&self) -> &[Entry]
-        ensures { result.now ≡ self.now }
+        ensures same { result.now ≡ self.now }
+        ensures most { length self.now ≤ MOST }
     {
         self.entries.as_slice()
     }
@@ -231,25 +209,8 @@ impl Block {
         past_larger(self.entries.as_slice(), from, id)
     }
 
-    /// Where an identifier stands, which is looked for from an index on first.
-    pub(crate) fn find(&self, from: usize, id: Id) -> Option<usize>
-        ensures some { IfSome result (λ i. slice_get (ids self.now) i ≡ Some id) }
-        ensures within { IfSome result (λ i. i < MOST) }
-        ensures none { result ≡ None → has id self.now ≡ false }
-    {
-        index_from(self.entries.as_slice(), from, id)
-    }
-
-    /// Whether an identifier stands at an index.
-    pub(crate) fn stands_at(&self, index: usize, id: Id) -> bool
-        ensures there { result ≡ true → slice_get (ids self.now) index ≡ Some id }
-        ensures within { result ≡ true → index < MOST }
-    {
-        is_at(self.entries.as_slice(), index, id)
-    }
-
     /// Entries come in at an index. `Memory` alone.
-    pub(crate) fn put(&mut self, alloc: Global, index: usize, more: &[Entry]) -> Result<(), Refusal>
+    pub(crate) fn put(&mut self, index: usize, more: &[Entry]) -> Result<(), Refusal>
         requires index { index ≤ length self.old }
         requires room { length self.old + length more.now ≤ MOST }
         ensures ok { OnOk result (self.new ≡ insert_all self.old index more.now) }
@@ -258,7 +219,7 @@ impl Block {
     {
         let least = new_least(self.entries.as_slice(), self.least, more);
         let visible = self.visible + count_visible(more);
-        insert_into(alloc, &mut self.entries, index, more)?;
+        insert_into(&mut self.entries, index, more)?;
         self.least = least;
         self.visible = visible;
         Ok(())

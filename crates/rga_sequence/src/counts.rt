@@ -77,18 +77,11 @@ pub(crate) fn count_before(blocks: &Vec<Block>, counts: &Vec<usize>, block: usiz
     count
 }
 
-/// A group, and how many visible entries from its front on come before one.
-#[derive(Clone, Copy)]
-pub(crate) struct InGroup {
-    pub(crate) group: usize,
-    pub(crate) rest: usize,
-}
-
-/// The group of the k-th visible entry; the one behind those that are counted, if it is in none of
-/// these.
-pub(crate) fn group_with(counts: &[usize], k: usize) -> InGroup
-    ensures within { result.group ≤ length counts.now }
-    ensures rest { sum (take result.group counts.now) + result.rest ≡ k }
+/// The group of the k-th visible entry, and how many visible entries from its front on come before
+/// that; the group behind those that are counted, if it is in none of these.
+pub(crate) fn group_with(counts: &[usize], k: usize) -> (usize, usize)
+    ensures within { result.0 ≤ length counts.now }
+    ensures rest { sum (take result.0 counts.now) + result.1 ≡ k }
 {
     let mut group = 0;
     let mut rest = k;
@@ -96,5 +89,5 @@ pub(crate) fn group_with(counts: &[usize], k: usize) -> InGroup
         rest -= counts[group];
         group += 1;
     }
-    InGroup { group, rest }
+    (group, rest)
 }

@@ -6,6 +6,7 @@ ghost use Rattle.rga_sequence.specs.Blocks.{flat, Stands, IsSequence};
 use crate::block::{Block, MOST};
 use crate::entry::Entry;
 use crate::place::Place;
+use crate::scans::{index_from, is_at};
 use rga_ops::Id;
 
 /// Where an identifier is looked for first: at a place, and then from another on in its block,
@@ -43,7 +44,7 @@ fn find_at(blocks: &Vec<Block>, at: Place, id: Id) -> Option<Place>
     if at.block >= blocks.len() {
         return None;
     }
-    if blocks[at.block].stands_at(at.index, id) {
+    if is_at(blocks[at.block].entries(), at.index, id) {
         return Some(at);
     }
     None
@@ -61,7 +62,7 @@ fn find_in(blocks: &Vec<Block>, block: usize, from: usize, id: Id) -> Option<Pla
     if block >= blocks.len() {
         return None;
     }
-    let index = blocks[block].find(from, id)?;
+    let index = index_from(blocks[block].entries(), from, id)?;
     Some(Place { block, index })
 }
 

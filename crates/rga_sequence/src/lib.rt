@@ -4,9 +4,10 @@
 //! behind its parent, past the larger identifiers that stand there (Roh and others 2011); where
 //! each identifier is larger than its parent's, both show one order. This crate has that sequence:
 //! an `Entry` is put, deleted or taken out again, found by its identifier, and told by its place
-//! among the visible ones. It stands on rga_ops. The layer above may rest on the contracts, which
-//! see a `Sequence` as the list of its entries, and on the laws, which say what the same is to
-//! their identifiers; the names of blocks serve speed alone, and no answer depends on them.
+//! among the visible ones. It stands on rga_ops, and on rga_pages for the laws of lists in parts.
+//! The layer above may rest on the contracts, which see a `Sequence` as the list of its entries,
+//! and on the laws, which say what the same is to their identifiers; the names of blocks serve
+//! speed alone, and no answer depends on them.
 #![tactic(auto)]
 
 mod block;
@@ -25,7 +26,6 @@ mod removing;
 mod scans;
 mod sequence;
 mod skipping;
-mod turning;
 
 pub use entry::Entry;
 pub use near::Near;

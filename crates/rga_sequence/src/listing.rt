@@ -4,7 +4,7 @@ ghost use Rattle.rga_sequence.specs.Entries.{ids, entries_up_to, visible_count, 
 ghost use Rattle.rga_sequence.specs.Blocks.{flat, Stands, IsSequence, AreCounts};
 
 use crate::block::{Block, MOST};
-use crate::counts::{InGroup, count_before, group_with};
+use crate::counts::{count_before, group_with};
 use crate::groups::GROUP;
 use crate::place::Place;
 use crate::scans::{push_ids, push_text};
@@ -57,7 +57,7 @@ pub(crate) fn element_at(blocks: &Vec<Block>, counts: &Vec<usize>, k: usize) -> 
     requires { AreCounts counts.now.items blocks.now.items }
     ensures { result ≡ slice_get (visible_ids (flat blocks.now.items)) k }
 {
-    let InGroup { group, rest } = group_with(counts.as_slice(), k);
+    let (group, rest) = group_with(counts.as_slice(), k);
     element_in(&blocks.as_slice()[group * GROUP..], rest)
 }
 
@@ -93,7 +93,7 @@ pub(crate) fn elements(
         list.items ≡ drop lo (take hi (visible_ids (flat blocks.now.items)))) }
     ensures memory { IfErr result (λ e. e ≡ Refusal.Memory) }
 {
-    let InGroup { group, rest } = group_with(counts.as_slice(), lo);
+    let (group, rest) = group_with(counts.as_slice(), lo);
     let later = &blocks.as_slice()[group * GROUP..];
     let mut list = Vec::new(alloc);
     push_elements(&mut list, later, rest, hi.saturating_sub(lo - rest))?;

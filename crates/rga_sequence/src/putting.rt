@@ -10,11 +10,9 @@ use crate::counts::recount;
 use crate::entry::Entry;
 use crate::finding::Hints;
 use crate::groups::Groups;
-use crate::names::name_at;
 use crate::place::Place;
 use crate::scans::least_of;
 use crate::skipping::{behind_parent, skip};
-use crate::turning::turn_last;
 use rga_ops::{Id, Refusal};
 use std::alloc::Global;
 
@@ -92,13 +90,13 @@ fn put_at(
         return Ok(Place { block, index: 0 });
     }
     if has_room(blocks, at.block, count) {
-        put_in_block(alloc, blocks, groups, at, entries)?;
+        put_in_block(blocks, groups, at, entries)?;
         return Ok(at);
     }
-    let cut = cut_for(at.index);
+    let cut = at.index.max(MOST_AT_ONCE).min(MOST - MOST_AT_ONCE);
     cut_block(alloc, blocks, groups, at.block, cut, name)?;
     let place = moved(at, cut);
-    put_in_block(alloc, blocks, groups, place, entries)?;
+    put_in_block(blocks, groups, place, entries)?;
     Ok(place)
 }
 
@@ -139,7 +137,6 @@ fn has_room(blocks: &Vec<Block>, block: usize, count: usize) -> bool
 
 /// Entries come in at a place, where their block has room.
 fn put_in_block(
-    alloc: Global,
     blocks: &mut Vec<Block>,
     groups: &mut Groups,
     at: Place,
@@ -162,7 +159,7 @@ fn put_in_block(
     lower(&mut groups.bounds, at.block, least_of(entries));
     let block = &mut blocks[at.block];
     let before = block.visible_len();
-    block.put(alloc, at.index, entries)?;
+    block.put(at.index, entries)?;
     recount(&mut groups.counts, at.block, before, block.visible_len());
     Ok(())
 }
@@ -188,36 +185,9 @@ fn put_own(
     ensures memory { IfErr result (λ e. e ≡ Refusal.Memory) }
 {
     let own = Block::of_some(alloc, name, entries)?;
-    put_block(blocks, block, own)?;
+    blocks.insert(block, own)?;
     groups.forget_from(block);
     Ok(())
-}
-
-/// A block comes in.
-fn put_block(blocks: &mut Vec<Block>, index: usize, block: Block) -> Result<(), Refusal>
-    requires { index ≤ vec_len blocks.old }
-    ensures ok { OnOk result (blocks.new.items ≡ insert blocks.old.items index block) }
-    ensures len { OnOk result (vec_len blocks.new ≡ vec_len blocks.old + 1) }
-    ensures err { OnErr result (blocks.new.items ≡ blocks.old.items) }
-    ensures memory { IfErr result (λ e. e ≡ Refusal.Memory) }
-{
-    blocks.push(block)?;
-    turn_last(blocks.as_mut_slice(), index);
-    Ok(())
-}
-
-/// Where a block is cut for entries that come in at an index.
-fn cut_for(index: usize) -> usize
-    ensures first { MOST_AT_ONCE ≤ result }
-    ensures second { result + MOST_AT_ONCE ≤ MOST }
-{
-    if index < MOST_AT_ONCE {
-        return MOST_AT_ONCE;
-    }
-    if index > MOST - MOST_AT_ONCE {
-        return MOST - MOST_AT_ONCE;
-    }
-    index
 }
 
 /// A block becomes two. The one with fewer entries has the name `name`.
@@ -242,14 +212,14 @@ fn cut_block(
     ensures memory { IfErr result (λ e. e ≡ Refusal.Memory) }
 {
     let second = blocks[block].len() - cut;
-    let old = name_at(blocks, block);
+    let old = blocks[block].name();
     let (first_name, second_name) = if cut < second {
         (name, old)
     } else {
         (old, name)
     };
     let tail = blocks[block].tail(alloc, cut, second_name)?;
-    put_block(blocks, block + 1, tail)?;
+    blocks.insert(block + 1, tail)?;
     blocks[block].cut(cut, first_name);
     groups.forget_from(block);
     Ok(())

@@ -1,7 +1,7 @@
 use Rattle.std.proofs.Common.{◌++◌, ◌∷◌, [], List, take, drop, ap, ◌∙◌, append_assoc}
 use Rattle.std.proofs.lemmas.List.{take-append-drop, take_rest}
 use Rattle.rga_pages.specs.Pages.{Entries, entries_in}
-use Rattle.rga_pages.proofs.PlaceLaws.{flat_push}
+use Rattle.rga_pages.proofs.PartLaws.{flat_push}
 use Rattle.rga_pages.proofs.appending.append.Goals as goal
 
 pub returns-clause-ok : goal.returns-clause-ok

@@ -5,7 +5,8 @@ use Rattle.std.specs.BTreeMap.{insert_entry}
 use Rattle.rga_ops.specs.Identifier.{id_cmp}
 use Rattle.rga_pages.specs.Pages.{Entries, entries_in, Updates}
 use Rattle.rga_pages.proofs.EntryLaws.{updates_insert}
-use Rattle.rga_pages.proofs.PlaceLaws.{filled_at, filled_set}
+use Rattle.rga_pages.proofs.PartLaws.{filled_set}
+use Rattle.rga_pages.proofs.PlaceLaws.{filled_at}
 use Rattle.rga_pages.proofs.SpotLaws.{set_spot, set_is, inserted_pages}
 use Rattle.rga_pages.proofs.putting.overwrite.Goals as goal
 

@@ -1,7 +1,8 @@
-use Rattle.std.proofs.Common.{◌≡◌, ◌<◌, ◌+◌, ◌++◌, [], ℕ, suc, List, length, take, drop, slice_index_or, slice_set, sym, ap, ◌∙◌, subst, arith}
+use Rattle.std.proofs.Common.{◌≡◌, ◌<◌, ◌+◌, ◌++◌, [], ℕ, suc, List, length, take, drop, slice_index_or, slice_set, sym, ap, ◌∙◌, subst, arith, add-one}
 use Rattle.std.proofs.lemmas.List.{get_or_default, length-append, length-set, length-take, length-drop}
 use Rattle.rga_pages.specs.Pages.{Entries, entries_in, AreFilledPages}
-use Rattle.rga_pages.proofs.PlaceLaws.{one_up, spilled, filled_set, filled_at}
+use Rattle.rga_pages.proofs.PartLaws.{filled_set}
+use Rattle.rga_pages.proofs.PlaceLaws.{spilled, filled_at}
 use Rattle.rga_pages.proofs.putting.spill.Goals as goal
 
 -- the page behind has what stood from the index on in front
@@ -18,7 +19,7 @@ returns-clause-flat c =
     let f : Entries = c.index_mut-2.result.now in
     ap (λ y. entries_in (slice_set (slice_set ps (p + 1) c.extend.new.self) p y)) (c.cut.ensures ∙ ap (λ y. take c.args.cut y) c.index_mut-2.ensures.value)
     ∙ ap (λ x. entries_in (slice_set (slice_set ps (p + 1) x) p (take c.args.cut (slice_index_or (slice_set ps (p + 1) x) p f)))) (behind c)
-    ∙ ap (λ n. entries_in (slice_set (slice_set ps n (drop c.args.cut (slice_index_or ps p c.index.result.now) ++ slice_index_or ps n c.index-2.result.now)) p (take c.args.cut (slice_index_or (slice_set ps n (drop c.args.cut (slice_index_or ps p c.index.result.now) ++ slice_index_or ps n c.index-2.result.now)) p f)))) (sym (one_up p))
+    ∙ ap (λ n. entries_in (slice_set (slice_set ps n (drop c.args.cut (slice_index_or ps p c.index.result.now) ++ slice_index_or ps n c.index-2.result.now)) p (take c.args.cut (slice_index_or (slice_set ps n (drop c.args.cut (slice_index_or ps p c.index.result.now) ++ slice_index_or ps n c.index-2.result.now)) p f)))) (add-one p)
     ∙ spilled ps p c.args.cut c.index.result.now c.index-2.result.now f (subst (λ n. suc p < n) c.args.pages.now.ok.0 (omega (arith, c.requires.page)))
 
 pub returns-clause-filled : goal.returns-clause-filled

@@ -5,7 +5,8 @@ use Rattle.std.specs.BTreeMap.{insert_entry}
 use Rattle.rga_ops.specs.Identifier.{id_cmp}
 use Rattle.rga_pages.specs.Pages.{Entries, entries_in, ArePages, IsSpot}
 use Rattle.rga_ops.proofs.CaseSteps.{on_ok_map, on_err_always, either_way}
-use Rattle.rga_pages.proofs.PlaceLaws.{index_within, filled_set, insert_some}
+use Rattle.rga_pages.proofs.PartLaws.{index_within, filled_set}
+use Rattle.rga_pages.proofs.PlaceLaws.{insert_some}
 use Rattle.rga_pages.proofs.SpotLaws.{put_spot, record_none, inserted_pages}
 use Rattle.rga_pages.proofs.putting.write.Goals as goal
 

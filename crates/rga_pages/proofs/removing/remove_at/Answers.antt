@@ -5,7 +5,7 @@ use Rattle.std.proofs.lemmas.List.Edits.{length-remove}
 use Rattle.std.specs.Map.{remove_entry}
 use Rattle.rga_ops.proofs.IdentifierLaws.{is}
 use Rattle.rga_pages.specs.Pages.{Entries, entries_in, AreFilledPages}
-use Rattle.rga_pages.proofs.PlaceLaws.{filled_set, filled_remove}
+use Rattle.rga_pages.proofs.PartLaws.{filled_set, filled_remove}
 use Rattle.rga_pages.proofs.SpotLaws.{index_found, remove_spot, remove_page, removed_pages}
 use Rattle.rga_pages.proofs.removing.remove_at.Goals as goal
 

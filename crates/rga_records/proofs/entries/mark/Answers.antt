@@ -1,17 +1,13 @@
-use Rattle.std.proofs.Common.{◌≡◌, is_some, refl, sym, ap, ◌∙◌, subst}
-use Rattle.std.specs.Prelude.{Some, None, Option}
+use Rattle.std.proofs.Common.{is_some, sym, ap, ◌∙◌, subst}
+use Rattle.std.specs.Prelude.{Some}
 use Rattle.std.specs.Option.{option_map}
 use Rattle.rga_ops.proofs.CaseSteps.{on_err_always}
 use Rattle.rga_ops.specs.Content.{element}
 use Rattle.rga_pages.specs.declared.entry.Record.{Record}
 use Rattle.rga_pages.specs.Pages.{record_of, marked, Updates}
 use Rattle.rga_records.specs.Records.{Entries, element_of_record}
-use Rattle.rga_records.proofs.RecordLaws.{element_of, mark_of, is_some-char, inserted_at, content_deleted}
+use Rattle.rga_records.proofs.RecordLaws.{element_of, mark_of, is_some-char, inserted_at, content_deleted, marked_element}
 use Rattle.rga_records.proofs.entries.mark.Goals as goal
-
-same_element : (o : Option Record) → element_of (marked o) ≡ element_of o
-same_element None = refl
-same_element (Some r) = refl
 
 pub returns-in-Some-clause-inserted : goal.returns-in-Some-clause-inserted
 returns-in-Some-clause-inserted c =
@@ -22,7 +18,7 @@ pub returns-in-Some-clause-content : goal.returns-in-Some-clause-content
 returns-in-Some-clause-content c =
     let es : Entries = c.args.entries.now in
     content_deleted es c.mark.new.self c.args.id (marked (record_of c.args.id es)) c.mark.ensures.was_ordered c.mark.ensures.ordered c.mark.ensures.updates
-    (same_element (record_of c.args.id es)) (ap (λ o. mark_of (marked o)) (sym c.mark.ensures.value ∙ c.in-Some.is))
+    (marked_element (record_of c.args.id es)) (ap (λ o. mark_of (marked o)) (sym c.mark.ensures.value ∙ c.in-Some.is))
 
 pub returns-in_err-insert-in-None-clause-growth : goal.returns-in_err-insert-in-None-clause-growth
 returns-in_err-insert-in-None-clause-growth c =

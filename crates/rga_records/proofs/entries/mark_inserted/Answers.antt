@@ -3,12 +3,8 @@ use Rattle.std.specs.Prelude.{Some, None, Option}
 use Rattle.rga_pages.specs.declared.entry.Record.{Record}
 use Rattle.rga_pages.specs.Pages.{record_of, marked, IsUnmarked}
 use Rattle.rga_records.specs.Records.{Entries}
-use Rattle.rga_records.proofs.RecordLaws.{element_of, mark_of, is_some-char, inserted_at, deleted_at, content_deleted}
+use Rattle.rga_records.proofs.RecordLaws.{element_of, mark_of, is_some-char, inserted_at, deleted_at, content_deleted, marked_element}
 use Rattle.rga_records.proofs.entries.mark_inserted.Goals as goal
-
-same_element : (o : Option Record) → element_of (marked o) ≡ element_of o
-same_element None = refl
-same_element (Some r) = refl
 
 has_element : (o : Option Record) → IsUnmarked o → is_some (element_of o) ≡ true
 has_element None h = absurd h
@@ -36,4 +32,4 @@ pub returns-clause-content : goal.returns-clause-content
 returns-clause-content c = λ t.
     let es : Entries = c.args.entries.now in
     content_deleted es c.mark_inserted.new.self c.args.id (marked (record_of c.args.id es)) c.mark_inserted.ensures.was_ordered c.mark_inserted.ensures.ordered (c.mark_inserted.ensures.updates t)
-    (same_element (record_of c.args.id es)) (is_marked_then (record_of c.args.id es) (c.mark_inserted.ensures.found t))
+    (marked_element (record_of c.args.id es)) (is_marked_then (record_of c.args.id es) (c.mark_inserted.ensures.found t))

@@ -1,4 +1,4 @@
-use Rattle.std.proofs.Common.{◌≡◌, true, false, cond, ◌++◌, ◌∷◌, [], is_some, sym, ap, ◌∙◌, subst, true≢false}
+use Rattle.std.proofs.Common.{◌≡◌, true, false, cond, ◌++◌, ◌∷◌, [], sym, ap, ◌∙◌, subst, true≢false}
 use Rattle.std.specs.Prelude.{Some, None, SomeIff}
 use Rattle.std.specs.Char.{IsScalar}
 use Rattle.rga_pages.specs.declared.entry.Record.{Record}
@@ -17,7 +17,7 @@ returns-in_default-clause-ok c = λ es s l node.
     (c.args.links.now.next.items ++ WAITS ∷ []) c.push_one.new.list.items
     c.in_ok-push_one-2.ensures.ok
     c.in_ok-push_one.ensures.ok
-    (links_same es c.args.links.now.shown.items c.args.links.now.next.items l c.args.entry.now HIDDEN (no_character c.args.entry.now.1 none) s (ap is_some none))
+    (links_same es c.args.links.now.shown.items c.args.links.now.next.items l c.args.entry.now HIDDEN (no_character c.args.entry.now.1 none) s none)
 
 pub returns-clause-ok : goal.returns-clause-ok
 returns-clause-ok c = λ es s l node.
@@ -29,4 +29,4 @@ returns-clause-ok c = λ es s l node.
     (with_link c.args.above c.args.links.now.next.items) c.link.new.next.items
     c.in_ok-push_one-3.ensures.ok
     c.in_ok-link.ensures.ok
-    (links_more es c.args.links.now.shown.items c.args.links.now.next.items l c.args.entry.now c.code_of.result code s c.args.above (ap is_some some) node c.in_ok-link.ensures.room)
+    (links_more es c.args.links.now.shown.items c.args.links.now.next.items l c.args.entry.now c.code_of.result code s c.args.above c.in-Some.ch some node c.in_ok-link.ensures.room)

@@ -3,7 +3,7 @@ use Rattle.std.specs.Map.{keys_of}
 use Rattle.rga_ops.specs.Identifier.{Identifier}
 use Rattle.rga_pages.specs.declared.entry.Record.{Record}
 use Rattle.rga_pages.specs.Pages.{Entries, entries_before, entries_behind}
-use Rattle.rga_pages.proofs.PlaceLaws.{parted}
+use Rattle.rga_pages.proofs.PartLaws.{parted}
 use Rattle.rga_records.specs.Links.{AreLinks, AreSoundRecords, IsNodeOf}
 use Rattle.rga_records.proofs.LinkedRecordLaws.{sound_before}
 use Rattle.rga_records.proofs.NodeLaws.{none_before, one_more_before, page_before}

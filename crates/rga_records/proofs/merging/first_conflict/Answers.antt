@@ -1,9 +1,9 @@
-use Rattle.std.proofs.Common.{◌≡◌, ℕ, ◌+◌, ◌<◌, ◌++◌, List, length, drop, slice_index_or, sym, ap, ◌∙◌, subst}
+use Rattle.std.proofs.Common.{◌≡◌, ℕ, ◌+◌, ◌<◌, ◌++◌, List, length, drop, slice_index_or, sym, ap, ◌∙◌, subst, add-one}
 use Rattle.std.specs.List.{filter_map}
 use Rattle.std.proofs.lemmas.List.Elements.{filter_map-append}
 use Rattle.rga_ops.specs.Content.{Content}
 use Rattle.rga_pages.specs.Pages.{entries_in}
-use Rattle.rga_pages.proofs.PlaceLaws.{one_up, rest_of}
+use Rattle.rga_pages.proofs.PlaceLaws.{rest_of}
 use Rattle.rga_records.specs.Records.{Entries, content_of_records, first_conflicting, insertion_of_record}
 use Rattle.rga_records.proofs.MergingLaws.{none_first, some_first}
 use Rattle.rga_records.proofs.SortedRecordLaws.{Insertions}
@@ -15,7 +15,7 @@ later ps i = filter_map insertion_of_record (entries_in (drop (i + 1) ps))
 
 insertions_from : (ps : List Entries) (i : ℕ) (page : Entries) → i < length ps → page ≡ slice_index_or ps i page → filter_map insertion_of_record (entries_in (drop i ps)) ≡ filter_map insertion_of_record page ++ later ps i
 insertions_from ps i page w is =
-    ap (filter_map insertion_of_record) (rest_of ps i page w ∙ (λ k. sym is k ++ entries_in (drop (one_up i k) ps))) ∙ filter_map-append insertion_of_record page (entries_in (drop (i + 1) ps))
+    ap (filter_map insertion_of_record) (rest_of ps i page w ∙ (λ k. sym is k ++ entries_in (drop (sym (add-one i) k) ps))) ∙ filter_map-append insertion_of_record page (entries_in (drop (i + 1) ps))
 
 pub returns-in-Some : goal.returns-in-Some
 returns-in-Some c =

@@ -9,7 +9,7 @@ stands : (c : goal.In_ok-index) → Stands c.args.blocks.now.items c.args.block 
 stands c =
     stands_in c.args.blocks.now.items c.args.block c.in_ok-index.index c.args.id c.index.result.now
     (subst (λ n. c.args.block < n) c.args.blocks.now.ok.0 (subst (λ n. c.args.block < n) c.len.ensures c.if-block-len.false))
-    (ap (λ xs. slice_get (ids xs) c.in_ok-index.index) (sym c.index.ensures) ∙ c.in_ok-index.ensures.some)
+    (ap (λ xs. slice_get (ids xs) c.in_ok-index.index) (sym (c.entries.ensures.same ∙ c.index.ensures)) ∙ c.in_ok-index.ensures.some)
 
 pub returns-clause-some : goal.returns-clause-some
 returns-clause-some c = stands c

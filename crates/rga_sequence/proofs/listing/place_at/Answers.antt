@@ -2,7 +2,8 @@ use Rattle.std.proofs.Common.{◌≡◌, ◌+◌, ◌≤◌, List, length, sym, 
 use Rattle.rga_sequence.specs.declared.entry.Entry.{Entry}
 use Rattle.rga_sequence.specs.Entries.{visible_count}
 use Rattle.rga_sequence.specs.Blocks.{Blocks, flat, before, behind, IsPlace}
-use Rattle.rga_sequence.proofs.PlaceLaws.{index_within, block_within, parted}
+use Rattle.rga_pages.proofs.PartLaws.{index_within, parted}
+use Rattle.rga_sequence.proofs.PlaceLaws.{block_within}
 use Rattle.rga_sequence.proofs.CountLaws.{count_within, count_before}
 use Rattle.rga_sequence.proofs.StandLaws.{place_behind, up_to_there}
 use Rattle.rga_sequence.proofs.listing.place_at.Goals as goal
@@ -24,7 +25,7 @@ overflow_add-result c =
     let front : List Entry = before bs c.args.at.block (c.args.at.index + 1) in
     let back : List Entry = behind bs c.args.at.block (c.args.at.index + 1) in
     let part : length (flat bs) ≡ length front + length back =
-    ap length (parted bs c.args.at.block (c.args.at.index + 1) (place_behind bs c.args.at.block c.args.at.index c.args.id c.requires.stands)) ∙ length-append front back in
+    ap length (parted bs c.args.at.block (c.args.at.index + 1)) ∙ length-append front back in
     omega (arith, total c, part, count_within front, c.requires.fits)
 
 pub returns : goal.returns

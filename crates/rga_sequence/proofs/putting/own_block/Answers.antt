@@ -1,8 +1,8 @@
 use Rattle.std.proofs.Common.{◌≡◌, ◌≤◌, ◌<◌, ◌++◌, List, length, slice_index_or, ap, ◌∙◌, subst, arith}
 use Rattle.rga_sequence.specs.declared.entry.Entry.{Entry}
 use Rattle.rga_sequence.specs.Blocks.{Blocks, before, behind}
-use Rattle.rga_sequence.proofs.PlaceLaws.{index_within}
-use Rattle.rga_sequence.proofs.PutLaws.{own_at, own_front}
+use Rattle.rga_pages.proofs.PartLaws.{index_within, own_behind}
+use Rattle.rga_sequence.proofs.PutLaws.{own_front}
 use Rattle.rga_sequence.proofs.putting.own_block.Goals as goal
 
 pub returns-then-count-len-clause-there : goal.returns-then-count-len-clause-there
@@ -13,7 +13,7 @@ returns-then-count-len-clause-there c = λ es.
     let count : length d ≡ length (slice_index_or bs c.args.at.block d) = ap length c.index.ensures in
     let most : c.args.at.index ≤ length (slice_index_or bs c.args.at.block d) = index_within bs c.args.at.block c.args.at.index d c.requires.place in
     let end : length (slice_index_or bs c.args.at.block d) ≡ c.args.at.index = omega (arith, count, most, c.len-len.ensures.len, c.if-at-len.true) in
-    own_at bs c.args.at.block es d within ∙ ap (λ i. before bs c.args.at.block i ++ (es ++ behind bs c.args.at.block i)) end
+    own_behind bs c.args.at.block c.args.at.index es d within end
 
 pub returns-clause-there : goal.returns-clause-there
 returns-clause-there c = λ es.

@@ -5,9 +5,8 @@ use Rattle.rga_sequence.specs.declared.entry.Entry.{Entry}
 use Rattle.rga_sequence.specs.declared.block.TheConstants.{MOST}
 use Rattle.rga_sequence.specs.Entries.{visible_count}
 use Rattle.rga_sequence.specs.Blocks.{Blocks, flat, insert_all, AreBounds, AreCounts}
-use Rattle.rga_sequence.proofs.PlaceLaws.{index_within, put_there}
+use Rattle.rga_pages.proofs.PartLaws.{index_within, changed_there, filled_set}
 use Rattle.rga_sequence.proofs.CountLaws.{length_insert}
-use Rattle.rga_sequence.proofs.PutLaws.{filled_set}
 use Rattle.rga_sequence.proofs.BoundLaws.{bounds_put}
 use Rattle.rga_sequence.proofs.putting.put_in_block.Goals as goal
 
@@ -20,7 +19,7 @@ put-requires-clause-room c = subst (λ xs. length xs + length c.args.entries.now
 pub returns-clause-ok : goal.returns-clause-ok
 returns-clause-ok c =
     ap (λ y. flat (slice_set c.args.blocks.now.items c.args.at.block y)) (c.in_ok-put.ensures.ok ∙ ap (λ y. insert_all y c.args.at.index c.args.entries.now) c.index_mut-block.ensures.value)
-    ∙ put_there c.args.blocks.now.items c.args.at.block c.args.at.index c.args.entries.now c.index_mut-block.result.now c.requires.place
+    ∙ changed_there c.args.blocks.now.items c.args.at.block c.args.at.index c.args.at.index c.args.entries.now c.index_mut-block.result.now (subst (λ n. c.args.at.block < n) c.args.blocks.now.ok.0 c.requires.block)
 
 pub returns-clause-filled : goal.returns-clause-filled
 returns-clause-filled c =

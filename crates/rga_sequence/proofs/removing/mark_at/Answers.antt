@@ -6,8 +6,10 @@ use Rattle.rga_sequence.specs.Entries.{visible_count, mark_entry, AreApart}
 use Rattle.rga_sequence.specs.Blocks.{Blocks, flat, mark_at_index, AreBounds}
 use Rattle.rga_sequence.proofs.StandLaws.{index_there, marked_there}
 use Rattle.rga_sequence.proofs.CountLaws.{length_marked}
-use Rattle.rga_sequence.proofs.PutLaws.{filled_set, apart_marked}
-use Rattle.rga_sequence.proofs.BoundLaws.{bounds_marked}
+use Rattle.rga_pages.proofs.PartLaws.{filled_set}
+use Rattle.rga_sequence.proofs.PutLaws.{apart_marked}
+use Rattle.rga_sequence.proofs.BlockLaws.{from_marked}
+use Rattle.rga_sequence.proofs.BoundLaws.{bounds_set}
 use Rattle.rga_sequence.proofs.removing.mark_at.Goals as goal
 
 pub mark-requires : goal.mark-requires
@@ -42,7 +44,8 @@ returns-clause-groups c =
     c.mark.ensures ∙ ap (mark_at_index c.args.deleted c.args.at.index) (c.index_mut-block.ensures.value ∙ get_or_default bs b c.index_mut-block.result.now [] within) in
     record {
       bounds = subst (λ y. AreBounds c.args.groups.now.bounds.items (slice_set bs b y)) (sym now)
-          (bounds_marked c.args.deleted c.args.groups.now.bounds.items bs b c.args.at.index c.requires.groups.bounds);
+          (bounds_set c.args.groups.now.bounds.items bs b (mark_at_index c.args.deleted c.args.at.index (slice_index_or bs b [])) c.requires.groups.bounds
+          (λ k d w lo hi from. from_marked c.args.deleted (slice_index_or c.args.groups.now.bounds.items k d) (slice_index_or bs b []) c.args.at.index from));
       counts = c.recount.ensures bs c.mark.new.self c.requires.groups.counts
           (c.visible_len-before.ensures.count ∙ ap visible_count (c.index_mut-block.ensures.value ∙ get_or_default bs b c.index_mut-block.result.now [] within))
           c.visible_len.ensures.count;

@@ -1,4 +1,4 @@
-use Rattle.std.proofs.Common.{◌≡◌, ℕ, ◌<◌, length, List, [], sym, ap, ◌∙◌, subst, slice_index_or, arith}
+use Rattle.std.proofs.Common.{◌≡◌, ℕ, suc, ◌<◌, length, List, [], sym, ap, ◌∙◌, subst, slice_index_or, arith}
 use Rattle.std.proofs.lemmas.List.{get_or_default}
 use Rattle.std.specs.Prelude.{remove, slice_set}
 use Rattle.rga_sequence.specs.declared.entry.Entry.{Entry}
@@ -6,8 +6,10 @@ use Rattle.rga_sequence.specs.Entries.{visible_count, without_entry, AreApart}
 use Rattle.rga_sequence.specs.Blocks.{Blocks, flat, AreFilled, AreBounds, AreGroups}
 use Rattle.rga_sequence.proofs.StandLaws.{index_there, without_there}
 use Rattle.std.proofs.lemmas.List.Edits.{length-remove}
-use Rattle.rga_sequence.proofs.PutLaws.{block_gone, removed_there, filled_set, filled_remove, apart_without}
-use Rattle.rga_sequence.proofs.BoundLaws.{bounds_without}
+use Rattle.rga_pages.proofs.PartLaws.{part_gone, changed_there, filled_set, filled_remove}
+use Rattle.rga_sequence.proofs.PutLaws.{apart_without}
+use Rattle.rga_sequence.proofs.BlockLaws.{from_remove}
+use Rattle.rga_sequence.proofs.BoundLaws.{bounds_set}
 use Rattle.rga_sequence.proofs.GroupLaws.{take_remove}
 use Rattle.rga_sequence.proofs.removing.remove_at.Goals as goal
 
@@ -18,7 +20,7 @@ block_gone_is c =
     let one : length (slice_index_or bs c.args.at.block c.index.result.now) ≡ 1 = sym (ap length c.index.ensures) ∙ sym c.len.ensures.len ∙ c.if-len-eq1.true in
     let first : c.args.at.index < 1 = subst (λ n. c.args.at.index < n) one (index_there bs c.args.at.block c.args.at.index c.args.id c.index.result.now c.requires.stands) in
     ap flat c.remove.ensures.items
-    ∙ block_gone bs c.args.at.block c.args.at.index c.index.result.now (subst (λ n. c.args.at.block < n) c.args.blocks.now.ok.0 c.requires.block) one first
+    ∙ part_gone bs c.args.at.block c.args.at.index c.index.result.now (subst (λ n. c.args.at.block < n) c.args.blocks.now.ok.0 c.requires.block) one first
     ∙ without_there c.args.id bs c.args.at.block c.args.at.index c.requires.kept.apart c.requires.stands
 
 pub returns-then-len-eq1-clause-gone : goal.returns-then-len-eq1-clause-gone
@@ -37,7 +39,7 @@ gone_is : (c : goal.After-recount) → flat (slice_set c.args.blocks.now.items c
 gone_is c =
     let bs : Blocks = c.args.blocks.now.items in
     ap (λ y. flat (slice_set bs c.args.at.block y)) (c.remove-2.ensures ∙ ap (λ y. remove y c.args.at.index) c.index_mut-block.ensures.value)
-    ∙ removed_there bs c.args.at.block c.args.at.index c.index_mut-block.result.now (subst (λ n. c.args.at.block < n) c.args.blocks.now.ok.0 c.requires.block)
+    ∙ changed_there bs c.args.at.block c.args.at.index (suc c.args.at.index) [] c.index_mut-block.result.now (subst (λ n. c.args.at.block < n) c.args.blocks.now.ok.0 c.requires.block)
     ∙ without_there c.args.id bs c.args.at.block c.args.at.index c.requires.kept.apart c.requires.stands
 
 pub returns-clause-gone : goal.returns-clause-gone
@@ -72,7 +74,8 @@ returns-clause-groups c =
     c.remove-2.ensures ∙ ap (λ y. remove y c.args.at.index) (c.index_mut-block.ensures.value ∙ get_or_default bs b c.index_mut-block.result.now [] within) in
     record {
       bounds = subst (λ y. AreBounds c.args.groups.now.bounds.items (slice_set bs b y)) (sym now)
-          (bounds_without c.args.groups.now.bounds.items bs b c.args.at.index c.requires.groups.bounds);
+          (bounds_set c.args.groups.now.bounds.items bs b (remove (slice_index_or bs b []) c.args.at.index) c.requires.groups.bounds
+          (λ k d w lo hi from. from_remove (slice_index_or c.args.groups.now.bounds.items k d) (slice_index_or bs b []) c.args.at.index from));
       counts = c.recount.ensures bs c.remove-2.new.self c.requires.groups.counts
           (c.visible_len-before.ensures.count ∙ ap visible_count (c.index_mut-block.ensures.value ∙ get_or_default bs b c.index_mut-block.result.now [] within))
           c.visible_len.ensures.count;

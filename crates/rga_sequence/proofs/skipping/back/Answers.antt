@@ -1,5 +1,6 @@
 use Rattle.std.proofs.Common.{◌≡◌, ◌<◌, ◌-◌, length, slice_index_or, ap, ◌∙◌, subst, arith}
-use Rattle.rga_sequence.proofs.PlaceLaws.{place_at, back_before, back_behind}
+use Rattle.rga_pages.proofs.PartLaws.{place_at}
+use Rattle.rga_sequence.proofs.PlaceLaws.{back_before, back_behind}
 use Rattle.rga_sequence.proofs.skipping.back.Goals as goal
 
 count : (c : goal.Else-count-index) → c.len-index.result ≡ length (slice_index_or c.args.blocks.now.items (c.args.at.block - 1) c.index.result.now)

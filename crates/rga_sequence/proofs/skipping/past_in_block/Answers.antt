@@ -1,7 +1,8 @@
 use Rattle.std.proofs.Common.{◌≤◌, ◌+◌, length, drop, [], sym, ap, ◌∙◌, subst}
 use Rattle.std.proofs.lemmas.List.{get_or_default}
 use Rattle.rga_sequence.specs.Blocks.{larger_at_front}
-use Rattle.rga_sequence.proofs.PlaceLaws.{index_within, other_place, past, stops, block_within}
+use Rattle.rga_pages.proofs.PartLaws.{index_within}
+use Rattle.rga_sequence.proofs.PlaceLaws.{other_place, past, stops, block_within}
 use Rattle.rga_sequence.proofs.skipping.past_in_block.Goals as goal
 
 pub past_larger-requires : goal.past_larger-requires
