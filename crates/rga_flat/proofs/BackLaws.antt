@@ -23,7 +23,7 @@ use Rattle.rga_flat.proofs.UndoLaws.{going_insertion, going_deletion, going_end}
 -- ---- what is left is within what was there
 
 without_within : (op : Op) (c : Content) → IsWithin (without_operation op c) c
-without_within x0 c = grind (arith, finite_map.get-remove, ids_total, finite_set.contains-remove)
+without_within op c = grind (arith, finite_map.get-remove, ids_total, finite_set.contains-remove)
 
 pub gone_within : (ss : List Step) (c : Content) → IsWithin (without_noted ss c) c
 gone_within [] c = record { inserted = λ k x g. g; deleted = λ k h. h }

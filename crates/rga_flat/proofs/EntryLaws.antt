@@ -9,7 +9,7 @@ use Rattle.rga_sequence.specs.Entries.{ids, has, change_after_entry, put_entry_p
 use Rattle.rga_flat.specs.Placing.{taken_out}
 
 pub either : (b : Bool) {P : Type 0} → (b ≡ true → P) → (b ≡ false → P) → P
-either x0 f g = grind arith
+either b f g = grind arith
 
 -- either test finds the same
 pub has_ids : (k : Identifier) (es : List Entry) → has k es ≡ list_any (is k) (ids es)
@@ -67,7 +67,7 @@ taken_out-push (x ∷ ks) k es = ap (without_entry x) (taken_out-push ks k es)
 -- ---- results
 
 pub on_ok_both : {A E P Q R : Type 0} (r : Result A E) → (P → Q → R) → OnOk r P → OnOk r Q → OnOk r R
-on_ok_both x0 f p q = grind arith
+on_ok_both r f p q = grind arith
 
 pub on_ok : {A E P : Type 0} (r : Result A E) → P → OnOk r P
-on_ok x0 p = grind arith
+on_ok r p = grind arith

@@ -144,7 +144,7 @@ module _ (c : Content) (id : Identifier) where
   }
     where
       or_true : (b : Bool) → (b || true) ≡ true
-      or_true x0 = grind arith
+      or_true b = grind arith
 
   unmarked : (e : Entry) → IsEntryOf c e → is_id e.id id ≡ false → IsEntryOf less e
   unmarked e w f = record {

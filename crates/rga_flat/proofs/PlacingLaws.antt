@@ -476,7 +476,7 @@ module _ (c : Content) (sound : IsSound c) (id parent : Identifier) (ch : ℕ) (
 -- ---- results
 
 pub from_err : {A E P : Type 0} (r : Result A E) → is_err r ≡ true → OnErr r P → P
-from_err x0 h p = grind arith
+from_err r h p = grind arith
 
 pub from_ok : {A E P : Type 0} (r : Result A E) → is_err r ≡ false → OnOk r P → P
-from_ok x0 h p = grind arith
+from_ok r h p = grind arith

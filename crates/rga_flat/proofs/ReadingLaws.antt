@@ -49,17 +49,7 @@ module _ (c : Content) where
 
     pub place_shown : (id : Identifier) → is_root id ≡ false → place_in id es ≡ place c id
     place_shown id proper =
-        grind (
-          arith,
-          has_among id es,
-          is_kept c,
-          place_is c id proper,
-          places.up_to id (ids es),
-          length_ids (visible_entries (entries_up_to id es)),
-          kept_in (entries_up_to id es) (all_up_to id es all),
-          all_up_to id es all,
-          ids_up_to id es,
-        )
+        grind (arith, has_among id es, place_is c id proper, length_ids (visible_entries (entries_up_to id es)), kept_in (entries_up_to id es) (all_up_to id es all), ids_up_to id es)
 
     pub all_listed : length es + length (waiting c) ≡ finite_map.len c.inserted
     all_listed = ap (λ n. n + length (waiting c)) (sym (length_ids es) ∙ ap length listed) ∙ ordered_and_waiting c ∙ len-keys c

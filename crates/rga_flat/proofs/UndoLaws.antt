@@ -46,7 +46,7 @@ all_both P Q R f [] a b = tt
 all_both P Q R f (e ∷ es) a b = (f e a.0 b.0, all_both P Q R f es a.1 b.1)
 
 same_truth : (a b : Bool) → (a ≡ true → b ≡ true) → (b ≡ true → a ≡ true) → a ≡ b
-same_truth x0 b f g = grind arith
+same_truth a b f g = grind arith
 
 -- none is out at first, and then one more
 pub out_none : (es : List Entry) → es ≡ filter (λ e. not (list_any (is e.id) [])) es
@@ -99,33 +99,18 @@ module _ (top base c : Content) (es : List Entry) (w : Waiting) (done : Identifi
     own_child p = ap (λ (o : Option Element). option_map_or (λ x. is_id x.parent p) o false) held
 
     members : (p k : Identifier) → list_any (is k) (K' p) ≡ (list_any (is k) (K p) && not (is parent p && is_id k id))
-    members p k = grind (arith, placement.without id (K p), filtered)
-
-    and_true : (a b : Bool) → (a && b) ≡ true → (a ≡ true) × (b ≡ true)
-    and_true x0 b h = grind arith
+    members p k = grind (arith, filtered)
 
     old_left : (p : Identifier) → is_above base p ≡ false → (k : Identifier) → is_child base p k ≡ true → list_any (is k) (K' p) ≡ true
     old_left p low k h = grind (arith, same_id k id, is_swap k id, is_id-same k id, not_based p, members p k, going.based.old p low k h)
 
     now_left : (p : Identifier) → is_above base p ≡ false → (k : Identifier) → list_any (is k) (K' p) ≡ true → is_child (without_insertion id c) p k ≡ true
     now_left p low k h =
-        grind (
-          arith,
-          and_true (list_any (is k) (K p)) (not (is parent p && is_id k id)),
-          members p k,
-          going.based.now p low k,
-          own_child p,
-          same_id k id,
-          is_swap parent p,
-          is_id-same parent p,
-          is_id-same k id,
-          is_swap id k,
-          other_child p k,
-        )
+        grind (arith, members p k, going.based.now p low k, own_child p, same_id k id, is_swap parent p, is_id-same parent p, is_id-same k id, is_swap id k, other_child p k)
 
     pub going_insertion : IsGoingBack top base (without_insertion id c) (without_entry id es) w' done
     going_insertion = record {
-      listed = grind (arith, ids_without id es, placement.without id, filter_both, left_key);
+      listed = grind (arith, ids_without id es, filter_both, left_key);
       shown = all_filter (IsEntryOf (record { inserted = top.inserted; deleted = c.deleted })) (λ e. not (is_id e.id id)) es going.shown;
       based = record {
         within = within;

@@ -20,7 +20,7 @@ Children = Vec Identifier Global
 
 -- the list that is there, or else a new one, has the same
 pub found_or_new : (o : Option Children) (found new : Children) → found ≡ unwrap_or o new → new.items ≡ [] → found.items ≡ option_map_or (λ v. v.items) o []
-found_or_new x0 found new same empty = grind arith
+found_or_new o found new same empty = grind arith
 
 -- no list is empty
 pub under_none : (w : Waiting) (p : Identifier) → has_list w p ≡ false → under w p ≡ []
@@ -52,7 +52,7 @@ module _ (w : Waiting) (old new : BTreeSet Identifier) (id : Identifier) (change
   }
     where
       same_true : (b : Bool) → cond b true true ≡ true
-      same_true x0 = grind arith
+      same_true b = grind arith
 
   pub inserted_now : (c : Content) → finite_map.contains_key c.inserted id ≡ true → AreInserted c old new
   inserted_now c h p t = grind (arith, same_id id p)
