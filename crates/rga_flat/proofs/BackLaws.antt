@@ -1,14 +1,12 @@
 -- Operations that are removed again, the last first.
-use Rattle.std.proofs.Common.{◌≡◌, is_some, Bool, true, false, cond, not, ◌&&◌, List, [], ◌∷◌, refl, sym, ap, ◌∙◌, true≢false}
-use Rattle.std.specs.Prelude.{Option, Some, None}
+use Rattle.std.proofs.Common.{◌≡◌, Bool, true, false, List, [], ◌∷◌, sym, ◌∙◌, true≢false, arith}
 use Rattle.std.specs.FinMap as finite_map
 use Rattle.std.specs.FinSet as finite_set
 use Rattle.std.specs.BTreeSet.{BTreeSet, contains}
-use Rattle.std.proofs.lemmas.Option.{none-some}
 use Rattle.rga_ops.specs.Identifier.{Identifier, id_cmp}
-use Rattle.rga_ops.specs.Content.{Element, Content, IsWithin, Holds}
+use Rattle.rga_ops.specs.Content.{Content, IsWithin, Holds}
 use Rattle.rga_ops.specs.RootPath.{is_complete}
-use Rattle.rga_ops.proofs.IdentifierLaws.{ids_total, is}
+use Rattle.rga_ops.proofs.IdentifierLaws.{ids_total}
 use Rattle.rga_ops.proofs.ContentLaws.{within_chain}
 use Rattle.rga_ops.specs.declared.op.Op.{Op}
 use Rattle.rga_ops.specs.declared.op.Op.TheVariants.{Insert, Delete}
@@ -25,24 +23,12 @@ use Rattle.rga_flat.proofs.UndoLaws.{going_insertion, going_deletion, going_end}
 -- ---- what is left is within what was there
 
 without_within : (op : Op) (c : Content) → IsWithin (without_operation op c) c
-without_within (Insert id parent ch) c = record {
-  inserted = λ k x g. either (is k id)
-      (λ t. absurd (none-some _ (sym (ap (λ b. cond b None (finite_map.get c.inserted k)) t) ∙ sym (finite_map.get-remove ids_total c.inserted id k) ∙ g)))
-      (λ f. sym (ap (λ b. cond b None (finite_map.get c.inserted k)) f) ∙ sym (finite_map.get-remove ids_total c.inserted id k) ∙ g);
-  deleted = λ k h. h;
-}
-without_within (Delete id) c = record {
-  inserted = λ k x g. g;
-  deleted = λ k h. second (not (is k id)) (finite_set.contains c.deleted k) (sym (finite_set.contains-remove ids_total c.deleted id k) ∙ h);
-}
-  where
-    second : (a b : Bool) → (a && b) ≡ true → b ≡ true
-    second true b h = h
-    second false b h = absurd (true≢false (sym h))
+without_within op c = grind (arith, finite_map.get-remove, ids_total, finite_set.contains-remove)
 
 pub gone_within : (ss : List Step) (c : Content) → IsWithin (without_noted ss c) c
 gone_within [] c = record { inserted = λ k x g. g; deleted = λ k h. h }
-gone_within (s ∷ ss) c = within_chain (without_operation s.op.now (without_noted ss c)) (without_noted ss c) c (without_within s.op.now (without_noted ss c)) (gone_within ss c)
+gone_within (s ∷ ss) c =
+    grind (arith, within_chain (without_operation s.op.now (without_noted ss c)) (without_noted ss c) c (without_within s.op.now (without_noted ss c)) (gone_within ss c), without_within s.op.now (without_noted ss c), gone_within ss c)
 
 -- ---- an operation goes
 
@@ -55,32 +41,17 @@ going_undone (Delete id) top base c es w w' done going held within lists marks =
 
 module _ (top base : Content) (es : List Entry) (w : Waiting) (done : BTreeSet Identifier) (back : IsReturnable top base es w done) where
   free : (k : Identifier) → is_complete base k ≡ true → contains id_cmp done k ≡ false
-  free k h = either (contains id_cmp done k)
-      (λ t. absurd (true≢false (sym (back.listed k t) ∙ back.based.marks.complete k h)))
-      (λ f. f)
+  free k h = grind (arith, back.listed k, back.based.marks.complete k h)
 
   was_done : (k : Identifier) → contains id_cmp done k ≡ false → contains id_cmp back.settled k ≡ false
   was_done k h = either (contains id_cmp back.settled k) (λ t. absurd (true≢false (sym (back.more k t) ∙ h))) (λ f. f)
 
   settled : (k : Identifier) → is_complete top k ≡ true → finite_map.contains_key base.inserted k ≡ true → contains id_cmp done k ≡ false → is_complete base k ≡ true
-  settled k h there n = either (is_complete base k)
-      (λ t. t)
-      (λ f.
-      let it = found (finite_map.get base.inserted k) there in
-      let listed : has_list w k ≡ true = back.based.marks.waits k it.0 it.1 f in
-      absurd (true≢false (sym ((λ i. listed i && not (was_done k n i))) ∙ back.flat.marks.complete k h)))
-    where
-      found : (o : Option Element) → is_some o ≡ true → (x : Element) × (o ≡ Some x)
-      found None t = absurd (true≢false (sym t))
-      found (Some x) t = (x, refl)
+  settled k h there n = grind (arith, back.based.marks.waits k, was_done k n, back.flat.marks.complete k h)
 
   pub gone_there : (fs : List Entry) (v : Waiting) → IsGoingBack top base base fs v (contains id_cmp done) → IsFlat base fs (under v) (has_list v)
   gone_there fs v going = going_end top base fs v (contains id_cmp done) going back.based.within free settled
 
 -- what is inserted stays so
 pub inserted_later : (c d : Content) → IsWithin c d → (k : Identifier) → finite_map.contains_key c.inserted k ≡ true → finite_map.contains_key d.inserted k ≡ true
-inserted_later c d w k h =
-    elim (finite_map.get c.inserted k) as (λ o. finite_map.get c.inserted k ≡ o → is_some o ≡ true → finite_map.contains_key d.inserted k ≡ true) [
-      | None ↦ λ g t. absurd (true≢false (sym t))
-      | Some x ↦ λ g t. ap is_some (w.inserted k x g)
-    ] refl h
+inserted_later c d w k h = grind (arith, w.inserted k)

@@ -1,12 +1,12 @@
 -- Insertions that are taken at once: where they lead, and what is shown then.
 use Rattle.std.proofs.lemmas.Bool.Decides.{nat_tests}
-use Rattle.std.proofs.Common.{◌≡◌, ℕ, zero, suc, ◌<◌, ◌+◌, ◌-◌, nat_le, ◌||◌, true, false, List, [], ◌∷◌, ◌++◌, length, take, drop, slice_index_or, refl, sym, ap, ◌∙◌, subst, arith, append_assoc, inl, inr}
+use Rattle.std.proofs.Common.{◌≡◌, ℕ, ◌<◌, ◌+◌, ◌-◌, nat_le, ◌||◌, true, false, List, [], ◌∷◌, ◌++◌, length, take, drop, slice_index_or, refl, sym, ap, ◌∙◌, subst, arith, append_assoc}
 use Rattle.std.specs.Prelude.{Result, Some, Ok, Err, IfErr, not, ◌&&◌}
 use Rattle.std.specs.FinMap as finite_map
 use Rattle.std.specs.FinSet as finite_set
 use Rattle.std.specs.Ordering.{is_gt, ordering_reverse}
 use Rattle.std.specs.BTreeSet.{contains}
-use Rattle.std.proofs.lemmas.List.{take_more, take_rest, take-append-drop}
+use Rattle.std.proofs.lemmas.List.{drop-drop, take_more, take_rest, take-append-drop}
 use Rattle.rga_ops.specs.Identifier.{Identifier, id_cmp, is_root}
 use Rattle.rga_ops.specs.Content.{element, Content, IsSound, IsWithin, join, single, clock_of}
 use Rattle.rga_ops.specs.Answer.{answer, after_answer, taken, and_take, taken_one_by_one}
@@ -57,38 +57,14 @@ gathered_more limit base c d step ops before steps g answered joined clocked =
 
 pub gathered_next : (limit : ℕ) (base c d : Content) (step : Step) (item : Op) (ops : List Op) (i : ℕ) (before steps later : List Step) → later ≡ steps ++ step ∷ [] → IsGathered limit base c (take i ops) before steps → i < length ops → item ≡ slice_index_or ops i item → item ≡ step.op.now
     → answer limit c step.op.now ≡ Ok New → d ≡ join c (single step.op.now) → step.clock ≡ clock_of c → IsGathered limit base d (take (i + 1) ops) before later
-gathered_next limit base c d step item ops i before steps later noted g w is same answered joined clocked =
-    subst (λ ss. IsGathered limit base d (take (i + 1) ops) before ss) (sym noted)
-    (subst (λ xs. IsGathered limit base d xs before (steps ++ step ∷ [])) (sym (take_more ops i item w ∙ ap (λ x. take i ops ++ x ∷ []) (sym is ∙ same)))
-    (gathered_more limit base c d step (take i ops) before steps g answered joined clocked))
+gathered_next limit base c d step item ops i before steps later noted g w is same answered joined clocked = grind (arith, take_more ops i item w, gathered_more limit base c d step (take i ops) before steps g answered joined clocked)
 
 pub next_refused : (limit : ℕ) (base c : Content) (item : Op) (ops : List Op) (i : ℕ) (e : Refusal) → taken_one_by_one limit base (take i ops) ≡ Ok c → i < length ops → item ≡ slice_index_or ops i item → taken limit c item ≡ Err e → taken_one_by_one limit base ops ≡ Err e
-next_refused limit base c item ops i e first w is next =
-    ap (taken_one_by_one limit base) (sym (take-append-drop i ops) ∙ ap (λ xs. take i ops ++ xs) (from ops i item w is))
-    ∙ one_by_one-append limit base c (take i ops) (item ∷ drop (i + 1) ops) first
-    ∙ ap (λ r. and_take r (λ d. taken_one_by_one limit d (drop (i + 1) ops))) next
-
-drop_later : (i n : ℕ) (xs : List Op) → drop n (drop i xs) ≡ drop (i + n) xs
-drop_later zero n xs = ap (λ m. drop m xs) (none_more n)
-  where
-    none_more : (n : ℕ) → n ≡ 0 + n
-    none_more n = omega arith
-drop_later (suc i) n [] = drop_none n ∙ sym (drop_none (suc i + n))
-  where
-    drop_none : (n : ℕ) → drop {A = Op} n [] ≡ []
-    drop_none zero = refl
-    drop_none (suc n) = refl
-drop_later (suc i) n (x ∷ xs) = drop_later i n xs ∙ ap (λ m. drop m (x ∷ xs)) (one_more i n)
-  where
-    one_more : (i n : ℕ) → suc (i + n) ≡ suc i + n
-    one_more i n = omega arith
+next_refused limit base c item ops i e first w is next = grind (arith, take-append-drop i ops, from ops i item w is, one_by_one-append limit base c (take i ops) (item ∷ drop (i + 1) ops) first)
 
 -- what is left of a list leads on from where its first operations led
 pub list_later : (limit : ℕ) (c d : Content) (ops : List Op) (i n : ℕ) → taken_one_by_one limit c (take n (take (length ops - i) (drop i ops))) ≡ Ok d → taken_one_by_one limit d (drop (i + n) ops) ≡ taken_one_by_one limit c (drop i ops)
-list_later limit c d ops i n h =
-    ap (taken_one_by_one limit d) (sym (drop_later i n ops))
-    ∙ sym (one_by_one-append limit c d (take n (drop i ops)) (drop n (drop i ops)) (ap (λ xs. taken_one_by_one limit c (take n xs)) (sym (take_rest ops i)) ∙ h))
-    ∙ ap (taken_one_by_one limit c) (take-append-drop n (drop i ops))
+list_later limit c d ops i n h = grind (arith, drop-drop n i ops, one_by_one-append limit c d (take n (drop i ops)) (drop n (drop i ops)), take_rest ops i, take-append-drop n (drop i ops))
 
 -- the steps that were there lead where they led
 pub gathered_start : (limit : ℕ) (base c : Content) (ops : List Op) (before steps : List Step) → IsGathered limit base c ops before steps → without_noted steps c ≡ without_noted before base
@@ -110,8 +86,7 @@ follows_more id (x ∷ es) e s can proper up none = (can.0, can.1, can.2, follow
 
 chain_more : (id : Identifier) (es : List Entry) (e : Entry) (s : List Entry) → IsChain id es s → (is_root (last_entry_of id es) || has (last_entry_of id es) (put_chain id es s)) ≡ true
     → (0 < length es → is_root (last_entry_of id es) ≡ false) → is_gt (id_cmp e.id (last_entry_of id es)) ≡ true → has e.id (put_chain id es s) ≡ false → IsChain id (es ++ e ∷ []) s
-chain_more id [] e s chain there proper up none = (there, none, tt)
-chain_more id (x ∷ es) e s chain there proper up none = (chain.0, chain.1, follows_more x.id es e (put_entry id x s) chain.2 (proper (omega arith)) up none)
+chain_more id = grind (arith, follows_more)
 
 falls : (a b : ℕ) → nat_le a b ≡ false → b < a
 falls a b h = grind (arith, nat_tests)
@@ -121,19 +96,14 @@ larger_counter : (a b : Identifier) → b.counter < a.counter → is_gt (id_cmp 
 larger_counter a b h = ap is_gt (ids_total.antisymm a b ∙ ap ordering_reverse (lower_counter b a h))
 
 above_later : (c d : Content) → IsWithin c d → (p : Identifier) → is_above c p ≡ true → is_above d p ≡ true
-above_later c d w p h = elim (above_cases c p h) [
-  | inl root ↦ of_root d p root
-  | inr complete ↦ of_complete d p (complete_stays c d w p complete)
-]
+above_later c d w p h = grind (arith, above_cases c p h, of_root d p, of_complete d p, complete_stays c d w p)
 
 module _ (limit : ℕ) (c d : Content) (last : Identifier) (e : Entry) (sound : IsSound c) (sound_now : IsSound d) (answered : answer limit c (Insert e.id last e.ch) ≡ Ok New) (joined : d ≡ join c (single (Insert e.id last e.ch))) (above : is_above c last ≡ true) where
   new : IsNewInsertion limit c e.id last
   new = new_insertion limit c e.id last e.ch answered
 
   formed : (is_root e.id ≡ false) × (last.counter < e.id.counter)
-  formed =
-      let well : (is_root e.id ≡ false) × (nat_le e.id.counter last.counter ≡ false) = well_formed_insertion e.id last e.ch ((new-iff limit c (Insert e.id last e.ch)).0 answered).well_formed in
-      (well.0, falls e.id.counter last.counter well.1)
+  formed = grind (arith, well_formed_insertion e.id last e.ch ((new-iff limit c (Insert e.id last e.ch)).0 answered).well_formed, new-iff limit c (Insert e.id last e.ch), falls e.id.counter last.counter)
 
   pub own_proper : is_root e.id ≡ false
   own_proper = formed.0

@@ -1,17 +1,15 @@
 -- Entries that are put and taken out.
-use Rattle.std.proofs.Common.{◌≡◌, Bool, true, false, cond, not, ◌||◌, List, [], ◌∷◌, ◌++◌, refl, sym, ap, ◌∙◌, true≢false}
-use Rattle.std.specs.Prelude.{Result, Ok, Err, OnOk, IfOk}
+use Rattle.std.proofs.Common.{◌≡◌, Bool, true, false, cond, not, ◌||◌, List, [], ◌∷◌, ◌++◌, refl, sym, ap, ◌∙◌, true≢false, arith}
+use Rattle.std.specs.Prelude.{Result, OnOk}
 use Rattle.std.specs.List.{list_any, AllByRecursion}
-use Rattle.std.specs.Ordering.{is_gt}
-use Rattle.rga_ops.specs.Identifier.{Identifier, id_cmp, is_id, is_root}
+use Rattle.rga_ops.specs.Identifier.{Identifier, is_id}
 use Rattle.rga_ops.proofs.IdentifierLaws.{is, is_itself, is_id-same}
 use Rattle.rga_sequence.specs.declared.entry.Entry.{Entry}
 use Rattle.rga_sequence.specs.Entries.{ids, has, change_after_entry, put_entry_past_larger, put_entry, without_entry}
 use Rattle.rga_flat.specs.Placing.{taken_out}
 
 pub either : (b : Bool) {P : Type 0} → (b ≡ true → P) → (b ≡ false → P) → P
-either true f g = f refl
-either false f g = g refl
+either b f g = grind arith
 
 -- either test finds the same
 pub has_ids : (k : Identifier) (es : List Entry) → has k es ≡ list_any (is k) (ids es)
@@ -23,23 +21,14 @@ has_ids k (e ∷ es) = ap (λ b. b || has k es) (is_id-same e.id k) ∙ ap (λ b
 module _ (P : Entry → Type 0) where
   all_past : (e : Entry) (es : List Entry) → P e → AllByRecursion P es → AllByRecursion P (put_entry_past_larger e es)
   all_past e [] p h = (p, tt)
-  all_past e (x ∷ es) p h = elim (is_gt (id_cmp x.id e.id)) as (λ b. AllByRecursion P (cond b (x ∷ put_entry_past_larger e es) (e ∷ x ∷ es))) [
-    | true ↦ (h.0, all_past e es p h.1)
-    | false ↦ (p, h)
-  ]
+  all_past e (x ∷ es) p h = grind (arith, all_past e es p h.1)
 
   all_after : (parent : Identifier) (e : Entry) (es : List Entry) → P e → AllByRecursion P es → AllByRecursion P (change_after_entry parent (put_entry_past_larger e) es)
   all_after parent e [] p h = tt
-  all_after parent e (x ∷ es) p h = elim (is_id x.id parent) as (λ b. AllByRecursion P (cond b (x ∷ put_entry_past_larger e es) (x ∷ change_after_entry parent (put_entry_past_larger e) es))) [
-    | true ↦ (h.0, all_past e es p h.1)
-    | false ↦ (h.0, all_after parent e es p h.1)
-  ]
+  all_after parent e (x ∷ es) p h = grind (arith, all_past e es p h.1, all_after parent e es p h.1)
 
   pub all_put : (parent : Identifier) (e : Entry) (es : List Entry) → P e → AllByRecursion P es → AllByRecursion P (put_entry parent e es)
-  all_put parent e es p h = elim (is_root parent) as (λ b. AllByRecursion P (cond b (put_entry_past_larger e es) (change_after_entry parent (put_entry_past_larger e) es))) [
-    | true ↦ all_past e es p h
-    | false ↦ all_after parent e es p h
-  ]
+  all_put parent e es p h = grind (arith, all_past e es p h, all_after parent e es p h)
 
 -- ---- what was put in goes, and the entries are as before
 
@@ -62,20 +51,14 @@ module _ (parent id : Identifier) (e : Entry) (it : e.id ≡ id) where
 
   past : (es : List Entry) → has id es ≡ false → without_entry id (put_entry_past_larger e es) ≡ es
   past [] h = skip_it []
-  past (y ∷ es) h = either (is_gt (id_cmp y.id e.id))
-      (λ t. ap (λ b. without_entry id (cond b (y ∷ put_entry_past_larger e es) (e ∷ y ∷ es))) t ∙ keep y (put_entry_past_larger e es) (first y es h) ∙ ap (λ r. y ∷ r) (past es (rest y es h)))
-      (λ f. ap (λ b. without_entry id (cond b (y ∷ put_entry_past_larger e es) (e ∷ y ∷ es))) f ∙ skip_it (y ∷ es) ∙ same (y ∷ es) h)
+  past (y ∷ es) h = grind (arith, keep y (put_entry_past_larger e es) (first y es h), first y es h, past es (rest y es h), rest y es h, skip_it (y ∷ es), same (y ∷ es) h)
 
   behind : (es : List Entry) → has id es ≡ false → without_entry id (change_after_entry parent (put_entry_past_larger e) es) ≡ es
   behind [] h = refl
-  behind (y ∷ es) h = either (is_id y.id parent)
-      (λ t. ap (λ b. without_entry id (cond b (y ∷ put_entry_past_larger e es) (y ∷ change_after_entry parent (put_entry_past_larger e) es))) t ∙ keep y (put_entry_past_larger e es) (first y es h) ∙ ap (λ r. y ∷ r) (past es (rest y es h)))
-      (λ f. ap (λ b. without_entry id (cond b (y ∷ put_entry_past_larger e es) (y ∷ change_after_entry parent (put_entry_past_larger e) es))) f ∙ keep y (change_after_entry parent (put_entry_past_larger e) es) (first y es h) ∙ ap (λ r. y ∷ r) (behind es (rest y es h)))
+  behind (y ∷ es) h = grind (arith, keep y (put_entry_past_larger e es) (first y es h), first y es h, past es (rest y es h), rest y es h, keep y (change_after_entry parent (put_entry_past_larger e) es) (first y es h), behind es (rest y es h))
 
   pub put_gone : (es : List Entry) → has id es ≡ false → without_entry id (put_entry parent e es) ≡ es
-  put_gone es h = either (is_root parent)
-      (λ t. ap (λ b. without_entry id (cond b (put_entry_past_larger e es) (change_after_entry parent (put_entry_past_larger e) es))) t ∙ past es h)
-      (λ f. ap (λ b. without_entry id (cond b (put_entry_past_larger e es) (change_after_entry parent (put_entry_past_larger e) es))) f ∙ behind es h)
+  put_gone es h = grind (arith, past es h, behind es h)
 
 pub taken_out-push : (ks : List Identifier) (k : Identifier) (es : List Entry) → taken_out (ks ++ k ∷ []) es ≡ taken_out ks (without_entry k es)
 taken_out-push [] k es = refl
@@ -84,13 +67,7 @@ taken_out-push (x ∷ ks) k es = ap (without_entry x) (taken_out-push ks k es)
 -- ---- results
 
 pub on_ok_both : {A E P Q R : Type 0} (r : Result A E) → (P → Q → R) → OnOk r P → OnOk r Q → OnOk r R
-on_ok_both (Ok x) f p q = f p q
-on_ok_both (Err e) f p q = tt
+on_ok_both r f p q = grind arith
 
 pub on_ok : {A E P : Type 0} (r : Result A E) → P → OnOk r P
-on_ok (Ok x) p = p
-on_ok (Err e) p = tt
-
-pub if_ok_map : {A E : Type 0} (P Q : A → Type 0) (r : Result A E) → ((x : A) → P x → Q x) → IfOk r P → IfOk r Q
-if_ok_map P Q (Ok x) f p = f x p
-if_ok_map P Q (Err e) f p = tt
+on_ok r p = grind arith

@@ -1,15 +1,14 @@
 -- What a flat store keeps, once an element waits or an element is deleted.
-use Rattle.std.proofs.Common.{◌≡◌, is_some, Bool, true, false, ◌&&◌, ◌||◌, ℕ, List, [], ◌∷◌, ◌++◌, refl, sym, ap, ◌∙◌, subst, true≢false, cond, inl, inr}
+use Rattle.std.proofs.Common.{◌≡◌, Bool, true, false, ◌&&◌, ◌||◌, ℕ, List, [], ◌∷◌, ◌++◌, refl, sym, ap, ◌∙◌, subst, true≢false, cond, arith}
 use Rattle.std.specs.Prelude.{Option, Some, None}
 use Rattle.std.specs.Option.{option_map_or}
 use Rattle.std.specs.List.{list_any, AllByRecursion, IsDistinct}
 use Rattle.std.specs.FinMap as finite_map
 use Rattle.std.specs.FinSet as finite_set
-use Rattle.std.proofs.Math.Bool.{or-false, and-true, and-false}
-use Rattle.std.proofs.lemmas.Bool.{or_cases}
+use Rattle.std.proofs.Math.Bool.{or-false}
 use Rattle.std.proofs.lemmas.Option.{none-some}
 use Rattle.std.proofs.lemmas.List.Folds.{list_any-append}
-use Rattle.rga_ops.specs.Identifier.{Identifier, id_cmp, is_id, is_root}
+use Rattle.rga_ops.specs.Identifier.{Identifier, id_cmp, is_id}
 use Rattle.rga_ops.specs.Content.{Element, element, Content, nothing, IsSound, IsWithin, join, single}
 use Rattle.rga_ops.specs.RootPath.{is_complete}
 use Rattle.rga_ops.specs.Order.{order}
@@ -33,7 +32,10 @@ use Rattle.rga_flat.specs.Flat.{is_above, IsEntryOf, AreMarked, IsFlat}
 use Rattle.rga_flat.specs.Placing.{IsPlacing}
 use Rattle.rga_flat.specs.Based.{IsBased}
 use Rattle.rga_flat.proofs.EntryLaws.{either}
-use Rattle.rga_flat.proofs.PlacingLaws.{distinct_both, of_root, of_complete, above_cases, low_waits, as_complete, order_stays, has_listed, place_start}
+use Rattle.std.proofs.lemmas.Map.Keys.{IsDistinct-push}
+use Rattle.std.specs.Cmp.{eq_by_cmp_equiv}
+use Rattle.rga_store.proofs.WithoutLaws.{left_inserted}
+use Rattle.rga_flat.proofs.PlacingLaws.{of_root, of_complete, above_cases, low_waits, as_complete, order_stays, has_listed, place_start}
 
 -- ---- nothing
 
@@ -68,23 +70,7 @@ flat_nothing es K N empty lists marks = record {
 -- ---- an element that waits
 
 child_now : (c : Content) (id parent : Identifier) (ch : ℕ) (p k : Identifier) → finite_map.get c.inserted id ≡ None → is_child (join c (single (Insert id parent ch))) p k ≡ (is_child c p k || (is_id parent p && is_id id k))
-child_now c id parent ch p k none =
-    ap (λ (o : Option Element). option_map_or (λ x. is_id x.parent p) o false) (get-insertion c id parent ch k none)
-    ∙ ap (λ b. option_map_or (λ x. is_id x.parent p) (cond b (Some (element parent ch)) (finite_map.get c.inserted k)) false) (sym (is_id-same id k))
-    ∙ elim (is_id id k) as (λ b. is_id id k ≡ b → option_map_or (λ x. is_id x.parent p) (cond b (Some (element parent ch)) (finite_map.get c.inserted k)) false ≡ (is_child c p k || (is_id parent p && b))) [
-      | true ↦ λ t. sym (ap (λ (o : Option Element). option_map_or (λ x. is_id x.parent p) o false || (is_id parent p && true)) (ap (finite_map.get c.inserted) (sym (is_id-is id k t)) ∙ none) ∙ and-true (is_id parent p))
-      | false ↦ λ t. sym (ap (λ b. is_child c p k || b) (and-false (is_id parent p)) ∙ or-false (is_child c p k))
-    ] refl
-
-others : (k : Identifier) (xs : List Identifier) → list_any (is k) xs ≡ false → AllByRecursion (λ x. AllByRecursion (λ y. is x y ≡ false) (k ∷ [])) xs
-others k [] h = tt
-others k (x ∷ xs) h =
-    let differs : is k x ≡ false = either (is k x) (λ t. absurd (true≢false (sym (ap (λ b. b || list_any (is k) xs) t) ∙ h))) (λ f. f) in
-    ((is_swap x k ∙ differs, tt), others k xs (sym (ap (λ b. b || list_any (is k) xs) differs) ∙ h))
-
-distinct_push : (k : Identifier) (xs : List Identifier) → IsDistinct is xs → list_any (is k) xs ≡ false → IsDistinct is (xs ++ k ∷ [])
-unfolding IsDistinct
-distinct_push k xs a h = distinct_both xs (k ∷ []) a (tt, tt) (others k xs h)
+child_now c id parent ch p k none = grind (arith, get-insertion c id parent ch k none, none, is_id-same id k, is_id-is id k)
 
 -- which lists there are now
 abbrev pub StaysListed : (Identifier → Bool) → (Identifier → Bool) → Identifier → Identifier → Type 0
@@ -92,35 +78,25 @@ StaysListed N N' id parent = ((k : Identifier) → N k ≡ true → N' k ≡ tru
 
 module _ (c : Content) (id parent : Identifier) (absent : finite_map.get c.inserted id ≡ None) (low : is_above c parent ≡ false) (es : List Entry) (K K' : Identifier → List Identifier) (N N' : Identifier → Bool) (flat : IsFlat c es K N) (lists : StaysListed N N' id parent) where
   other_complete : (k : Identifier) → is_complete c k ≡ true → N' k ≡ false
-  other_complete k h =
-      lists.1 k
-      (either (is id k) (λ t. absurd (none-some _ (sym absent ∙ ap (finite_map.get c.inserted) (same_id id k t) ∙ (inserted_if_complete c k h).1))) (λ f. f))
-      (either (is parent k) (λ t. absurd (true≢false (sym h ∙ ap (is_complete c) (sym (same_id parent k t)) ∙ low_waits c parent low))) (λ f. f))
-      ∙ flat.marks.complete k h
+  other_complete k h = grind (arith, lists.1 k, same_id id k, inserted_if_complete c k h, same_id parent k, low_waits c parent low, flat.marks.complete k h)
 
   -- where it came to nothing
   pub flat_same : ((p : Identifier) → K' p ≡ K p) → IsFlat c es K' N'
-  flat_same same = record {
-    listed = flat.listed;
-    shown = flat.shown;
-    children = record {
-      exact = λ p h k. ap (list_any (is k)) (same p) ∙ flat.children.exact p h k;
-      once = λ p h. subst (λ ks. IsDistinct is ks) (sym (same p)) (flat.children.once p h);
-    };
-    marks = record { waits = λ k x g h. lists.0 k (flat.marks.waits k x g h); complete = other_complete };
-  }
+  flat_same same =
+      let alike : K' ≡ K = λ i p. same p i in
+      rw alike (record {
+        listed = flat.listed;
+        shown = flat.shown;
+        children = flat.children;
+        marks = record { waits = λ k x g h. lists.0 k (flat.marks.waits k x g h); complete = other_complete };
+      })
 
   module _ (sound : IsSound c) (ch : ℕ) (own : N' id ≡ true) (pushed : (p : Identifier) → K' p ≡ cond (is parent p) (K p ++ id ∷ []) (K p)) where
     abbrev d : Content
     d = join c (single (Insert id parent ch))
 
     low_now : (p : Identifier) → is_above d p ≡ false → is_above c p ≡ false
-    low_now p h = either (is_above c p)
-        (λ t. absurd (true≢false (sym (elim (above_cases c p t) [
-          | inl r ↦ of_root d p r
-          | inr k ↦ of_complete d p (complete_stays c d (within_join c (single (Insert id parent ch))) p k)
-        ]) ∙ h)))
-        (λ f. f)
+    low_now p h = grind (arith, above_cases c p, of_root d p, of_complete d p, complete_stays c d (within_join c (single (Insert id parent ch))) p, within_join c (single (Insert id parent ch)))
 
     waited : (k : Identifier) → is_complete d k ≡ false → is_complete c k ≡ false
     waited k h = either (is_complete c k) (λ t. absurd (true≢false (sym (complete_stays c d (within_join c (single (Insert id parent ch))) k t) ∙ h))) (λ f. f)
@@ -134,21 +110,10 @@ module _ (c : Content) (id parent : Identifier) (absent : finite_map.get c.inser
     }
 
     exact_now : (p : Identifier) → is_above c p ≡ false → (k : Identifier) → list_any (is k) (K' p) ≡ is_child d p k
-    exact_now p h k =
-        ap (list_any (is k)) (pushed p)
-        ∙ elim (is parent p) as (λ b. is parent p ≡ b → list_any (is k) (cond b (K p ++ id ∷ []) (K p)) ≡ (is_child c p k || (b && is_id id k))) [
-          | true ↦ λ t. list_any-append (is k) (K p) (id ∷ []) ∙ (λ i. flat.children.exact p h k i || (or-false (is k id) ∙ sym (is_id-same id k)) i)
-          | false ↦ λ f. flat.children.exact p h k ∙ sym (or-false (is_child c p k))
-        ] refl
-        ∙ ap (λ b. is_child c p k || (b && is_id id k)) (is_swap parent p ∙ sym (is_id-same parent p))
-        ∙ sym (child_now c id parent ch p k absent)
+    exact_now p h k = grind (arith, list_any-append (is k) (K p) (id ∷ []), flat.children.exact p h k, is_id-same id k, is_swap parent p, is_id-same parent p, child_now c id parent ch p k absent)
 
     once_now : (p : Identifier) → is_above c p ≡ false → IsDistinct is (K' p)
-    once_now p h = subst (λ ks. IsDistinct is ks) (sym (pushed p))
-        (elim (is parent p) as (λ b. IsDistinct is (cond b (K p ++ id ∷ []) (K p))) [
-          | true ↦ distinct_push id (K p) (flat.children.once p h) (flat.children.exact p h id ∙ ap (λ (o : Option Element). option_map_or (λ x. is_id x.parent p) o false) absent)
-          | false ↦ flat.children.once p h
-        ])
+    once_now p h = grind (arith, IsDistinct-push (eq_by_cmp_equiv ids_total) (K p) id (flat.children.once p h), ids_total, flat.children.once p h, flat.children.exact p h id)
 
     -- where it waits
     pub flat_waits : IsFlat d es K' N'
@@ -170,15 +135,6 @@ module _ (c : Content) (id : Identifier) where
   abbrev pub less : Content
   less = join c (single (Delete id))
 
-  as_complete_now : (k : Identifier) → is_complete less k ≡ is_complete c k
-  as_complete_now k = ap (λ m. is_complete (record { inserted = m; deleted = c.deleted }) k) (inserted-deletion c id)
-
-  as_above : (k : Identifier) → is_above less k ≡ is_above c k
-  as_above k = ap (λ b. is_root k || b) (as_complete_now k)
-
-  same_child : (p k : Identifier) → is_child c p k ≡ is_child less p k
-  same_child p k = ap (λ (o : Option Element). option_map_or (λ x. is_id x.parent p) o false) (sym (get-deletion c id k))
-
   marked : (e : Entry) → IsEntryOf c e → is_id e.id id ≡ true → IsEntryOf less (as_marked true e)
   marked e w t = record {
     element = w.element;
@@ -188,8 +144,7 @@ module _ (c : Content) (id : Identifier) where
   }
     where
       or_true : (b : Bool) → (b || true) ≡ true
-      or_true true = refl
-      or_true false = refl
+      or_true b = grind arith
 
   unmarked : (e : Entry) → IsEntryOf c e → is_id e.id id ≡ false → IsEntryOf less e
   unmarked e w f = record {
@@ -201,33 +156,19 @@ module _ (c : Content) (id : Identifier) where
 
   shown_deleted : (es : List Entry) → AllByRecursion (IsEntryOf c) es → AllByRecursion (IsEntryOf less) (mark_entry true id es)
   shown_deleted [] h = tt
-  shown_deleted (e ∷ es) h = (
-    elim (is_id e.id id) as (λ b. is_id e.id id ≡ b → IsEntryOf less (cond b (as_marked true e) e)) [
-      | true ↦ λ t. marked e h.0 t
-      | false ↦ λ f. unmarked e h.0 f
-    ] refl,
-    shown_deleted es h.1,
-  )
+  shown_deleted (e ∷ es) h = grind (arith, marked e h.0, unmarked e h.0, shown_deleted es h.1)
 
   shown_still : (es : List Entry) → AllByRecursion (IsEntryOf c) es → has id es ≡ false → AllByRecursion (IsEntryOf less) es
   shown_still [] h none = tt
-  shown_still (e ∷ es) h none =
-      let differs : is_id e.id id ≡ false = either (is_id e.id id) (λ t. absurd (true≢false (sym (ap (λ b. b || has id es) t) ∙ none))) (λ f. f) in
-      (unmarked e h.0 differs, shown_still es h.1 (sym (ap (λ b. b || has id es) differs) ∙ none))
+  shown_still (e ∷ es) h none = grind (arith, none, unmarked e h.0, shown_still es h.1)
 
   module _ (es : List Entry) (K : Identifier → List Identifier) (N : Identifier → Bool) (flat : IsFlat c es K N) where
     changed : (fs : List Entry) → ids fs ≡ ids es → AllByRecursion (IsEntryOf less) fs → IsFlat less fs K N
     changed fs same shown = record {
       listed = same ∙ flat.listed ∙ sym (order-deletion c id);
       shown = shown;
-      children = record {
-        exact = λ p h k. flat.children.exact p (sym (as_above p) ∙ h) k ∙ same_child p k;
-        once = λ p h. flat.children.once p (sym (as_above p) ∙ h);
-      };
-      marks = record {
-        waits = λ k x g h. flat.marks.waits k x (sym (get-deletion c id k) ∙ g) (sym (as_complete_now k) ∙ h);
-        complete = λ k h. flat.marks.complete k (sym (as_complete_now k) ∙ h);
-      };
+      children = record { exact = rw (inserted-deletion c id) flat.children.exact; once = rw (inserted-deletion c id) flat.children.once };
+      marks = record { waits = rw (inserted-deletion c id) flat.marks.waits; complete = rw (inserted-deletion c id) flat.marks.complete };
     }
 
     -- the element's entry is deleted
@@ -240,21 +181,11 @@ module _ (c : Content) (id : Identifier) where
 
 -- ---- an element that is held, and what there was before it
 
-left_inserted : (c : Content) (id q : Identifier) → finite_map.get (without_insertion id c).inserted q ≡ cond (is q id) None (finite_map.get c.inserted q)
-left_inserted c id q = finite_map.get-remove ids_total c.inserted id q
-
 uninserted : (c : Content) (id : Identifier) → finite_map.get (without_insertion id c).inserted id ≡ None
 uninserted c id = left_inserted c id id ∙ ap (λ b. cond b None (finite_map.get c.inserted id)) (is_itself id)
 
 insertion_again : (c : Content) (id parent : Identifier) (ch : ℕ) → finite_map.get c.inserted id ≡ Some (element parent ch) → join (without_insertion id c) (single (Insert id parent ch)) ≡ c
-insertion_again c id parent ch g = same_content _ _
-    (λ q. get-insertion (without_insertion id c) id parent ch q (uninserted c id)
-    ∙ ap (cond (is q id) (Some (element parent ch))) (left_inserted c id q)
-    ∙ elim (is q id) as (λ b. is q id ≡ b → cond b (Some (element parent ch)) (cond b None (finite_map.get c.inserted q)) ≡ finite_map.get c.inserted q) [
-      | true ↦ λ t. sym (ap (finite_map.get c.inserted) (same_id q id t) ∙ g)
-      | false ↦ λ t. refl
-    ] refl)
-    (λ q. deleted_then (without_insertion id c) id parent ch q)
+insertion_again c id parent ch g = grind (arith, same_content, get-insertion (without_insertion id c) id parent ch, uninserted c id, left_inserted c id, same_id, deleted_then (without_insertion id c) id parent ch)
 
 module _ (d : Content) (sound : IsSound d) (id parent : Identifier) (ch : ℕ) (held : finite_map.get d.inserted id ≡ Some (element parent ch)) (es : List Entry) (K : Identifier → List Identifier) (N : Identifier → Bool) (flat : IsFlat (without_insertion id d) es K N) where
   abbrev before : Content
@@ -277,19 +208,13 @@ module _ (d : Content) (sound : IsSound d) (id parent : Identifier) (ch : ℕ) (
     pub stays_before : ((p : Identifier) → K' p ≡ K p) → IsFlat before es K' N'
     stays_before same = flat_same before id parent (uninserted d id) low es K K' N N' flat lists same
 
--- ---- which are complete
-
 -- ---- what it was based on
 
 abbrev child_at : Option Element → Identifier → Bool
 child_at o p = option_map_or (λ x. is_id x.parent p) o false
 
 child_later : (c d : Content) → IsWithin c d → (p k : Identifier) → is_child c p k ≡ true → is_child d p k ≡ true
-child_later c d w p k h =
-    elim (finite_map.get c.inserted k) as (λ o. finite_map.get c.inserted k ≡ o → child_at o p ≡ true → child_at (finite_map.get d.inserted k) p ≡ true) [
-      | None ↦ λ g t. absurd (true≢false (sym t))
-      | Some x ↦ λ g t. ap (λ o. child_at o p) (w.inserted k x g) ∙ t
-    ] refl h
+child_later c d w p k h = grind (arith, w.inserted k)
 
 -- a content based on itself
 pub based_self : (c : Content) (es : List Entry) (K : Identifier → List Identifier) (N : Identifier → Bool) → IsFlat c es K N → IsBased c c K N
@@ -313,10 +238,7 @@ based_more base c d K E w b = record {
 
 module _ (base c : Content) (id parent : Identifier) (absent : finite_map.get c.inserted id ≡ None) (low : is_above c parent ≡ false) (K K' : Identifier → List Identifier) (E E' : Identifier → Bool) (lists : StaysListed E E' id parent) (b : IsBased base c K E) where
   base_absent : finite_map.get base.inserted id ≡ None
-  base_absent = elim (finite_map.get base.inserted id) as (λ o. finite_map.get base.inserted id ≡ o → o ≡ None) [
-    | None ↦ λ g. refl
-    | Some x ↦ λ g. absurd (none-some _ (sym absent ∙ b.within.inserted id x g))
-  ] refl
+  base_absent = grind (arith, b.within.inserted id)
 
   marks_now : AreMarked base E'
   marks_now = record {
@@ -329,13 +251,7 @@ module _ (base c : Content) (id parent : Identifier) (absent : finite_map.get c.
   }
 
   pub based_same : ((p : Identifier) → K' p ≡ K p) → IsBased base c K' E'
-  based_same same = record {
-    within = b.within;
-    old = λ p w k h. ap (list_any (is k)) (same p) ∙ b.old p w k h;
-    now = λ p w k h. b.now p w k (sym (ap (list_any (is k)) (same p)) ∙ h);
-    once = λ p w. subst (λ ks. IsDistinct is ks) (sym (same p)) (b.once p w);
-    marks = marks_now;
-  }
+  based_same same = grind (arith, marks_now)
 
   module _ (ch : ℕ) (pushed : (p : Identifier) → K' p ≡ cond (is parent p) (K p ++ id ∷ []) (K p)) where
     abbrev grown : Content
@@ -345,41 +261,20 @@ module _ (base c : Content) (id parent : Identifier) (absent : finite_map.get c.
     in_grown = within_join c (single (Insert id parent ch))
 
     own_child : is_child grown parent id ≡ true
-    own_child = child_now c id parent ch parent id absent ∙ ap (λ d. is_child c parent id || (d && is_id id id)) (is_id-itself parent) ∙ ap (λ d. is_child c parent id || d) (is_id-itself id) ∙ or_true (is_child c parent id)
-      where
-        or_true : (b : Bool) → (b || true) ≡ true
-        or_true true = refl
-        or_true false = refl
+    own_child = grind (arith, child_now c id parent ch parent id absent, is_id-itself parent, is_id-itself id)
 
     not_yet : (p : Identifier) → is_above base p ≡ false → list_any (is id) (K p) ≡ false
-    not_yet p w = either (list_any (is id) (K p))
-        (λ t. absurd (true≢false (sym (b.now p w id t) ∙ ap (λ o. child_at o p) absent)))
-        (λ f. f)
+    not_yet p w = grind (arith, b.now p w id)
 
     member_now : (p k : Identifier) → is_above base p ≡ false → list_any (is k) (cond (is parent p) (K p ++ id ∷ []) (K p)) ≡ true → is_child grown p k ≡ true
-    member_now p k w h =
-        elim (is parent p) as (λ t. is parent p ≡ t → list_any (is k) (cond t (K p ++ id ∷ []) (K p)) ≡ true → is_child grown p k ≡ true) [
-          | true ↦ λ e m. elim (or_cases (list_any (is k) (K p)) (is k id || false) (sym (list_any-append (is k) (K p) (id ∷ [])) ∙ m)) [
-            | inl before ↦ child_later c grown in_grown p k (b.now p w k before)
-            | inr here ↦
-                let own : k ≡ id = same_id k id (sym (or-false (is k id)) ∙ here) in
-                ap (is_child grown p) own ∙ ap (λ q. is_child grown q id) (sym (same_id parent p e)) ∙ own_child
-          ]
-          | false ↦ λ e m. child_later c grown in_grown p k (b.now p w k m)
-        ] refl h
+    member_now p k w h = grind (arith, list_any-append (is k) (K p) (id ∷ []), child_later c grown in_grown p k, in_grown, b.now p w k, same_id k id, same_id parent p, own_child)
 
     pub based_waits : IsBased base grown K' E'
     based_waits = record {
       within = within_chain base c grown b.within in_grown;
-      old = λ p w k h. ap (list_any (is k)) (pushed p) ∙ elim (is parent p) as (λ t. list_any (is k) (cond t (K p ++ id ∷ []) (K p)) ≡ true) [
-        | true ↦ list_any-append (is k) (K p) (id ∷ []) ∙ ap (λ d. d || (is k id || false)) (b.old p w k h)
-        | false ↦ b.old p w k h
-      ];
+      old = λ p w k h. grind (arith, list_any-append (is k) (K p) (id ∷ []), b.old p w k h);
       now = λ p w k h. member_now p k w (sym (ap (list_any (is k)) (pushed p)) ∙ h);
-      once = λ p w. subst (λ ks. IsDistinct is ks) (sym (pushed p)) (elim (is parent p) as (λ t. IsDistinct is (cond t (K p ++ id ∷ []) (K p))) [
-        | true ↦ distinct_push id (K p) (b.once p w) (not_yet p w)
-        | false ↦ b.once p w
-      ]);
+      once = λ p w. grind (arith, IsDistinct-push (eq_by_cmp_equiv ids_total) (K p) id (b.once p w) (not_yet p w), ids_total, b.once p w, not_yet p w);
       marks = marks_now;
     }
 
@@ -398,18 +293,10 @@ module _ (d : Content) (id parent : Identifier) (ch : ℕ) (held : finite_map.ge
 -- ---- the lists that are done with go
 
 pub marked_same : (c : Content) (N N' : Identifier → Bool) → ((p : Identifier) → N' p ≡ N p) → AreMarked c N → AreMarked c N'
-marked_same c N N' same marks = record {
-  waits = λ k x g h. same k ∙ marks.waits k x g h;
-  complete = λ k h. same k ∙ marks.complete k h;
-}
+marked_same c N N' same marks = let alike : N' ≡ N = λ i p. same p i in rw alike marks
 
 pub flat_marked : (c : Content) (es : List Entry) (K : Identifier → List Identifier) (N N' : Identifier → Bool) → ((p : Identifier) → N' p ≡ N p) → IsFlat c es K N → IsFlat c es K N'
-flat_marked c es K N N' same flat = record {
-  listed = flat.listed;
-  shown = flat.shown;
-  children = flat.children;
-  marks = marked_same c N N' same flat.marks;
-}
+flat_marked c es K N N' same flat = let alike : N' ≡ N = λ i p. same p i in rw alike flat
 
 -- done is true of what is inserted, and of nothing that waits
 pub flat_cleared : (c : Content) (es : List Entry) (K K' : Identifier → List Identifier) (N N' done : Identifier → Bool) → IsFlat c es K N
@@ -426,14 +313,7 @@ flat_cleared c es K K' N N' done flat inserted gone same marks = record {
 }
   where
     there : (p : Identifier) → finite_map.contains_key c.inserted p ≡ true → (x : Element) × (finite_map.get c.inserted p ≡ Some x)
-    there p h = elim (finite_map.get c.inserted p) as (λ o. finite_map.get c.inserted p ≡ o → is_some o ≡ true → (x : Element) × (finite_map.get c.inserted p ≡ Some x)) [
-      | None ↦ λ g t. absurd (true≢false (sym t))
-      | Some x ↦ λ g t. (x, g)
-    ] refl h
+    there p h = grind arith
 
     kept : (p : Identifier) → is_above c p ≡ false → K' p ≡ K p
-    kept p low = same p (either (done p)
-        (λ t.
-        let it = there p (inserted p t) in
-        absurd (true≢false (sym (flat.marks.waits p it.0 it.1 (low_waits c p low)) ∙ gone p t)))
-        (λ f. f))
+    kept p low = grind (arith, there p, flat.marks.waits p, low_waits c p low)

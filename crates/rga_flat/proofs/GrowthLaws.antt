@@ -1,14 +1,12 @@
 -- The order of a content that grows, and of contents in which nothing waits.
-use Rattle.std.proofs.Common.{◌≡◌, ℕ, Bool, true, cond, List, [], ◌∷◌, filter, refl, sym, ap, ◌∙◌, true≢false}
+use Rattle.std.proofs.Common.{◌≡◌, ℕ, Bool, true, cond, List, [], ◌∷◌, filter, refl, ap, ◌∙◌, arith}
 use Rattle.std.specs.Prelude.{◌≢◌, Some, None, Ok}
 use Rattle.std.specs.List.{AllByRecursion}
 use Rattle.std.specs.FinMap as finite_map
-use Rattle.std.proofs.lemmas.Option.{same_Some, none-some}
-use Rattle.rga_ops.specs.Identifier.{Identifier, is_root}
+use Rattle.rga_ops.specs.Identifier.{Identifier}
 use Rattle.rga_ops.specs.Operation.{checked}
 use Rattle.rga_ops.specs.Content.{Element, Content, IsWithin, IsSound, join, single}
-use Rattle.rga_ops.specs.RootPath.{is_complete, IsComplete}
-use Rattle.rga_ops.specs.RootPath.IsComplete.{below_root, below_element}
+use Rattle.rga_ops.specs.RootPath.{is_complete}
 use Rattle.rga_ops.specs.Order.{order}
 use Rattle.rga_ops.specs.Placement.{put_by_skip_rule}
 use Rattle.rga_ops.specs.declared.op.Op.TheVariants.{Insert}
@@ -26,23 +24,11 @@ all_kept p (x ∷ xs) h = ap (λ b. cond b (x ∷ filter p xs) (filter p xs)) h.
 
 -- where no element becomes complete the order stays
 pub order-finished : (c d : Content) → IsWithin c d → ((id : Identifier) → is_complete d id ≡ true → is_complete c id ≡ true) → order c ≡ order d
-order-finished c d w whole =
-    order_within c d w
-    ∙ all_kept (is_complete c) (order d) (all_map (λ (x : Identifier). is_complete d x ≡ true) (λ (x : Identifier). is_complete c x ≡ true) whole (order d) (order_complete d))
+order-finished c d w whole = grind (arith, order_within c d w, all_kept (is_complete c) (order d), all_map, order_complete d)
 
 -- where nothing waits no element has an absent parent
 pub childless : (p : Content) (id parent : Identifier) (ch : ℕ) → IsClosed p → checked (Insert id parent ch) ≡ Ok tt → finite_map.get p.inserted id ≡ None → (k : Identifier) (x : Element) → finite_map.get p.inserted k ≡ Some x → x.parent ≢ id
-childless p id parent ch closed well_formed absent k x g same = go ((is_complete-iff p k).0 (closed k x g))
-  where
-    go : IsComplete p k → ⊥
-    go (below_root y other h root) =
-        let one : y ≡ x = same_Some y x (sym h ∙ g) in
-        true≢false (sym root ∙ ap (λ e. is_root e.parent) one ∙ ap is_root same ∙ (well_formed_insertion id parent ch well_formed).0)
-    go (below_element y other h above) =
-        let one : y ≡ x = same_Some y x (sym h ∙ g) in
-        let there : is_complete p y.parent ≡ true = (is_complete-iff p y.parent).1 above in
-        let inserted : is_complete p id ≡ true = ap (is_complete p) (sym (ap (λ e. e.parent) one ∙ same)) ∙ there in
-        none-some (inserted_if_complete p id inserted).0 (sym absent ∙ (inserted_if_complete p id inserted).1)
+childless p id parent ch closed well_formed absent k x g same = grind (arith, is_complete-iff p k, well_formed_insertion, inserted_if_complete)
 
 pub order-placing : (p : Content) (id parent : Identifier) (ch : ℕ) → IsSound p → IsClosed p → checked (Insert id parent ch) ≡ Ok tt → finite_map.get p.inserted id ≡ None → order (join p (single (Insert id parent ch))) ≡ put_by_skip_rule parent id (order p)
 order-placing p id parent ch sound closed well_formed absent = order-skip p id parent ch sound well_formed absent (childless p id parent ch closed well_formed absent)

@@ -1,16 +1,14 @@
 -- Elements that are placed in turn, the last one that is to be placed first: so at the end the entries are those of the order.
 use Rattle.std.proofs.Common.{◌≡◌, ◌≤◌, ◌<◌, Bool, true, false, not, ◌&&◌, ◌||◌, ℕ, List, [], ◌∷◌, ◌++◌, length, filter, refl, sym, ap, ◌∙◌, subst, arith, true≢false, cond, inl, inr}
-use Rattle.std.specs.Prelude.{Option, Some, None, Result, Ok, Err, OnOk, OnErr, is_err, ◌⊎◌}
-use Rattle.std.specs.Option.{option_map_or}
+use Rattle.std.specs.Prelude.{Some, None, Result, Ok, OnOk, OnErr, is_err, ◌⊎◌}
 use Rattle.std.specs.List.{list_any, AllByRecursion, IsDistinct}
 use Rattle.std.specs.FinMap as finite_map
 use Rattle.std.specs.FinMap.{find}
 use Rattle.std.specs.FinSet as finite_set
-use Rattle.std.proofs.Math.Bool.{or-false}
 use Rattle.std.proofs.lemmas.Bool.{or_cases, or_left, or_right, or_from}
 use Rattle.std.proofs.lemmas.Option.{same_Some, none-some}
 use Rattle.std.proofs.lemmas.List.Folds.{list_any-append}
-use Rattle.rga_ops.specs.Identifier.{Identifier, id_cmp, is_id, is_root}
+use Rattle.rga_ops.specs.Identifier.{Identifier, id_cmp, is_root}
 use Rattle.rga_ops.specs.Operation.{checked}
 use Rattle.rga_ops.specs.Content.{Element, element, Content, IsSound, IsWithin, join, single}
 use Rattle.rga_ops.specs.RootPath.{is_complete, IsComplete}
@@ -35,6 +33,8 @@ use Rattle.rga_store.proofs.StepLaws.{IsChild, child_found, sound_within}
 use Rattle.rga_flat.specs.Flat.{is_above, IsEntryOf, IsFlat, entry_for}
 use Rattle.rga_flat.specs.Placing.{IsClosed, IsReady, IsPlacing}
 use Rattle.rga_flat.proofs.GrowthLaws.{order-finished, order-placing, childless}
+use Rattle.std.proofs.lemmas.Map.Entries.{lookup-filter-keys}
+use Rattle.std.specs.Map.{lookup}
 use Rattle.rga_flat.proofs.EntryLaws.{either, has_ids, all_put}
 
 -- ---- lists
@@ -53,33 +53,15 @@ right_member : (xs ys : List Identifier) (q : Identifier) → list_any (is q) ys
 right_member xs ys q m = list_any-append (is q) xs ys ∙ or_right (list_any (is q) xs) (list_any (is q) ys) m
 
 pub last_member : (xs : List Identifier) (y q : Identifier) → list_any (is q) (xs ++ y ∷ []) ≡ true → (list_any (is q) xs ≡ true) ⊎ (q ≡ y)
-last_member xs y q m =
-    elim (or_cases (list_any (is q) xs) (is q y || false) (sym (list_any-append (is q) xs (y ∷ [])) ∙ m)) [
-      | inl before ↦ inl before
-      | inr here ↦ inr (same_id q y (sym (or-false (is q y)) ∙ here))
-    ]
+last_member xs y q m = grind (arith, list_any-append (is q) xs (y ∷ []), same_id q y)
 
 few : (p q : Identifier → Bool) → ((x : Identifier) → q x ≡ true → p x ≡ true) → (xs : List Identifier) → length (filter q xs) ≤ length (filter p xs)
 few p q f [] = omega arith
-few p q f (x ∷ xs) =
-    let rest : length (filter q xs) ≤ length (filter p xs) = few p q f xs in
-    let here : q x ≡ true → p x ≡ true = f x in
-    grind arith
+few p q f (x ∷ xs) = grind (arith, few p q f xs)
 
 fewer : (p q : Identifier → Bool) → ((x : Identifier) → q x ≡ true → p x ≡ true) → (k : Identifier) (xs : List Identifier) → list_any (is k) xs ≡ true → p k ≡ true → q k ≡ false → length (filter q xs) < length (filter p xs)
 fewer p q f k [] m kept gone = absurd (true≢false (sym m))
-fewer p q f k (x ∷ xs) m kept gone =
-    elim (or_cases (is k x) (list_any (is k) xs) m) [
-      | inl same ↦
-          let rest : length (filter q xs) ≤ length (filter p xs) = few p q f xs in
-          let passes : p x ≡ true = ap p (sym (same_id k x same)) ∙ kept in
-          let fails : q x ≡ false = ap q (sym (same_id k x same)) ∙ gone in
-          grind arith
-      | inr later ↦
-          let rest : length (filter q xs) < length (filter p xs) = fewer p q f k xs later kept gone in
-          let here : q x ≡ true → p x ≡ true = f x in
-          grind arith
-    ]
+fewer p q f k (x ∷ xs) m kept gone = grind (arith, few p q f xs, same_id k x, fewer p q f k xs)
 
 -- those before the last are others, where each stands once
 other_than_last : (xs : List Identifier) (y : Identifier) → IsDistinct is (xs ++ y ∷ []) → AllByRecursion (λ x. is x y ≡ false) xs
@@ -117,11 +99,7 @@ proper d sound k x g = (well_formed_insertion k x.parent x.ch (sound (Insert k x
 
 single_within : (d : Content) (s : Identifier) (x : Element) → finite_map.get d.inserted s ≡ Some x → IsWithin (single (Insert s x.parent x.ch)) d
 single_within d s x g = record {
-  inserted = λ k y h. either (is k s)
-      (λ t.
-      let one : x ≡ y = same_Some x y (sym (ap (λ b. cond b (Some x) None) t) ∙ sym (get-single s x.parent x.ch k) ∙ h) in
-      ap (finite_map.get d.inserted) (same_id k s t) ∙ g ∙ ap (λ (z : Element). Some z) one)
-      (λ f. absurd (none-some _ (sym (ap (λ b. cond b (Some x) None) f) ∙ sym (get-single s x.parent x.ch k) ∙ h)));
+  inserted = λ k y h. grind (arith, get-single s x.parent x.ch k, same_id k s);
   deleted = λ k h. absurd (true≢false (sym h ∙ finite_set.contains-empty id_cmp k));
 }
 
@@ -162,9 +140,7 @@ module _ (d : Content) (K : Identifier → List Identifier) (N N' : Identifier �
     leaf = record {
       element = other;
       absent = it.absent;
-      childless = λ k y g. either (is y.parent s)
-          (λ t. absurd (childless p s x.parent x.ch walk.closed well_formed it.absent k y g (same_id y.parent s t)))
-          (λ f. f);
+      childless = λ k y g. grind (arith, childless p s x.parent x.ch walk.closed well_formed it.absent k y g, well_formed, same_id y.parent s);
     }
 
     not_yet : is_complete p s ≡ false
@@ -180,10 +156,7 @@ module _ (d : Content) (K : Identifier → List Identifier) (N N' : Identifier �
     stays k h = complete_stays p q grown k h
 
     stays_above : (k : Identifier) → is_above p k ≡ true → is_above q k ≡ true
-    stays_above k h = elim (above_cases p k h) [
-      | inl r ↦ of_root q k r
-      | inr c ↦ of_complete q k (stays k c)
-    ]
+    stays_above k h = grind (arith, above_cases p k h, of_root q k, of_complete q k, stays k)
 
     complete_now : (k : Identifier) → is_complete q k ≡ ((is k s && is_above p x.parent) || is_complete p k)
     complete_now k = is_complete-insertion p s x.parent x.ch leaf k
@@ -209,9 +182,7 @@ module _ (d : Content) (K : Identifier → List Identifier) (N N' : Identifier �
     child_in k m = child_found d s k (sym (walk.children.exact s not_above k) ∙ m)
 
     in_list : (k : Identifier) (y : Element) → finite_map.get d.inserted k ≡ Some y → y.parent ≡ s → list_any (is k) (K s) ≡ true
-    in_list k y g e =
-        walk.children.exact s not_above k ∙ ap (λ (o : Option Element). option_map_or (λ z. is_id z.parent s) o false) g
-        ∙ ap (λ z. is_id z s) e ∙ is_id-itself s
+    in_list k y g e = grind (arith, walk.children.exact s not_above k, not_above, is_id-itself s)
 
     others : AllByRecursion (λ t. is t s ≡ false) todo
     others = other_than_last todo s walk.distinct
@@ -228,12 +199,7 @@ module _ (d : Content) (K : Identifier → List Identifier) (N N' : Identifier �
         (λ f. f)
 
     child_absent : (k : Identifier) → IsChild d s k → finite_map.get p.inserted k ≡ None
-    child_absent k ch = elim (finite_map.get p.inserted k) as (λ o. finite_map.get p.inserted k ≡ o → o ≡ None) [
-      | None ↦ λ g. refl
-      | Some y ↦ λ g.
-          let one : y ≡ ch.element = same_Some y ch.element (sym (walk.within.inserted k y g) ∙ ch.found) in
-          absurd (true≢false (sym (is_itself s) ∙ ap (λ z. is z s) (sym (ap (λ (e : Element). e.parent) one ∙ ch.parent)) ∙ leaf.childless k y g))
-    ] refl
+    child_absent k ch = grind (arith, walk.within.inserted k, is_itself s, leaf.childless k)
 
     child_ready : (k : Identifier) → IsChild d s k → IsReady d q k
     child_ready k ch = record {
@@ -260,11 +226,7 @@ module _ (d : Content) (K : Identifier → List Identifier) (N N' : Identifier �
 
     -- what was to come is no child of it
     no_child : (t k : Identifier) → IsReady d p t → IsChild d s k → is t k ≡ false
-    no_child t k r ch = either (is t k)
-        (λ e.
-        let one : r.element ≡ ch.element = same_Some r.element ch.element (sym r.found ∙ ap (finite_map.get d.inserted) (same_id t k e) ∙ ch.found) in
-        absurd (true≢false (sym r.above ∙ ap (is_above p) (ap (λ (z : Element). z.parent) one ∙ ch.parent) ∙ not_above)))
-        (λ f. f)
+    no_child t k r ch = grind (arith, same_id t k, not_above)
 
     apart : AllByRecursion (λ t. AllByRecursion (λ k. is t k ≡ false) (K s)) todo
     apart = all_map (IsReady d p) (λ t. AllByRecursion (λ k. is t k ≡ false) (K s)) (λ t r. all_members (λ k. is t k ≡ false) (K s) (λ k m. no_child t k r (child_in k m))) todo ready_todo
@@ -279,13 +241,7 @@ module _ (d : Content) (K : Identifier → List Identifier) (N N' : Identifier �
     ]
       where
         before : is_above p y.parent ≡ true → (is_complete q k ≡ true) ⊎ (list_any (is k) (todo ++ K s) ≡ true)
-        before a = elim (walk.covered k y g a) [
-          | inl c ↦ inl (stays k c)
-          | inr m ↦ elim (last_member todo s k m) [
-            | inl t ↦ inr (left_member todo (K s) k t)
-            | inr e ↦ inl (ap (is_complete q) e ∙ it_is)
-          ]
-        ]
+        before a = grind (arith, walk.covered k y g a, stays k, last_member todo s k, left_member todo (K s) k, it_is)
 
     lower : (k : Identifier) → is_above q k ≡ false → is_above p k ≡ false
     lower k h = either (is_above p k) (λ t. absurd (true≢false (sym (stays_above k t) ∙ h))) (λ f. f)
@@ -294,15 +250,10 @@ module _ (d : Content) (K : Identifier → List Identifier) (N N' : Identifier �
     other_than k h = either (is s k) (λ t. absurd (true≢false (sym it_is ∙ ap (is_complete q) (same_id s k t) ∙ h))) (λ f. f)
 
     waits_now : (k : Identifier) (y : Element) → finite_map.get d.inserted k ≡ Some y → is_complete d k ≡ false → N' k ≡ true
-    waits_now k y g h =
-        others_kept k (other_than k (either (is_complete q k) (λ t. absurd (true≢false (sym (complete_stays q d q_within k t) ∙ h))) (λ f. f)))
-        ∙ walk.waits k y g h
+    waits_now k y g h = grind (arith, other_than k, complete_stays q d q_within k, q_within, walk.waits k y g h)
 
     complete_then : (k : Identifier) → is_complete q k ≡ true → N' k ≡ false
-    complete_then k h = elim (back k h) [
-      | inl e ↦ ap N' e ∙ gone
-      | inr was ↦ others_kept k (either (is s k) (λ t. absurd (true≢false (sym was ∙ ap (is_complete p) (sym (same_id s k t)) ∙ not_yet))) (λ f. f)) ∙ walk.complete k was
-    ]
+    complete_then k h = grind (arith, back k h, same_id s k, not_yet, walk.complete k)
 
     stepped : IsPlacing d K N' put (todo ++ K s)
     stepped = record {
@@ -365,17 +316,12 @@ module _ (d : Content) (K : Identifier → List Identifier) (N : Identifier → 
         (λ f. f)
 
     pub place_parent : (y : Element) → finite_map.get d.inserted s ≡ Some y → (is_root y.parent || has y.parent es) ≡ true
-    place_parent y h =
-        ap (λ (z : Element). is_root z.parent || has z.parent es) (sym (same_Some now_ready.element y (sym now_ready.found ∙ h)))
-        ∙ ap (λ b. is_root now_ready.element.parent || b) (has_listed walk.part now_ready.element.parent es walk.listed) ∙ now_ready.above
+    place_parent y h = grind (arith, has_listed walk.part now_ready.element.parent es walk.listed)
 
   -- what is complete is in the part, where nothing is to come
   module _ (es : List Entry) (walk : IsPlacing d K N es []) where
     here : (k : Identifier) (y : Element) → finite_map.get d.inserted k ≡ Some y → is_above walk.part y.parent ≡ true → is_complete walk.part k ≡ true
-    here k y g a = elim (walk.covered k y g a) [
-      | inl c ↦ c
-      | inr m ↦ absurd (true≢false (sym m))
-    ]
+    here k y g a = grind (arith, walk.covered k y g a)
 
     fin : {k : Identifier} → IsComplete d k → is_complete walk.part k ≡ true
     fin {k} (below_root y proper_id g root) = here k y g (of_root walk.part y.parent root)
@@ -388,12 +334,7 @@ module _ (d : Content) (K : Identifier → List Identifier) (N : Identifier → 
     still k h = complete_stays walk.part d walk.within k h
 
     part_low : (k : Identifier) → is_above d k ≡ false → is_above walk.part k ≡ false
-    part_low k h = either (is_above walk.part k)
-        (λ t. absurd (true≢false (sym (elim (above_cases walk.part k t) [
-          | inl r ↦ of_root d k r
-          | inr c ↦ of_complete d k (still k c)
-        ]) ∙ h)))
-        (λ f. f)
+    part_low k h = grind (arith, above_cases walk.part k, of_root d k, of_complete d k, still k)
 
     pub placed_flat : IsFlat d es K N
     placed_flat = record {
@@ -415,26 +356,12 @@ settled c = record {
   deleted = c.deleted;
 }
 
+find_is : (k : Identifier) (es : List (Identifier × Element)) → find id_cmp k es ≡ lookup (is k) es
+find_is k [] = refl
+find_is k (e ∷ es) = ap (cond (is k e.0) (Some e.1)) (find_is k es)
+
 find_kept : (f : Identifier → Bool) (k : Identifier) (es : List (Identifier × Element)) → find id_cmp k (filter (λ e. f e.0) es) ≡ cond (f k) (find id_cmp k es) None
-find_kept f k [] = either (f k) (λ t. sym (ap (λ b. cond b None None) t)) (λ e. sym (ap (λ b. cond b None None) e))
-find_kept f k (e ∷ es) =
-    either (is k e.0)
-    (λ t.
-    let same : f k ≡ f e.0 = ap f (same_id k e.0 t) in
-    either (f e.0)
-    (λ y. ap (λ b. find id_cmp k (cond b (e ∷ filter (λ z. f z.0) es) (filter (λ z. f z.0) es))) y
-    ∙ ap (λ b. cond b (Some e.1) (find id_cmp k (filter (λ z. f z.0) es))) t
-    ∙ sym (ap (λ b. cond b (cond (is k e.0) (Some e.1) (find id_cmp k es)) None) (same ∙ y) ∙ ap (λ b. cond b (Some e.1) (find id_cmp k es)) t))
-    (λ n. ap (λ b. find id_cmp k (cond b (e ∷ filter (λ z. f z.0) es) (filter (λ z. f z.0) es))) n
-    ∙ find_kept f k es ∙ ap (λ b. cond b (find id_cmp k es) None) (same ∙ n)
-    ∙ sym (ap (λ b. cond b (cond (is k e.0) (Some e.1) (find id_cmp k es)) None) (same ∙ n))))
-    (λ t.
-    let rest : find id_cmp k (filter (λ z. f z.0) es) ≡ cond (f k) (find id_cmp k es) None = find_kept f k es in
-    let later : cond (f k) (find id_cmp k es) None ≡ cond (f k) (cond (is k e.0) (Some e.1) (find id_cmp k es)) None = sym (ap (λ b. cond (f k) (cond b (Some e.1) (find id_cmp k es)) None) t) in
-    either (f e.0)
-    (λ y. ap (λ b. find id_cmp k (cond b (e ∷ filter (λ z. f z.0) es) (filter (λ z. f z.0) es))) y
-    ∙ ap (λ b. cond b (Some e.1) (find id_cmp k (filter (λ z. f z.0) es))) t ∙ rest ∙ later)
-    (λ n. ap (λ b. find id_cmp k (cond b (e ∷ filter (λ z. f z.0) es) (filter (λ z. f z.0) es))) n ∙ rest ∙ later))
+find_kept f k es = grind (arith, find_is, lookup-filter-keys, same_id)
 
 module _ (c : Content) (sound : IsSound c) where
   get_settled : (k : Identifier) → finite_map.get (settled c).inserted k ≡ cond (is_complete c k) (finite_map.get c.inserted k) None
@@ -444,9 +371,7 @@ module _ (c : Content) (sound : IsSound c) where
       ∙ ap (λ o. cond (is_complete c k) o None) (sym (finite_map.get-entries c.inserted k))
 
   kept_of : (k : Identifier) (y : Element) → finite_map.get (settled c).inserted k ≡ Some y → (is_complete c k ≡ true) × (finite_map.get c.inserted k ≡ Some y)
-  kept_of k y g = either (is_complete c k)
-      (λ t. (t, sym (ap (λ b. cond b (finite_map.get c.inserted k) None) t) ∙ sym (get_settled k) ∙ g))
-      (λ f. absurd (none-some _ (sym (ap (λ b. cond b (finite_map.get c.inserted k) None) f) ∙ sym (get_settled k) ∙ g)))
+  kept_of k y g = grind (arith, get_settled k)
 
   settled_within : IsWithin (settled c) c
   settled_within = record { inserted = λ k y g. (kept_of k y g).1; deleted = λ k h. h }
@@ -472,47 +397,26 @@ module _ (c : Content) (sound : IsSound c) where
     grown_by = join c (single (Insert id parent ch))
 
     above_settled : (p : Identifier) → is_above c p ≡ true → is_above (settled c) p ≡ true
-    above_settled p h = elim (above_cases c p h) [
-      | inl r ↦ of_root (settled c) p r
-      | inr k ↦ of_complete (settled c) p (complete_settled p k)
-    ]
+    above_settled p h = grind (arith, above_cases c p h, of_root (settled c) p, of_complete (settled c) p, complete_settled p)
 
     above_before : (p : Identifier) → is_above (settled c) p ≡ true → is_above c p ≡ true
-    above_before p h = elim (above_cases (settled c) p h) [
-      | inl r ↦ of_root c p r
-      | inr k ↦ of_complete c p (complete_stays (settled c) c settled_within p k)
-    ]
+    above_before p h = grind (arith, above_cases (settled c) p h, of_root c p, of_complete c p, complete_stays (settled c) c settled_within p, settled_within)
 
     low_before : (p : Identifier) → is_above (settled c) p ≡ false → is_above c p ≡ false
     low_before p h = either (is_above c p) (λ t. absurd (true≢false (sym (above_settled p t) ∙ h))) (λ f. f)
 
     absent_settled : finite_map.get (settled c).inserted id ≡ None
-    absent_settled = elim (finite_map.get (settled c).inserted id) as (λ o. finite_map.get (settled c).inserted id ≡ o → o ≡ None) [
-      | None ↦ λ g. refl
-      | Some y ↦ λ g. absurd (none-some _ (sym absent ∙ (kept_of id y g).1))
-    ] refl
+    absent_settled = grind (arith, kept_of id)
 
     now_there : finite_map.get grown_by.inserted id ≡ Some (element parent ch)
     now_there = get-inserted c id parent ch absent
 
     -- no child more where it is not complete
     same_children : (p : Identifier) → is_above c p ≡ false → (k : Identifier) → is_child c p k ≡ is_child grown_by p k
-    same_children p low k = either (is k id)
-        (λ t.
-        let own : k ≡ id = same_id k id t in
-        let none : finite_map.get c.inserted k ≡ None = ap (finite_map.get c.inserted) own ∙ absent in
-        let some : finite_map.get grown_by.inserted k ≡ Some (element parent ch) = ap (finite_map.get grown_by.inserted) own ∙ now_there in
-        let differs : is_id parent p ≡ false = either (is_id parent p)
-        (λ e. absurd (true≢false (sym above ∙ ap (is_above c) (sym (same_id p parent (sym (is_id-same parent p) ∙ e))) ∙ low)))
-        (λ f. f) in
-        ap (λ (o : Option Element). option_map_or (λ z. is_id z.parent p) o false) none
-        ∙ sym (ap (λ (o : Option Element). option_map_or (λ z. is_id z.parent p) o false) some ∙ differs))
-        (λ f. ap (λ (o : Option Element). option_map_or (λ z. is_id z.parent p) o false) (sym (get-elsewhere c id parent ch k f)))
+    same_children p low k = grind (arith, same_id k id, now_there, same_id p parent, is_id-same parent p, get-elsewhere c id parent ch k)
 
     complete_later : (k : Identifier) → is_complete grown_by k ≡ false → is_complete c k ≡ false
-    complete_later k h = either (is_complete c k)
-        (λ t. absurd (true≢false (sym (complete_stays c grown_by (within_join c (single (Insert id parent ch))) k t) ∙ h)))
-        (λ f. f)
+    complete_later k h = grind (arith, complete_stays c grown_by (within_join c (single (Insert id parent ch))) k, within_join c (single (Insert id parent ch)))
 
     module _ (sound_now : IsSound grown_by) (es : List Entry) (K : Identifier → List Identifier) (N : Identifier → Bool) (flat : IsFlat c es K N) where
       own_complete : is_complete grown_by id ≡ true
@@ -544,25 +448,11 @@ module _ (c : Content) (sound : IsSound c) where
           exact = λ p h k. flat.children.exact p (low_before p h) k ∙ same_children p (low_before p h) k;
           once = λ p h. flat.children.once p (low_before p h);
         };
-        waits = λ k y g h. either (is k id)
-            (λ t. absurd (true≢false (sym own_complete ∙ ap (is_complete grown_by) (sym (same_id k id t)) ∙ h)))
-            (λ f. flat.marks.waits k y (sym (get-elsewhere c id parent ch k f) ∙ g) (complete_later k h));
+        waits = λ k y g h. grind (arith, own_complete, same_id k id, flat.marks.waits k y, get-elsewhere c id parent ch k, complete_later k h);
         complete = λ k h. flat.marks.complete k (complete_stays (settled c) c settled_within k h);
         distinct = (tt, tt);
-        ready = (
-          record {
-            element = element parent ch;
-            found = now_there;
-            absent = absent_settled;
-            above = above_settled parent above;
-          },
-          tt,
-        );
-        covered = λ k y g h. either (is k id)
-            (λ t. inr (ap (λ b. b || false) t))
-            (λ f.
-            let was : finite_map.get c.inserted k ≡ Some y = sym (get-elsewhere c id parent ch k f) ∙ g in
-            inl (complete_settled k (complete_of k y was (above_before y.parent h))));
+        ready = grind (arith, now_there, absent_settled, above_settled parent above);
+        covered = λ k y g h. grind (arith, get-elsewhere c id parent ch k, complete_settled k, complete_of k y, above_before y.parent h);
       }
 
 -- an element whose parent is neither the root nor complete waits, and so do those that wait for it
@@ -571,11 +461,7 @@ module _ (c : Content) (sound : IsSound c) (id parent : Identifier) (ch : ℕ) (
   more = join c (single (Insert id parent ch))
 
   was_there : (k : Identifier) (y : Element) → finite_map.get more.inserted k ≡ Some y → is_above c y.parent ≡ true → is_complete c k ≡ true
-  was_there k y g a = either (is k id)
-      (λ t.
-      let one : element parent ch ≡ y = same_Some _ _ (sym (get-inserted c id parent ch absent) ∙ ap (finite_map.get more.inserted) (sym (same_id k id t)) ∙ g) in
-      absurd (true≢false (sym a ∙ ap (λ (e : Element). is_above c e.parent) (sym one) ∙ low)))
-      (λ f. complete_of c sound k y (sym (get-elsewhere c id parent ch k f) ∙ g) a)
+  was_there k y g a = grind (arith, get-inserted c id parent ch absent, same_id k id, complete_of c sound k y, get-elsewhere c id parent ch k)
 
   was_complete : {k : Identifier} → IsComplete more k → is_complete c k ≡ true
   was_complete {k} (below_root y o g root) = was_there k y g (of_root c y.parent root)
@@ -590,9 +476,7 @@ module _ (c : Content) (sound : IsSound c) (id parent : Identifier) (ch : ℕ) (
 -- ---- results
 
 pub from_err : {A E P : Type 0} (r : Result A E) → is_err r ≡ true → OnErr r P → P
-from_err (Ok x) h p = absurd (true≢false (sym h))
-from_err (Err e) h p = p
+from_err r h p = grind arith
 
 pub from_ok : {A E P : Type 0} (r : Result A E) → is_err r ≡ false → OnOk r P → P
-from_ok (Ok x) h p = p
-from_ok (Err e) h p = absurd (true≢false h)
+from_ok r h p = grind arith

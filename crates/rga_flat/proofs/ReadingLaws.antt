@@ -1,18 +1,16 @@
 -- What is read from the entries of a flat store is what its content shows.
-use Rattle.std.proofs.Common.{◌≡◌, ◌+◌, Bool, true, false, cond, not, ◌||◌, suc, List, [], ◌∷◌, length, filter, map, refl, sym, ap, ◌∙◌}
-use Rattle.std.specs.Prelude.{Some, None}
-use Rattle.std.specs.Option.{option_map}
-use Rattle.std.specs.List.{list_any, filter_map, cons_option, AllByRecursion}
+use Rattle.std.proofs.Common.{◌≡◌, ◌+◌, false, ◌||◌, suc, List, [], ◌∷◌, length, filter, refl, sym, ap, ◌∙◌, arith}
+use Rattle.std.specs.List.{list_any, filter_map, AllByRecursion}
 use Rattle.std.specs.FinMap as finite_map
 use Rattle.rga_ops.specs.Identifier.{Identifier, is_id, is_root}
-use Rattle.rga_ops.specs.Content.{Element, Content}
+use Rattle.rga_ops.specs.Content.{Content}
 use Rattle.rga_ops.specs.Order.{order, waiting, text, shown}
 use Rattle.rga_ops.specs.Places.{is_visible, visible, place}
 use Rattle.rga_ops.specs.Places as places
 use Rattle.rga_ops.proofs.VisibleLaws.{is_kept, visible_is, place_is}
 use Rattle.rga_ops.proofs.WaitingLaws.{ordered_and_waiting}
 use Rattle.rga_sequence.specs.declared.entry.Entry.{Entry}
-use Rattle.rga_sequence.specs.Entries.{ids, has, entries_up_to, visible_entries, visible_count, visible_ids, visible_text, place_in}
+use Rattle.rga_sequence.specs.Entries.{ids, has, entries_up_to, visible_entries, visible_ids, visible_text, place_in}
 use Rattle.rga_store.proofs.StepLaws.{len-keys}
 use Rattle.rga_flat.specs.Flat.{IsEntryOf}
 
@@ -23,10 +21,7 @@ has_among k (e ∷ es) = ap (λ b. is_id e.id k || b) (has_among k es)
 
 ids_up_to : (k : Identifier) (es : List Entry) → places.up_to k (ids es) ≡ ids (entries_up_to k es)
 ids_up_to k [] = refl
-ids_up_to k (e ∷ es) = elim (is_id e.id k) as (λ b. cond b (e.id ∷ []) (e.id ∷ places.up_to k (ids es)) ≡ ids (cond b (e ∷ []) (e ∷ entries_up_to k es))) [
-  | true ↦ refl
-  | false ↦ ap (λ r. e.id ∷ r) (ids_up_to k es)
-]
+ids_up_to k (e ∷ es) = grind (arith, ids_up_to k es)
 
 length_ids : (es : List Entry) → length (ids es) ≡ length es
 length_ids [] = refl
@@ -35,35 +30,15 @@ length_ids (e ∷ es) = ap suc (length_ids es)
 module _ (c : Content) where
   text_in : (es : List Entry) → AllByRecursion (IsEntryOf c) es → visible_text es ≡ filter_map (shown c) (ids es)
   text_in [] h = refl
-  text_in (e ∷ es) h =
-      split (text_in es h.1) e.deleted
-      ∙ ap (λ o. cons_option o (filter_map (shown c) (ids es))) (sym is_shown)
-    where
-      is_shown : shown c e.id ≡ cond e.deleted None (Some e.ch)
-      is_shown =
-          (λ k. cond (sym (h.0).deleted k) None (option_map (λ (x : Element). x.ch) ((h.0).found k)))
-          ∙ ap (λ n. cond e.deleted None (Some n)) (sym (h.0).character)
-
-      split : visible_text es ≡ filter_map (shown c) (ids es) → (b : Bool) → map (λ e. e.ch) (cond (not b) (e ∷ visible_entries es) (visible_entries es)) ≡ cons_option (cond b None (Some e.ch)) (filter_map (shown c) (ids es))
-      split rest true = rest
-      split rest false = ap (λ r. e.ch ∷ r) rest
+  text_in (e ∷ es) h = grind (arith, text_in es h.1)
 
   kept_in : (es : List Entry) → AllByRecursion (IsEntryOf c) es → visible_ids es ≡ filter (is_kept c) (ids es)
   kept_in [] h = refl
-  kept_in (e ∷ es) h =
-      split (kept_in es h.1) e.deleted
-      ∙ ap (λ b. cond (not b) (e.id ∷ filter (is_kept c) (ids es)) (filter (is_kept c) (ids es))) (h.0).deleted
-    where
-      split : visible_ids es ≡ filter (is_kept c) (ids es) → (b : Bool) → ids (cond (not b) (e ∷ visible_entries es) (visible_entries es)) ≡ cond (not b) (e.id ∷ filter (is_kept c) (ids es)) (filter (is_kept c) (ids es))
-      split rest true = rest
-      split rest false = ap (λ r. e.id ∷ r) rest
+  kept_in (e ∷ es) h = grind (arith, kept_in es h.1, is_kept c)
 
   all_up_to : (k : Identifier) (es : List Entry) → AllByRecursion (IsEntryOf c) es → AllByRecursion (IsEntryOf c) (entries_up_to k es)
   all_up_to k [] h = tt
-  all_up_to k (e ∷ es) h = elim (is_id e.id k) as (λ b. AllByRecursion (IsEntryOf c) (cond b (e ∷ []) (e ∷ entries_up_to k es))) [
-    | true ↦ (h.0, tt)
-    | false ↦ (h.0, all_up_to k es h.1)
-  ]
+  all_up_to k (e ∷ es) h = grind (arith, all_up_to k es h.1)
 
   module _ (es : List Entry) (listed : ids es ≡ order c) (all : AllByRecursion (IsEntryOf c) es) where
     pub text_shown : visible_text es ≡ text c
@@ -74,12 +49,7 @@ module _ (c : Content) where
 
     pub place_shown : (id : Identifier) → is_root id ≡ false → place_in id es ≡ place c id
     place_shown id proper =
-        (λ k. cond (sym (has_among id es) k) (Some (count k)) None)
-        ∙ ap (λ xs. cond (list_any (λ x. is_id x id) xs) (Some (length (filter (is_kept c) (places.up_to id xs)))) None) listed
-        ∙ sym (place_is c id proper)
-      where
-        count : visible_count (entries_up_to id es) ≡ length (filter (is_kept c) (places.up_to id (ids es)))
-        count = sym (length_ids (visible_entries (entries_up_to id es))) ∙ ap length (kept_in (entries_up_to id es) (all_up_to id es all)) ∙ ap (λ xs. length (filter (is_kept c) xs)) (sym (ids_up_to id es))
+        grind (arith, has_among id es, place_is c id proper, length_ids (visible_entries (entries_up_to id es)), kept_in (entries_up_to id es) (all_up_to id es all), ids_up_to id es)
 
     pub all_listed : length es + length (waiting c) ≡ finite_map.len c.inserted
     all_listed = ap (λ n. n + length (waiting c)) (sym (length_ids es) ∙ ap length listed) ∙ ordered_and_waiting c ∙ len-keys c

@@ -100,7 +100,8 @@ fn parent_of_chain(ops: &[Op]) -> Option<Id> {
 }
 
 /// Takes insertions into the records, the first behind a parent and each other behind the one before
-/// it, and notes them, for which there is room. `Memory` alone; those before stay.
+/// it, and notes them, for which there is room: at once if the first is newer than all that is known,
+/// or else one after another. `Memory` alone; those before stay.
 fn gather<'a>(
     alloc: Global,
     records: &mut Records,
@@ -129,34 +130,6 @@ fn gather<'a>(
     if is_newer(ops, records.clock()) {
         return gather_newer(alloc, records, waiting, parent, near, ops, steps, entries);
     }
-    gather_each(records, waiting, parent, near, ops, steps, entries)
-}
-
-/// The same, one insertion after another.
-fn gather_each<'a>(
-    records: &mut Records,
-    waiting: &BTreeMap<Id, Vec<Id>>,
-    parent: Id,
-    near: Near,
-    ops: &'a [Op],
-    steps: &mut Vec<Step<'a>>,
-    entries: &mut Vec<Entry>,
-) -> Result<(), Refusal>
-    requires back { CanTakeBack steps.old.items records.old.content }
-    requires above { is_above records.old.content parent ≡ true }
-    requires none { entries.old.items ≡ [] }
-    requires room { min MOST_AT_ONCE (length ops.now) ≤ vec_capacity entries.old }
-    requires steps_room { vec_len steps.old + min MOST_AT_ONCE (length ops.now)
-        ≤ vec_capacity steps.old }
-    ensures gathered { IsGathered records.old.limit records.old.content records.new.content
-        (take (length entries.new.items) ops.now) steps.old.items steps.new.items }
-    ensures shows { ChainShows records.old.content records.new.content parent entries.new.items
-        waiting.now }
-    ensures few { length entries.new.items ≤ MOST_AT_ONCE }
-    ensures within { length entries.new.items ≤ length ops.now }
-    ensures limit { records.new.limit ≡ records.old.limit }
-    ensures memory { IfErr result (λ e. e ≡ Refusal.Memory) }
-{
     let mut last = parent;
     let mut own = near;
     for op in ops {

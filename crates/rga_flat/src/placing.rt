@@ -90,39 +90,19 @@ fn place_noted(
 {
     push_waiting(work, waiting, id)?;
     settle_list(waiting, done, id)?;
+    placed.reserve(1)?;
     let deleted = records.is_deleted(id);
     match records.element(id) {
         Some((parent, ch)) => {
             let entry = Entry { id, ch, deleted };
-            put_noted(records, sequence, placed, parent, &entry)
+            let parents = records.near(parent);
+            let own = put_behind(records, sequence, parent, parents, &entry)?;
+            records.set_near(entry.id, own);
+            let _room = placed.push(entry.id);
+            Ok(())
         }
         None => unreachable!(),
     }
-}
-
-/// Puts an entry behind its parent, and notes its element.
-fn put_noted(
-    records: &mut Records,
-    sequence: &mut Sequence,
-    placed: &mut Vec<Id>,
-    parent: Id,
-    entry: &Entry,
-) -> Result<(), Refusal>
-    requires parent { (is_root parent || has parent sequence.old) ≡ true }
-    requires absent { has entry.now.id sequence.old ≡ false }
-    ensures put { OnOk result (sequence.new ≡ put_entry parent entry.now sequence.old) }
-    ensures noted { OnOk result (placed.new.items ≡ placed.old.items ++ entry.now.id ∷ []) }
-    ensures same { OnErr result (sequence.new ≡ sequence.old) }
-    ensures same_notes { OnErr result (placed.new.items ≡ placed.old.items) }
-    ensures records { records.new ≡ records.old }
-    ensures memory { IfErr result (λ e. e ≡ Refusal.Memory) }
-{
-    placed.reserve(1)?;
-    let parents = records.near(parent);
-    let own = put_behind(records, sequence, parent, parents, entry)?;
-    records.set_near(entry.id, own);
-    let _room = placed.push(entry.id);
-    Ok(())
 }
 
 /// Puts an entry behind its parent, which may stand there, and answers where it stands itself. What

@@ -1,5 +1,5 @@
 //! An operation that is new, taken into the records, the sequence and what waits.
-ghost use Rattle.std.specs.Prelude.{◌≡◌, ◌≢◌, ◌∷◌, [], Some, is_some, Ok, Err, IfErr, OnOk, OnErr, true, false};
+ghost use Rattle.std.specs.Prelude.{◌≡◌, ◌≢◌, Some, is_some, Ok, Err, IfErr, OnOk, OnErr, true, false};
 ghost use Rattle.std.specs.FinMap as finite_map;
 ghost use Rattle.std.specs.FinSet as finite_set;
 ghost use Rattle.std.specs.BTreeSet.{contains};
@@ -11,7 +11,6 @@ ghost use Rattle.rga_store.specs.Without.{without_insertion};
 ghost use Rattle.rga_store.specs.Growth.{NeedsRoom};
 ghost use Rattle.rga_flat.specs.Based.{IsBased};
 ghost use Rattle.rga_flat.specs.Flat.{is_above, AreMarked, IsFlat};
-ghost use Rattle.rga_flat.specs.Placing.{IsPlacing};
 ghost use Rattle.rga_flat.specs.Waiting.{StayListed, under, has_list, is_listed, SettlesLists, AreInserted};
 
 use crate::placing::{is_next, next, place_all, put_behind};
@@ -131,8 +130,8 @@ fn insert(
     Ok(())
 }
 
-/// The sequence and what waits follow a new insertion. `Memory` alone, and then they are as they
-/// were.
+/// The sequence and what waits follow a new insertion: its element is placed, and those that waited for
+/// it, or it waits itself. `Memory` alone, and then they are as they were.
 fn settle(
     alloc: Global,
     records: &mut Records,
@@ -172,38 +171,9 @@ fn settle(
     ensures memory { IfErr result (λ e. e ≡ Refusal.Memory) }
 {
     let _known = records.known();
-    if above {
-        return place(alloc, records, sequence, waiting, done, parent, near, entry);
+    if !above {
+        return add_waiting(alloc, waiting, parent, entry.id);
     }
-    add_waiting(alloc, waiting, parent, entry.id)
-}
-
-/// Places an element, and those that waited for it. `Memory` alone, and then the sequence is as it
-/// was.
-fn place(
-    alloc: Global,
-    records: &mut Records,
-    sequence: &mut Sequence,
-    waiting: &BTreeMap<Id, Vec<Id>>,
-    done: &mut BTreeSet<Id>,
-    parent: Id,
-    near: Near,
-    entry: &Entry,
-) -> Result<(), Refusal>
-    requires element { finite_map.get records.old.content.inserted entry.now.id
-        ≡ Some (element parent entry.now.ch) }
-    requires deleted { entry.now.deleted
-        ≡ finite_set.contains records.old.content.deleted entry.now.id }
-    requires placing { IsPlacing records.old.content (under waiting.now)
-        (is_listed waiting.now done.old) sequence.old (entry.now.id ∷ []) }
-    ensures ok { OnOk result (IsFlat records.old.content sequence.new
-        (under waiting.now) (is_listed waiting.now done.new)) }
-    ensures same { OnErr result (sequence.new ≡ sequence.old) }
-    ensures settles { SettlesLists waiting.now done.old done.new }
-    ensures inserted { AreInserted records.old.content done.old done.new }
-    ensures records { records.new ≡ records.old }
-    ensures memory { IfErr result (λ e. e ≡ Refusal.Memory) }
-{
     if has_list(waiting, entry.id) {
         return place_all(alloc, records, sequence, waiting, done, entry.id);
     }

@@ -64,22 +64,6 @@ fn undo(
         under waiting.new p ≡ undone_under op.now p (under waiting.old p) }
     ensures lists { (p : Identifier) → has_list waiting.new p ≡ has_list waiting.old p }
 {
-    undo_entry(records, sequence, waiting, op);
-    records.remove(op, clock);
-}
-
-/// An operation leaves the sequence and what waits.
-fn undo_entry(
-    records: &Records,
-    sequence: &mut Sequence,
-    waiting: &mut BTreeMap<Id, Vec<Id>>,
-    op: &Op,
-)
-    ensures entries { sequence.new ≡ undone_entries op.now sequence.old }
-    ensures under { (p : Identifier) →
-        under waiting.new p ≡ undone_under op.now p (under waiting.old p) }
-    ensures lists { (p : Identifier) → has_list waiting.new p ≡ has_list waiting.old p }
-{
     match op {
         Op::Insert { id, parent, .. } => {
             sequence.take_out(*id, records.near(*id));
@@ -87,4 +71,5 @@ fn undo_entry(
         }
         Op::Delete { id } => sequence.mark(*id, records.near(*id), false),
     }
+    records.remove(op, clock);
 }

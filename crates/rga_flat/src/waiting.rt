@@ -143,12 +143,6 @@ pub(crate) fn remove_child(waiting: &mut BTreeMap<Id, Vec<Id>>, parent: Id, id: 
     ensures lists { (p : Identifier) → has_list waiting.new p ≡ has_list waiting.old p }
 {
     if let Some(list) = waiting.get_mut(&parent) {
-        remove_from(list, id);
+        list.retain_mut(|child| *child != id);
     }
-}
-
-fn remove_from(list: &mut Vec<Id>, id: Id)
-    ensures { list.new.items ≡ without id list.old.items }
-{
-    list.retain_mut(|child| *child != id);
 }

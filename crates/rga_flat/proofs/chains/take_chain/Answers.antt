@@ -1,9 +1,5 @@
-use Rattle.std.proofs.Common.{◌≡◌, List, sym, ap, ◌∙◌, subst}
-use Rattle.rga_store.specs.Kept.{Kept}
-use Rattle.rga_sequence.specs.declared.entry.Entry.{Entry}
+use Rattle.std.proofs.Common.{◌≡◌, sym, ap, ◌∙◌}
 use Rattle.rga_sequence.specs.Entries.{put_chain}
-use Rattle.rga_flat.specs.Flat.{IsFlat}
-use Rattle.rga_flat.specs.Waiting.{under, is_listed}
 use Rattle.rga_flat.proofs.PlacingLaws.{from_ok}
 use Rattle.rga_flat.proofs.chains.take_chain.Goals as goal
 
@@ -12,6 +8,4 @@ returns-clause-flat c =
     let put : c.put_chain.new.sequence ≡ put_chain c.in-Some.parent c.gather-gathered.new.entries.items c.args.sequence.now =
     from_ok c.put_chain.result (sym c.is_err-2.ensures.value ∙ c.if-is_err-2.false) c.put_chain.ensures.put
     ∙ ap (λ es. put_chain c.in-Some.parent es c.args.sequence.now) c.as_slice.ensures.value in
-    subst (λ (r : Kept). IsFlat r.content c.put_chain.new.sequence (under c.args.waiting.now) (is_listed c.args.waiting.now c.args.done.now)) (sym c.put_chain.ensures.records)
-    (subst (λ (es : List Entry). IsFlat c.gather-gathered.new.records.content es (under c.args.waiting.now) (is_listed c.args.waiting.now c.args.done.now)) (sym put)
-    (c.gather-gathered.ensures.shows c.args.sequence.now c.args.done.now c.requires.flat).1)
+    rw (c.put_chain.ensures.records, put) (c.gather-gathered.ensures.shows c.args.sequence.now c.args.done.now c.requires.flat).1

@@ -1,12 +1,12 @@
 use Rattle.std.proofs.Common.{◌≡◌, [], ◌++◌, ◌-◌, take, refl, sym, ap, ◌∙◌, subst}
 use Rattle.std.specs.BTreeSet.{contains}
 use Rattle.rga_ops.specs.Identifier.{id_cmp}
-use Rattle.rga_ops.specs.Content.{Content, IsWithin}
+use Rattle.rga_ops.specs.Content.{Content}
 use Rattle.rga_store.specs.Without.{without_operation}
-use Rattle.rga_store.specs.Back.{without_noted, CanTakeBack, IsLastNoted}
+use Rattle.rga_store.specs.Back.{without_noted}
 use Rattle.rga_flat.specs.Flat.{IsFlat}
 use Rattle.rga_flat.specs.Undo.{IsGoingBack}
-use Rattle.rga_flat.specs.Waiting.{under, has_list, is_listed}
+use Rattle.rga_flat.specs.Waiting.{under, has_list}
 use Rattle.rga_store.proofs.BackLaws.{last_step, without_noted-push}
 use Rattle.rga_flat.proofs.BackLaws.{gone_within, going_undone, gone_there}
 use Rattle.rga_flat.proofs.UndoLaws.{going_start}
@@ -17,38 +17,28 @@ loop-step-init c = record {
   limit = refl;
   left = c.requires.back;
   start = refl;
-  going = subst (λ es. IsGoingBack c.args.records.now.content (without_noted c.args.steps.items c.args.records.now.content) c.args.records.now.content es c.args.waiting.now (contains id_cmp c.args.done.now))
-      (sym c.take_out_all.ensures)
-      (going_start c.args.records.now.content (without_noted c.args.steps.items c.args.records.now.content) c.args.sequence.now c.args.waiting.now (is_listed c.args.waiting.now c.requires.returnable.settled) (contains id_cmp c.args.done.now)
-      c.requires.returnable.flat c.requires.returnable.based);
+  going = rw c.take_out_all.ensures (going_start _ _ _ _ _ (contains id_cmp c.args.done.now) c.requires.returnable.flat c.requires.returnable.based);
 }
 
 pub undo-requires-clause-held : goal.undo-requires-clause-held
-undo-requires-clause-held c =
-    (last_step c.pop.new.self.items c.in-Some.step c.loop-step.records.content (subst (λ ss. CanTakeBack ss c.loop-step.records.content) c.in-Some.ensures.items c.loop-step.invariant.left)).held
+undo-requires-clause-held c = (last_step c.pop.new.self.items c.in-Some.step c.loop-step.records.content (rw (← c.in-Some.ensures.items) c.loop-step.invariant.left)).held
 
 pub undo-requires-clause-clock : goal.undo-requires-clause-clock
-undo-requires-clause-clock c =
-    (last_step c.pop.new.self.items c.in-Some.step c.loop-step.records.content (subst (λ ss. CanTakeBack ss c.loop-step.records.content) c.in-Some.ensures.items c.loop-step.invariant.left)).clocked
+undo-requires-clause-clock c = (last_step c.pop.new.self.items c.in-Some.step c.loop-step.records.content (rw (← c.in-Some.ensures.items) c.loop-step.invariant.left)).clocked
 
 pub loop-step-preserved : goal.loop-step-preserved
 loop-step-preserved c =
-    let was_last : IsLastNoted c.pop.new.self.items c.in-Some.step.op.now c.in-Some.step.clock c.loop-step.records.content =
-    last_step c.pop.new.self.items c.in-Some.step c.loop-step.records.content (subst (λ ss. CanTakeBack ss c.loop-step.records.content) c.in-Some.ensures.items c.loop-step.invariant.left) in
+    let was_last = last_step c.pop.new.self.items c.in-Some.step c.loop-step.records.content (rw (← c.in-Some.ensures.items) c.loop-step.invariant.left) in
     let base : Content = without_noted c.args.steps.items c.args.records.now.content in
     let then : without_noted c.pop.new.self.items (without_operation c.in-Some.step.op.now c.loop-step.records.content) ≡ base =
     sym (without_noted-push c.pop.new.self.items c.in-Some.step c.loop-step.records.content)
     ∙ ap (λ ss. without_noted ss c.loop-step.records.content) (sym c.in-Some.ensures.items) ∙ c.loop-step.invariant.start in
     record {
       limit = c.undo.ensures.limit ∙ c.loop-step.invariant.limit;
-      left = subst (λ d. CanTakeBack c.pop.new.self.items d) (sym c.undo.ensures.content) was_last.rest;
+      left = rw c.undo.ensures.content was_last.rest;
       start = ap (without_noted c.pop.new.self.items) c.undo.ensures.content ∙ then;
-      going = subst (λ d. IsGoingBack c.args.records.now.content base d c.undo.new.sequence c.undo.new.waiting (contains id_cmp c.args.done.now)) (sym c.undo.ensures.content)
-          (subst (λ es. IsGoingBack c.args.records.now.content base (without_operation c.in-Some.step.op.now c.loop-step.records.content) es c.undo.new.waiting (contains id_cmp c.args.done.now)) (sym c.undo.ensures.entries)
-          (going_undone c.in-Some.step.op.now c.args.records.now.content base c.loop-step.records.content c.loop-step.sequence c.loop-step.waiting c.undo.new.waiting (contains id_cmp c.args.done.now)
-          c.loop-step.invariant.going was_last.held
-          (subst (λ d. IsWithin d (without_operation c.in-Some.step.op.now c.loop-step.records.content)) then (gone_within c.pop.new.self.items (without_operation c.in-Some.step.op.now c.loop-step.records.content)))
-          c.undo.ensures.under c.undo.ensures.lists));
+      going = rw (c.undo.ensures.content, c.undo.ensures.entries)
+          (going_undone c.in-Some.step.op.now _ base _ _ _ _ _ c.loop-step.invariant.going was_last.held (rw (← then) (gone_within c.pop.new.self.items _)) c.undo.ensures.under c.undo.ensures.lists);
     }
 
 pub returns-clause-content : goal.returns-clause-content

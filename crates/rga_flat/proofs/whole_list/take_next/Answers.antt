@@ -3,7 +3,6 @@ use Rattle.std.proofs.lemmas.Result.{err_from_is_err_and}
 use Rattle.std.specs.Prelude.{Ok, Err}
 use Rattle.rga_ops.specs.Answer.{taken, taken_one_by_one}
 use Rattle.rga_ops.specs.declared.refusal.Refusal.TheVariants.{Memory}
-use Rattle.rga_flat.specs.Waiting.{under, has_list}
 use Rattle.rga_flat.proofs.FlatLaws.{based_more}
 use Rattle.rga_store.proofs.BackLaws.{next_taken}
 use Rattle.rga_flat.proofs.ChainLaws.{gathered_start, next_refused, at_err}
@@ -13,15 +12,13 @@ pub returns-then-count-ge-MOST_AT_ONCE-clause-start : goal.returns-then-count-ge
 returns-then-count-ge-MOST_AT_ONCE-clause-start c = gathered_start _ _ _ _ _ _ c.in_ok-count.ensures.gathered
 
 pub returns-then-count-ge-MOST_AT_ONCE-clause-based : goal.returns-then-count-ge-MOST_AT_ONCE-clause-based
-returns-then-count-ge-MOST_AT_ONCE-clause-based c = λ base b.
-    based_more base c.args.records.now.content c.take_chain.new.records.content (under c.args.waiting.now) (has_list c.args.waiting.now) c.in_ok-count.ensures.gathered.within b
+returns-then-count-ge-MOST_AT_ONCE-clause-based c = λ base b. based_more _ _ _ _ _ c.in_ok-count.ensures.gathered.within b
 
 pub returns-then-count-ops-clause-start : goal.returns-then-count-ops-clause-start
 returns-then-count-ops-clause-start c = gathered_start _ _ _ _ _ _ c.in_ok-count.ensures.gathered
 
 pub returns-then-count-ops-clause-based : goal.returns-then-count-ops-clause-based
-returns-then-count-ops-clause-based c = λ base b.
-    based_more base c.args.records.now.content c.take_chain.new.records.content (under c.args.waiting.now) (has_list c.args.waiting.now) c.in_ok-count.ensures.gathered.within b
+returns-then-count-ops-clause-based c = λ base b. based_more _ _ _ _ _ c.in_ok-count.ensures.gathered.within b
 
 pub returns-in_err-take_noted-clause-refused : goal.returns-in_err-take_noted-clause-refused
 returns-in_err-take_noted-clause-refused c =
@@ -36,20 +33,15 @@ pub returns-in_err-take_noted-clause-start : goal.returns-in_err-take_noted-clau
 returns-in_err-take_noted-clause-start c = c.take_noted.ensures.start ∙ gathered_start _ _ _ _ _ _ c.in_ok-count.ensures.gathered
 
 pub returns-in_err-take_noted-clause-based : goal.returns-in_err-take_noted-clause-based
-returns-in_err-take_noted-clause-based c = λ base b.
-    c.take_noted.ensures.based base
-    (based_more base c.args.records.now.content c.take_chain.new.records.content (under c.args.waiting.now) (has_list c.args.waiting.now) c.in_ok-count.ensures.gathered.within b)
+returns-in_err-take_noted-clause-based c = λ base b. c.take_noted.ensures.based base (based_more _ _ _ _ _ c.in_ok-count.ensures.gathered.within b)
 
 pub returns-clause-ok : goal.returns-clause-ok
 returns-clause-ok c =
-    next_taken c.args.records.now.limit c.args.records.now.content c.take_chain.new.records.content c.take_noted.new.records.content c.index-ops-count.result c.args.ops.now c.in_ok-count.count
-    c.in_ok-count.ensures.gathered.taken c.if-count-ops.false c.index-ops-count.is
+    next_taken _ _ _ _ c.index-ops-count.result _ _ c.in_ok-count.ensures.gathered.taken c.if-count-ops.false c.index-ops-count.is
     (subst (λ n. taken n c.take_chain.new.records.content c.index-ops-count.result ≡ Ok c.take_noted.new.records.content) c.take_chain.ensures.limit c.in_ok-take_noted.ensures.ok)
 
 pub returns-clause-start : goal.returns-clause-start
 returns-clause-start c = c.take_noted.ensures.start ∙ gathered_start _ _ _ _ _ _ c.in_ok-count.ensures.gathered
 
 pub returns-clause-based : goal.returns-clause-based
-returns-clause-based c = λ base b.
-    c.take_noted.ensures.based base
-    (based_more base c.args.records.now.content c.take_chain.new.records.content (under c.args.waiting.now) (has_list c.args.waiting.now) c.in_ok-count.ensures.gathered.within b)
+returns-clause-based c = λ base b. c.take_noted.ensures.based base (based_more _ _ _ _ _ c.in_ok-count.ensures.gathered.within b)

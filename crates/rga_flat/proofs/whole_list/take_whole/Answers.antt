@@ -1,12 +1,7 @@
-use Rattle.std.proofs.Common.{◌≡◌, ◌+◌, ◌-◌, length, take, drop, refl, sym, ap, ◌∙◌, subst, true≢false, inl, inr, arith, length-drop}
+use Rattle.std.proofs.Common.{◌≡◌, ◌+◌, ◌-◌, length, take, drop, refl, sym, ap, ◌∙◌, true≢false, inl, inr, arith, length-drop}
 use Rattle.std.proofs.lemmas.List.{take_rest}
-use Rattle.std.specs.BTreeSet.{contains}
-use Rattle.rga_ops.specs.Identifier.{id_cmp}
-use Rattle.rga_ops.specs.Content.{Content}
 use Rattle.rga_ops.specs.Answer.{taken_one_by_one}
-use Rattle.rga_store.specs.Back.{without_noted, CanTakeBack}
-use Rattle.rga_flat.specs.Undo.{IsReturnable}
-use Rattle.rga_flat.specs.Waiting.{under, has_list, is_listed}
+use Rattle.rga_store.specs.Back.{without_noted}
 use Rattle.rga_flat.proofs.WaitingLaws.{none_done, listed_none, unlisted_done}
 use Rattle.rga_flat.proofs.FlatLaws.{based_self, flat_marked, flat_cleared}
 use Rattle.rga_flat.proofs.ChainLaws.{list_later}
@@ -17,11 +12,10 @@ loop-index-init c = record {
   within = omega arith;
   limit = refl;
   rest = refl;
-  back = subst (λ ss. CanTakeBack ss c.args.records.now.content) (sym c.in_ok-steps.ensures.items) tt;
+  back = rw c.in_ok-steps.ensures.items tt;
   start = ap (λ ss. without_noted ss c.args.records.now.content) c.in_ok-steps.ensures.items;
-  flat = flat_marked c.args.records.now.content c.args.sequence.now (under c.args.waiting.now) (has_list c.args.waiting.now) (is_listed c.args.waiting.now c.new-done.result)
-      (λ p. sym (listed_none c.args.waiting.now c.new-done.result c.new-done.ensures.empty p)) c.requires;
-  based = based_self c.args.records.now.content c.args.sequence.now (under c.args.waiting.now) (has_list c.args.waiting.now) c.requires;
+  flat = flat_marked _ _ _ _ _ (λ p. sym (listed_none c.args.waiting.now c.new-done.result c.new-done.ensures.empty p)) c.requires;
+  based = based_self _ _ _ _ c.requires;
   listed = λ p t. absurd (true≢false (sym t ∙ none_done c.new-done.result c.new-done.ensures.empty p));
   inserted = λ p t. absurd (true≢false (sym t ∙ none_done c.new-done.result c.new-done.ensures.empty p));
 }
@@ -49,9 +43,7 @@ loop-index-preserved c =
 
 pub go_back-requires-clause-returnable : goal.go_back-requires-clause-returnable
 go_back-requires-clause-returnable c =
-    subst (λ (base : Content). IsReturnable c.take_next.new.records.content base c.take_next.new.sequence c.take_next.new.waiting c.take_next.new.done)
-    (sym (c.take_next.ensures.start ∙ c.loop-index.invariant.start))
-    (record {
+    rw (c.take_next.ensures.start, c.loop-index.invariant.start) (record {
       settled = c.loop-index.done;
       flat = c.in-Err.ensures.left;
       more = c.take_next.ensures.settles.grows;
@@ -64,6 +56,4 @@ go_back-requires-clause-returnable c =
 
 pub returns-clause-flat : goal.returns-clause-flat
 returns-clause-flat c =
-    flat_cleared c.loop-index.records.content c.loop-index.sequence (under c.loop-index.waiting) (under c.clear_lists.new.waiting)
-    (is_listed c.loop-index.waiting c.loop-index.done) (has_list c.clear_lists.new.waiting) (contains id_cmp c.loop-index.done) c.loop-index.invariant.flat
-    c.loop-index.invariant.inserted (unlisted_done c.loop-index.waiting c.loop-index.done) c.clear_lists.ensures.under c.clear_lists.ensures.lists
+    flat_cleared _ _ _ _ _ _ _ c.loop-index.invariant.flat c.loop-index.invariant.inserted (unlisted_done c.loop-index.waiting c.loop-index.done) c.clear_lists.ensures.under c.clear_lists.ensures.lists

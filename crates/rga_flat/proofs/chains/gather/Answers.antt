@@ -11,17 +11,13 @@ use Rattle.rga_records.specs.Chains.{last_entry_of}
 use Rattle.rga_records.proofs.NewerLaws.{last_entry_of-push}
 use Rattle.rga_flat.specs.Chains.{IsGathered, ChainShows}
 use Rattle.rga_flat.proofs.ChainLaws.{gathered_next, shows_more, own_proper, own_above}
-use Rattle.rga_flat.proofs.chains.gather_each.Goals as goal
+use Rattle.rga_flat.proofs.chains.gather.Goals as goal
 
 pub returns-in_default-clause-shows : goal.returns-in_default-clause-shows
-returns-in_default-clause-shows c =
-    subst (λ (r : Kept). ChainShows c.args.records.now.content r.content c.args.parent c.loop-op.entries.items c.args.waiting.now) (sym c.next_entry.ensures.same) c.loop-op.invariant.shows
+returns-in_default-clause-shows c = rw c.next_entry.ensures.same c.loop-op.invariant.shows
 
 pub returns-in_err-add-clause-shows : goal.returns-in_err-add-clause-shows
-returns-in_err-add-clause-shows c =
-    subst (λ es. ChainShows c.args.records.now.content c.add.new.records.content c.args.parent es c.args.waiting.now) (sym c.in_err-add.ensures.same_entries)
-    (subst (λ d. ChainShows c.args.records.now.content d c.args.parent c.loop-op.entries.items c.args.waiting.now)
-    (sym (c.in_err-add.ensures.same ∙ ap (λ (r : Kept). r.content) c.next_entry.ensures.same)) c.loop-op.invariant.shows)
+returns-in_err-add-clause-shows c = rw (c.in_err-add.ensures.same_entries, c.in_err-add.ensures.same, c.next_entry.ensures.same) c.loop-op.invariant.shows
 
 pub add-requires-clause-room : goal.add-requires-clause-room
 add-requires-clause-room c =

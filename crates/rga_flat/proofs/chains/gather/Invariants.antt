@@ -4,7 +4,7 @@ use Rattle.rga_sequence.specs.declared.putting.TheConstants.{MOST_AT_ONCE}
 use Rattle.rga_flat.specs.Chains.{IsGathered, ChainShows}
 use Rattle.rga_flat.specs.Flat.{is_above}
 use Rattle.rga_records.specs.Chains.{last_entry_of}
-use Rattle.rga_flat.proofs.chains.gather_each.Given as goal
+use Rattle.rga_flat.proofs.chains.gather.Given as goal
 
 -- the first operations lead to the content, and the last one's identifier is above what follows
 abbrev pub invariant-loop-op : goal.invariant-loop-op
