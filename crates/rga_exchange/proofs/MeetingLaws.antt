@@ -24,12 +24,12 @@ use Rattle.rga_exchange.specs.Sending.{exchange_text, stream_text, AreWritable}
 use Rattle.rga_exchange.proofs.HeadLaws.{as_log}
 use Rattle.rga_exchange.proofs.TakingLaws.{lines_taken-append}
 use Rattle.rga_exchange.proofs.StopLaws.{operations_are_taken}
-use Rattle.rga_exchange.proofs.AppendedLaws.{are_operations-written, operations_of-written, lines_and_end, exchange_lines-cut, exchange_rest, exchange_says, sound_list}
+use Rattle.rga_exchange.proofs.AppendedLaws.{written, lines_and_end, exchange_lines-cut, exchange_rest, exchange_says, sound_list}
 
 written_taken : (limit n : ℕ) (d e : Content) (ops : List Op) → finite_set.len (known_ids d) ≤ limit → AreWritable ops → AreWellFormed ops → taken_one_by_one limit d ops ≡ Ok e → lines_taken Log limit n d (map line ops) ≡ progress (n + length ops) e AllTaken
 written_taken limit n d e ops within writable well h =
     let count : n + length (map line ops) ≡ n + length ops = omega (arith, length-map ops line) in
-    operations_are_taken Log limit n d e (map line ops) within (are_operations-written ops writable well) (ap (taken_one_by_one limit d) (operations_of-written ops writable well) ∙ h)
+    operations_are_taken Log limit n d e (map line ops) within (written ops writable well).all (ap (taken_one_by_one limit d) (written ops writable well).operations ∙ h)
     ∙ ap (λ k. progress k e AllTaken) count
 
 -- what has room for a join has room for its first part

@@ -26,48 +26,17 @@ use Rattle.rga_exchange.specs.declared.taking.Form.TheVariants.{Log}
 use Rattle.rga_exchange.specs.Taking.{may_be_head, body_behind, Stop, AllTaken, AtEnd, AtFault, Progress, progress, refused_at, taken_whole, after_line, go_on, lines_taken, stream_taken}
 use Rattle.rga_exchange.specs.Stops.{fault_in, taken_of_line, GoesOnWith, IsTakenUpTo, all_lines}
 use Rattle.rga_exchange.proofs.HeadLaws.{on, halt, through_body}
-use Rattle.rga_exchange.proofs.TakingLaws.{lines_taken-append, line_is_taken, took_front, are_taken}
-
-abbrev no_fault : Option LineFault
-no_fault = None
-
-abbrev some_fault : LineFault → Option LineFault
-some_fault e = Some e
+use Rattle.rga_exchange.proofs.TakingLaws.{no_fault, some_fault, halting_line, lines_taken-append, line_is_taken, took_front, are_taken}
 
 -- ---- what stops is so
 
-halting_line : (form : Form) (limit n : ℕ) (c : Content) (line : List ℕ) (lines : List (List ℕ)) (stop : Stop) → after_line form limit (n + 1) c (any_line_at line) ≡ Err stop → GoesOnWith form limit n c (line ∷ lines) stop
-halting_line form limit n c line lines stop h = by_reading (any_line_at line) refl h
-  where
-    so : (s : Stop) → halt s ≡ halt stop → GoesOnWith form limit n c (line ∷ lines) s → GoesOnWith form limit n c (line ∷ lines) stop
-    so s same w = let is : s ≡ stop = cc in subst (GoesOnWith form limit n c (line ∷ lines)) is w
-
-    by_taken : (said : Line) (r : Result Content Refusal) → any_line_at line ≡ Ok said → taken_of_line limit c said ≡ r → refused_at (n + 1) r ≡ Err stop → GoesOnWith form limit n c (line ∷ lines) stop
-    by_taken said (Ok d) says was g = let clash : on d ≡ halt stop = g in absurd cc
-    by_taken said (Err e) says was g = so (AtFault (fault.Refused (n + 1) e)) g (refl, record { line = line; later = lines; split = refl; said = said; says = says; refused = was })
-
-    wrong : (e : LineFault) → fault_in form (n + 1) (any_line_at line) ≡ Some e → halt (AtFault (fault.Line (n + 1) e)) ≡ halt stop → GoesOnWith form limit n c (line ∷ lines) stop
-    wrong e is g = so (AtFault (fault.Line (n + 1) e)) g (refl, record { line = line; later = lines; split = refl; wrong = is })
-
-    by_place : (may : Bool) → may_be_head form (n + 1) ≡ may → any_line_at line ≡ Ok Head → cond may (on c) (halt (AtFault (fault.Line (n + 1) line_fault.Kind))) ≡ halt stop → GoesOnWith form limit n c (line ∷ lines) stop
-    by_place true is says g = let clash : on c ≡ halt stop = g in absurd cc
-    by_place false is says g = wrong line_fault.Kind (ap (fault_in form (n + 1)) says ∙ ap (λ b. cond b no_fault (some_fault line_fault.Kind)) is) g
-
-    by_reading : (r : AnyReading) → any_line_at line ≡ r → after_line form limit (n + 1) c r ≡ Err stop → GoesOnWith form limit n c (line ∷ lines) stop
-    by_reading (Ok (One op)) says g = by_taken (One op) (taken limit c op) says refl g
-    by_reading (Ok (Run r)) says g = by_taken (Run r) (taken_whole limit c (stretch_operations r)) says refl g
-    by_reading (Ok (Deletions r)) says g = by_taken (Deletions r) (taken_whole limit c (run_deletions r)) says refl g
-    by_reading (Ok Head) says g = by_place (may_be_head form (n + 1)) refl says g
-    by_reading (Ok (Last number)) says g = so (AtEnd number) g (record { line = line; later = lines; split = refl; says = says })
-    by_reading (Err e) says g = wrong e (ap (fault_in form (n + 1)) says) g
-
-record Stopped (form : Form) (limit n m : ℕ) (c d : Content) (lines : List (List ℕ)) (stop : Stop) : Type 0 where
-  front : List (List ℕ)
-  later : List (List ℕ)
-  split : lines ≡ front ++ later
-  count : m ≡ n + length front
-  taken : lines_taken form limit n c front ≡ progress m d AllTaken
-  reason : GoesOnWith form limit m d later stop
+pub record Stopped (form : Form) (limit n m : ℕ) (c d : Content) (lines : List (List ℕ)) (stop : Stop) : Type 0 where
+  pub front : List (List ℕ)
+  pub later : List (List ℕ)
+  pub split : lines ≡ front ++ later
+  pub count : m ≡ n + length front
+  pub taken : lines_taken form limit n c front ≡ progress m d AllTaken
+  pub reason : GoesOnWith form limit m d later stop
 
 -- nothing was taken
 at_once : (form : Form) (limit n m : ℕ) (c d : Content) (lines : List (List ℕ)) (s stop : Stop) → progress n c s ≡ progress m d stop → GoesOnWith form limit n c lines s → Stopped form limit n m c d lines stop
@@ -84,7 +53,7 @@ at_once form limit n m c d lines s stop h w =
       reason = subst (λ k. GoesOnWith form limit k d lines stop) count (subst (λ e. GoesOnWith form limit n e lines stop) content (subst (GoesOnWith form limit n c lines) is w));
     }
 
-stopped : (form : Form) (limit n m : ℕ) (c d : Content) (lines : List (List ℕ)) (stop : Stop) → lines_taken form limit n c lines ≡ progress m d stop → Stopped form limit n m c d lines stop
+pub stopped : (form : Form) (limit n m : ℕ) (c d : Content) (lines : List (List ℕ)) (stop : Stop) → lines_taken form limit n c lines ≡ progress m d stop → Stopped form limit n m c d lines stop
 stopped form limit n m c d [] stop h = at_once form limit n m c d [] AllTaken stop h refl
 stopped form limit n m c d (line ∷ lines) stop h = by_first (after_line form limit (n + 1) c (any_line_at line)) refl h (λ e g. stopped form limit (n + 1) m e d lines stop g)
   where
