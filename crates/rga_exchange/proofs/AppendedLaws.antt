@@ -1,5 +1,5 @@
 -- Written operations behind a log, and before the end of an exchange.
-use Rattle.std.proofs.Common.{◌≡◌, ◌≢◌, ℕ, ◌<◌, ◌≤◌, lit≤, ◌^◌, cond, List, [], ◌∷◌, ◌++◌, map, length, Ok, refl, sym, ap, ◌∙◌, subst, append_assoc, append-nil}
+use Rattle.std.proofs.Common.{arith, ◌≡◌, ◌≢◌, ℕ, ◌<◌, ◌≤◌, lit≤, ◌^◌, cond, List, [], ◌∷◌, ◌++◌, map, length, Ok, refl, sym, ap, ◌∙◌, subst, append_assoc, append-nil}
 use Rattle.std.specs.Prelude.{All}
 use Rattle.std.specs.List.{AllByRecursion}
 use Rattle.std.proofs.lemmas.List.Elements.{All-nil, All-cons}
@@ -33,11 +33,7 @@ pub record Stand (lines : List (List ℕ)) (ops : List Op) : Type 0 where
   pub none : All HasNoNewline lines
 
 pub stand_cons : (text : List ℕ) (own : List Op) (lines : List (List ℕ)) (ops : List Op) → operations_at text ≡ Ok own → HasNoNewline text → Stand lines ops → Stand (text ∷ lines) (own ++ ops)
-stand_cons text own lines ops says none h = record {
-  operations = (λ k. then_operations (says k) (h.operations k));
-  all = ((own, says), h.all);
-  none = All-cons HasNoNewline text lines none h.none;
-}
+stand_cons text own lines ops says none h = grind (arith)
 
 -- ---- written lines
 
@@ -72,20 +68,14 @@ rest_ended front = rest-append_ended front (newline ∷ []) ∙ rest-line (rest_
 -- nor behind lines with their newlines
 pub ended_lines : (bytes : List ℕ) (lines : List (List ℕ)) → rest_of bytes ≡ [] → rest_of (bytes ++ bytes_of_lines lines) ≡ []
 ended_lines bytes [] ended = ap rest_of (append-nil bytes) ∙ ended
-ended_lines bytes (text ∷ lines) ended =
-    ap rest_of (sym (append_assoc bytes (text ++ newline ∷ []) (bytes_of_lines lines)))
-    ∙ ended_lines (bytes ++ (text ++ newline ∷ [])) lines (ap rest_of (sym (append_assoc bytes text (newline ∷ []))) ∙ rest_ended (bytes ++ text))
+ended_lines bytes (text ∷ lines) ended = grind (arith, append_assoc, rest_ended, ended_lines (bytes ++ (text ++ newline ∷ [])) lines (ap rest_of (sym (append_assoc bytes text (newline ∷ []))) ∙ rest_ended (bytes ++ text)))
 
 pub rest_appended : (bytes : List ℕ) (ops : List Op) → rest_of bytes ≡ [] → AreWritable ops → rest_of (bytes ++ log_text ops) ≡ []
 rest_appended bytes ops ended writable = ended_lines bytes (map line ops) ended
 
 -- where no rest is left the operations of a log are those of its lines
 pub operations_ended : (bytes : List ℕ) → rest_of bytes ≡ [] → AllByRecursion IsOperation (lines_of bytes) → log_operations bytes ≡ operations_of (lines_of bytes)
-operations_ended bytes ended all =
-    operations_of-append (lines_of bytes) (rest_of bytes ∷ []) all
-    ∙ ap (λ (rest : List ℕ). operations_of (lines_of bytes) ++ operations_of (rest ∷ [])) ended
-    ∙ ap (λ r. operations_of (lines_of bytes) ++ then_operations r []) nothing_stands
-    ∙ append-nil (operations_of (lines_of bytes))
+operations_ended bytes ended all = grind (arith, operations_of-append, nothing_stands, append-nil)
 
 -- operations that agree, and further ones that can be joined to their content, agree
 pub agreed_append : (xs ys : List Op) → IsAgreed xs → IsJoinable (content_of xs) ys → IsAgreed (xs ++ ys)

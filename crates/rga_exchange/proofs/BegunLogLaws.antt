@@ -2,7 +2,7 @@
 use Rattle.std.proofs.Common.{◌≡◌, ℕ, ◌+◌, ◌≤◌, lit≤, List, [], ◌∷◌, ◌++◌, map, length, take, drop, get_or, Ok, Err, refl, sym, ap, ◌∙◌, subst, append_assoc, append-nil, length-append, inl, inr, ◌⊎◌, arith}
 use Rattle.std.specs.List.{AllByRecursion}
 use Rattle.std.proofs.lemmas.Bool.{cases_lt}
-use Rattle.std.proofs.lemmas.List.{take-append-drop, take_all, get_or_append_left}
+use Rattle.std.proofs.lemmas.List.{take-append-drop, get_or_append_left}
 use Rattle.std.proofs.Math.Seq.{take-append_seam, take-append-add}
 use Rattle.rga_ops.specs.Operation.{checked}
 use Rattle.rga_ops.specs.Content.{Content, join, content_of, IsAgreed}
@@ -62,20 +62,12 @@ record IsLogOf (front : List ℕ) (ops : List Op) (j : ℕ) : Type 0 where
 cut_in_two : (xs front rest ys : List ℕ) (b : ℕ) → front ++ rest ≡ xs ++ b ∷ ys → ((more : List ℕ) × (xs ≡ front ++ more)) ⊎ ((more : List ℕ) × (front ≡ xs ++ b ∷ more) × (more ++ rest ≡ ys))
 cut_in_two xs [] rest ys b e = inl (xs, refl)
 cut_in_two [] (y ∷ front) rest ys b e = inr (front, ap (λ (l : List ℕ). get_or l 0 0 ∷ front) e, ap (drop 1) e)
-cut_in_two (x ∷ xs) (y ∷ front) rest ys b e =
-    let heads : y ≡ x = ap (λ (l : List ℕ). get_or l 0 0) e in
-    elim (cut_in_two xs front rest ys b (ap (drop 1) e)) [
-      | inl inside ↦ inl (inside.0, λ k. sym heads k ∷ inside.1 k)
-      | inr past ↦ inr (past.0, λ k. heads k ∷ past.1 k, past.2)
-    ]
+cut_in_two (x ∷ xs) (y ∷ front) rest ys b e = grind (arith, cut_in_two xs front rest ys b (ap (drop 1) e))
 
 module _ (text : List ℕ) (own : List Op) (said : Says text own) (later : List Op) where
   -- a line that is too long says none
   short_line : length text ≤ MAX_LINE
-  short_line = elim (cases_lt MAX_LINE (length text)) [
-    | inl long ↦ let clash : stands_for_none LineFault.Long ≡ stands_for own = sym (long_stands text long) ∙ said.says in absurd cc
-    | inr short ↦ short
-  ]
+  short_line = grind (arith, cases_lt, stands_for_none, stands_for, long_stands)
 
   -- the log is within the first line
   within_line : (front more : List ℕ) → text ≡ front ++ more → (j : ℕ) × IsLogOf front (own ++ later) j

@@ -1,34 +1,30 @@
 -- The compacted lines of a content stand for that content.
-use Rattle.std.proofs.Common.{◌≡◌, ℕ, zero, suc, ◌+◌, ◌-◌, ◌<◌, ◌≤◌, Bool, true, false, cond, ◌&&◌, ◌||◌, ◌==◌, nat_le, nat_lt, List, [], ◌∷◌, ◌++◌, map, length, Option, Some, None, Ok, refl, sym, ap, ap₂, ◌∙◌, subst, append_assoc, append-nil, arith, inl, inr, ◌⊎◌, lit≤, lit<}
-use Rattle.std.specs.Prelude.{Contains, All}
-use Rattle.std.specs.Char.{IsScalar}
+use Rattle.std.proofs.Common.{◌≡◌, ℕ, zero, suc, ◌+◌, ◌-◌, ◌<◌, ◌≤◌, Bool, true, false, cond, ◌||◌, ◌==◌, List, [], ◌∷◌, ◌++◌, map, length, Option, Some, None, Ok, refl, sym, ap, ap₂, ◌∙◌, subst, append_assoc, append-nil, arith, inl, inr, ◌⊎◌, lit≤, lit<}
+use Rattle.std.specs.Prelude.{Contains}
 use Rattle.std.specs.List.{flat_map, AllByRecursion}
 use Rattle.std.specs.Option.{option_map_or}
 use Rattle.std.specs.FinMap as finite_map
 use Rattle.std.specs.FinSet as finite_set
-use Rattle.std.proofs.lemmas.Bool.{and_parts, eqb-true, leb-true, ltb-true, leb-false, cases_eq}
+use Rattle.std.proofs.lemmas.Bool.{eqb-true, cases_eq}
 use Rattle.std.proofs.lemmas.List.Elements.{All-nil, All-contains, All-from_recursion, Contains-append_left, Contains-append_right}
 use Rattle.rga_ops.specs.Identifier.{Identifier, identifier}
 use Rattle.rga_ops.specs.Content.{Element, element, Content, content_of, Holds, IsSound, IsAgreed, HasSameOperations}
 use Rattle.rga_ops.specs.Operations.{insertion_of, insertions, rising, deletions, operations}
-use Rattle.rga_ops.specs.declared.id.TheConstants.Id.{MAX_COUNTER}
 use Rattle.rga_ops.specs.declared.op.Op.{Op}
 use Rattle.rga_ops.specs.declared.op.Op.TheVariants.{Insert, Delete}
-use Rattle.rga_ops.proofs.AnswerLaws.{well_formed_insertion}
 use Rattle.rga_ops.proofs.OperationLaws.{Contains-first, Contains-later, Contains-cases, Contains-nil, Contains-append, content_inserted, content_deleted, same_operations_same_content}
 use Rattle.rga_ops.proofs.OperationsLaws.{content_of-operations, operations_agree, operations_hold}
-use Rattle.rga_lines.specs.declared.line.TheConstants.{MAX_LINE}
 use Rattle.rga_lines.specs.declared.run.TheConstants.{MAX_RUN}
 use Rattle.rga_lines.specs.declared.deletion_run.DeletionRun.{DeletionRun}
-use Rattle.rga_lines.specs.Runs.{Stretch, stretch, next, run_operations, stretch_operations, deletions_from, run_deletions, IsDeletionRun}
-use Rattle.rga_lines.specs.Spelling.{line, deletion_run_line, IsElement, IsWritableRun}
-use Rattle.rga_lines.specs.Stream.{lines_of, rest_of, HasNoNewline}
-use Rattle.rga_lines.specs.Log.{operations_of, operations_at, then_operations, IsOperation}
-use Rattle.rga_lines.proofs.NewlineLemmas.{line_has_none, run_has_none, deletions_have_none}
+use Rattle.rga_lines.specs.Runs.{next, run_operations, stretch_operations, deletions_from, run_deletions, IsDeletionRun}
+use Rattle.rga_lines.specs.Spelling.{line, deletion_run_line, IsElement}
+use Rattle.rga_lines.specs.Stream.{rest_of, HasNoNewline}
+use Rattle.rga_lines.specs.Log.{operations_at}
+use Rattle.rga_lines.proofs.NewlineLemmas.{line_has_none, deletions_have_none}
 use Rattle.rga_lines.proofs.DeletionLemmas.{above_root, deletions_checked}
 use Rattle.rga_lines.proofs.ReadBack.{within}
 use Rattle.rga_lines.proofs.StandLemmas.{line_stands, deletions_stand}
-use Rattle.rga_exchange.specs.RunLines.{shortest_line, stretch_line}
+use Rattle.rga_exchange.specs.RunLines.{stretch_line}
 use Rattle.rga_exchange.specs.Sending.{AreWritable, StandsFor}
 use Rattle.rga_exchange.proofs.AppendedLaws.{Stand, stand_cons, cut_again, stands_so}
 use Rattle.rga_exchange.proofs.RunLineLaws.{IsSayable, AreSayable, run_says}
@@ -41,10 +37,7 @@ use Rattle.rga_exchange.proofs.GoingOnLemmas.{next_is, length-going_on, next_del
 -- what holds of all holds of those that begin a run
 pub begin_all : {A : Type 0} (name : A → Identifier) (size : A → ℕ) (P : A → Type 0) (begun xs : List A) → AllByRecursion P xs → AllByRecursion P (beginnings name size begun xs)
 begin_all name size P begun [] h = tt
-begin_all name size P begun (x ∷ xs) h = elim (is_in_some name size begun (name x)) as (λ b. AllByRecursion P (cond b (beginnings name size begun xs) (x ∷ beginnings name size (x ∷ begun) xs))) [
-  | true ↦ begin_all name size P begun xs h.1
-  | false ↦ (h.0, begin_all name size P (x ∷ begun) xs h.1)
-]
+begin_all name size P begun (x ∷ xs) h = grind (arith, begin_all name size P begun xs h.1, begin_all name size P (x ∷ begun) xs h.1)
 
 -- what an identifier is that is one of so many
 pub record IsAmong (first : Identifier) (count : ℕ) (id : Identifier) : Type 0 where
@@ -53,10 +46,7 @@ pub record IsAmong (first : Identifier) (count : ℕ) (id : Identifier) : Type 0
   pub to : id.counter < first.counter + count
 
 pub among : (first : Identifier) (count : ℕ) (id : Identifier) → is_among first count id ≡ true → IsAmong first count id
-among first count id h =
-    let p = and_parts (id.replica == first.replica) (nat_le first.counter id.counter && nat_lt id.counter (first.counter + count)) h in
-    let q = and_parts (nat_le first.counter id.counter) (nat_lt id.counter (first.counter + count)) p.1 in
-    record { replica = eqb-true id.replica first.replica p.0; from = leb-true first.counter id.counter q.0; to = ltb-true id.counter (first.counter + count) q.1 }
+among first count id h = grind arith
 
 -- Each says an operation of its own. The run that begins with one has its operation, and those of all that are among the
 -- run's.

@@ -1,11 +1,11 @@
 -- No line of a log holds the first operations of two lines to which it is compacted, so these are no more than its own.
-use Rattle.std.proofs.Common.{◌≡◌, ℕ, zero, suc, ◌+◌, ◌-◌, ◌<◌, ◌≤◌, Bool, true, false, cond, ◌&&◌, ◌||◌, ◌==◌, nat_le, nat_lt, List, [], ◌∷◌, ◌++◌, map, length, Some, None, Result, Ok, Err, refl, sym, ap, ◌∙◌, subst, arith, inl, inr, ◌⊎◌, T, le-leb, length-append, true≢false}
-use Rattle.std.specs.Prelude.{Contains, option_and_then}
+use Rattle.std.proofs.Common.{◌≡◌, ℕ, zero, suc, ◌+◌, ◌-◌, ◌<◌, ◌≤◌, Bool, true, false, cond, ◌&&◌, ◌||◌, nat_lt, List, [], ◌∷◌, ◌++◌, map, length, Some, Result, Ok, refl, sym, ap, ◌∙◌, subst, arith, inl, inr, ◌⊎◌, T, length-append, true≢false}
+use Rattle.std.specs.Prelude.{Contains}
 use Rattle.std.specs.List.{AllByRecursion}
 use Rattle.std.specs.Ordering.{is_lt}
 use Rattle.std.specs.FinMap as finite_map
 use Rattle.std.specs.FinSet as finite_set
-use Rattle.std.proofs.lemmas.Bool.{eq-eqb, lt-ltb, or_left, or_right, or_parts}
+use Rattle.std.proofs.lemmas.Bool.{lt-ltb, or_left, or_right, or_parts}
 use Rattle.std.proofs.lemmas.List.{length-map}
 use Rattle.std.proofs.lemmas.List.Elements.{Contains-append_left, Contains-append_right, recursion_from_All, All-weaker, All-contains_itself}
 use Rattle.rga_ops.specs.Identifier.{Identifier, id_cmp}
@@ -14,12 +14,11 @@ use Rattle.rga_ops.specs.Operations.{insertion_of, rising}
 use Rattle.rga_ops.specs.declared.id.TheConstants.Id.{MAX_COUNTER}
 use Rattle.rga_ops.specs.declared.op.Op.{Op}
 use Rattle.rga_ops.specs.declared.op.Op.TheVariants.{Insert, Delete}
-use Rattle.rga_ops.proofs.IdentifierLaws.{is_id-itself}
-use Rattle.rga_ops.proofs.OperationLaws.{Contains-first, Contains-later, Contains-cases, Contains-nil, Contains-append, content_inserted, content_deleted, inserted-iff, deleted-iff}
+use Rattle.rga_ops.proofs.OperationLaws.{Contains-cases, Contains-nil, Contains-append, content_inserted, content_deleted, inserted-iff, deleted-iff}
 use Rattle.rga_ops.proofs.MemberLaws.{all_map}
 use Rattle.rga_ops.proofs.SortedLaws.{all_zip}
 use Rattle.rga_lines.specs.declared.run.TheConstants.{MAX_RUN}
-use Rattle.rga_lines.specs.declared.line.Line.TheVariants.{One, Run, Deletions, Head, Last}
+use Rattle.rga_lines.specs.declared.line.Line.TheVariants.{One, Run, Deletions}
 use Rattle.rga_lines.specs.declared.fault.LineFault.{LineFault}
 use Rattle.rga_lines.specs.Runs.{next, run_operations, deletions_from, IsRun, IsDeletionRun}
 use Rattle.rga_lines.specs.Table.{AnyReading, any_line_at}
@@ -27,8 +26,7 @@ use Rattle.rga_lines.specs.Log.{operations_in, operations_of, operations_at, the
 use Rattle.rga_lines.proofs.ReadingLemmas.{any_run, any_deletions}
 use Rattle.rga_lines.proofs.StandLemmas.{stands}
 use Rattle.rga_exchange.specs.DeletionRuns.{is_deletion_run, have_deletion_runs}
-use Rattle.rga_exchange.specs.RunLines.{stretch_line}
-use Rattle.rga_exchange.specs.Compacting.{character_below, next_character, going_on, run_of, is_among, is_in_some, beginnings, run_size, run_beginnings, is_next_deleted, deletions_behind, most_deletions, deletion_run_of, deletion_size, deletion_beginnings, deletion_line, compact_lines}
+use Rattle.rga_exchange.specs.Compacting.{next_character, going_on, is_among, is_in_some, beginnings, run_size, run_beginnings, is_next_deleted, deletions_behind, most_deletions, deletion_size, deletion_beginnings, compact_lines}
 use Rattle.rga_exchange.specs.FewLines.{said, Says, AreApart, AllApart, first_operations}
 use Rattle.rga_exchange.proofs.GoingOnLemmas.{goes_on, one_deleted}
 use Rattle.rga_exchange.proofs.CompactLaws.{IsAmong, begin_all, all_run_beginnings, all_deletion_beginnings}
@@ -117,11 +115,7 @@ module _ {A : Type 0} (name : A → Identifier) (size : A → ℕ) where
   ]
 
 not_among : (first : Identifier) (count : ℕ) (id : Identifier) → is_among first count id ≡ false → IsAmong first count id → ⊥
-not_among first count id out h =
-    let replica : (id.replica == first.replica) ≡ true = eq-eqb id.replica first.replica h.replica in
-    let from : nat_le first.counter id.counter ≡ true = le-leb first.counter id.counter h.from in
-    let to : nat_lt id.counter (first.counter + count) ≡ true = lt-ltb id.counter (first.counter + count) h.to in
-    true≢false (sym (λ k. replica k && (from k && to k)) ∙ out)
+not_among first count id out h = grind arith
 
 -- ---- what is in a line
 
@@ -159,10 +153,7 @@ module _ (c : Content) where
   -- ---- a run of the content reaches as far as any line does
 
   next_found : (last : Identifier) (ch : ℕ) → Holds c (Insert (next last) last ch) → last.counter < MAX_COUNTER → next_character c last ≡ Some ch
-  next_found last ch held below =
-      ap (λ b. cond b (option_and_then (character_below last) (finite_map.get c.inserted (next last))) None) (lt-ltb last.counter MAX_COUNTER below)
-      ∙ ap (option_and_then (character_below last)) held
-      ∙ ap (λ b. cond b (Some ch) None) (is_id-itself last)
+  next_found last ch held below = grind arith
 
   going_reaches : (last : Identifier) (room : ℕ) (chars : List ℕ) → AreHeld (run_operations (next last) last chars) → last.counter + length chars ≤ MAX_COUNTER → length chars ≤ room → length chars ≤ length (going_on c last room)
   going_reaches last room [] held end fits = omega arith
@@ -208,10 +199,7 @@ module _ (c : Content) where
 
   -- two of one operation have one name
   one_name : (o a b : Op) → Contains (o ∷ []) a → Contains (o ∷ []) b → T (is_lt (id_cmp (name_of a) (name_of b))) → ⊥
-  one_name o a b m n above =
-      let same : a ≡ b = sym (only o a m) ∙ only o b n in
-      let less = larger_counter (name_of a) (name_of b) above (ap (λ (o : Op). (name_of o).replica) (sym same)) in
-      omega (arith, less, ap (λ (o : Op). (name_of o).counter) same)
+  one_name o a b m n above = grind arith
 
   module _ (line : List ℕ) (held : AreHeld (said (operations_at line))) where
     -- by what the line says
@@ -362,23 +350,7 @@ first_apart dels lines all agreed =
 
 -- each line has a first operation
 as_many : (dels : Bool) (c : Content) → length (first_operations dels c) ≡ length (compact_lines dels c)
-as_many dels c =
-    let most = most_deletions dels in
-    let es = run_beginnings c in
-    let ids = deletion_beginnings c most in
-    let runs = map (run_of c) es in
-    let deleted = map (deletion_run_of c most) ids in
-    omega (
-      arith,
-      length-append (map insertion_of es) (map Delete ids),
-      length-append (map stretch_line runs) (map deletion_line deleted),
-      length-map es insertion_of,
-      length-map ids Delete,
-      length-map runs stretch_line,
-      length-map es (run_of c),
-      length-map deleted deletion_line,
-      length-map ids (deletion_run_of c most),
-    )
+as_many dels c = grind (arith, length-append, length-map)
 
 pub no_more_lines : (dels : Bool) (lines : List (List ℕ)) → AllByRecursion IsOperation lines → IsAgreed (operations_of lines) → length (compact_lines (dels || have_deletion_runs lines) (content_of (operations_of lines))) ≤ length lines
 no_more_lines dels lines all agreed =

@@ -1,12 +1,12 @@
 -- In the list of a content's operations each is found at its place.
-use Rattle.std.proofs.Common.{◌≡◌, ℕ, zero, suc, ◌+◌, ◌<◌, ◌≤◌, Bool, true, false, cond, ◌||◌, List, [], ◌∷◌, ◌++◌, map, length, get_or, Option, Some, None, is_some, refl, sym, ap, subst, ◌∙◌, T, arith, true≢false}
+use Rattle.std.proofs.Common.{◌≡◌, ℕ, zero, suc, ◌+◌, ◌<◌, ◌≤◌, Bool, true, false, cond, List, [], ◌∷◌, ◌++◌, map, length, get_or, Option, Some, None, is_some, refl, sym, ap, subst, ◌∙◌, T, arith, true≢false}
 use Rattle.std.specs.Prelude.{slice_get, option_and_then}
 use Rattle.std.specs.Option.{option_map, option_map_or}
 use Rattle.std.specs.List.{AllWithin}
 use Rattle.std.specs.List.Sorted.{IsPartitionedBy}
 use Rattle.std.specs.Ordering.{is_lt, is_eq, ordering_reverse}
 use Rattle.std.specs.declared.cmp.Ordering.{Ordering}
-use Rattle.std.specs.declared.cmp.Ordering.TheVariants.{Less, Equal, Greater}
+use Rattle.std.specs.declared.cmp.Ordering.TheVariants.{Less}
 use Rattle.std.proofs.lemmas.List.{get_or_read}
 use Rattle.std.proofs.lemmas.Option.{slice_get_read, slice_get_past}
 use Rattle.std.specs.FinMap as finite_map
@@ -27,9 +27,7 @@ less_so : (o : Ordering) → is_lt o ≡ true → o ≡ Less
 less_so o h = less_of o (subst T (sym h) tt)
 
 above_so : (o : Ordering) → is_lt o ≡ false → is_eq o ≡ false → ordering_reverse o ≡ Less
-above_so Less h k = absurd (true≢false h)
-above_so Equal h k = absurd (true≢false k)
-above_so Greater h k = refl
+above_so zp1 h k = grind (arith)
 
 pub later_above : {B : Type 0} (x : Identifier) (e : Identifier × B) (es : List (Identifier × B)) → T (below_all id_cmp x (e ∷ es)) → T (is_lt (id_cmp x e.0)) × T (below_all id_cmp x es)
 later_above x e es h = both_so (is_lt (id_cmp x e.0)) (below_all id_cmp x es) h

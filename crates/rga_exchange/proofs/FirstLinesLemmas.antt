@@ -1,19 +1,18 @@
 -- The lines of the first operations of a list, of which a beginning was written.
-use Rattle.std.proofs.Common.{◌≡◌, ℕ, ◌<◌, ◌≤◌, List, [], ◌∷◌, ◌++◌, map, length, take, drop, get_or, Option, sym, ap, subst, ◌∙◌, append_assoc, arith}
+use Rattle.std.proofs.Common.{◌≡◌, ℕ, ◌≤◌, List, [], ◌∷◌, ◌++◌, map, length, take, drop, Option, sym, ap, subst, ◌∙◌, append_assoc, arith}
 use Rattle.std.specs.Prelude.{All, Contains}
 use Rattle.std.proofs.lemmas.List.Elements.{All-contains, Contains-append_left}
-use Rattle.std.proofs.lemmas.List.{append_cancel_right, map-append, take-append-drop, length-take-le, get_or-take, take_all, take-take}
+use Rattle.std.proofs.lemmas.List.{append_cancel_right, map-append, take-append-drop, length-take-le, take_all, take-take}
 use Rattle.std.proofs.lemmas.List.Concat.{flat_map-append}
-use Rattle.rga_ops.specs.Content.{Content, join, content_of}
+use Rattle.rga_ops.specs.Content.{Content}
 use Rattle.rga_ops.specs.ListAnswer.{AreWellFormed}
 use Rattle.rga_ops.specs.declared.op.Op.{Op}
 use Rattle.rga_ops.proofs.OperationLaws.{Contains-nil}
 use Rattle.rga_exchange.specs.Counting.{Calls, WritesFront, WritesAllBut}
-use Rattle.rga_lines.specs.Log.{log_operations}
 use Rattle.rga_lines.specs.Spelling.{line}
 use Rattle.rga_lines.specs.Stream.{newline, bytes_of_lines}
 use Rattle.rga_exchange.proofs.WrittenLemmas.{front_none}
-use Rattle.rga_exchange.specs.Sending.{log_text, AreWritable, StandsFor, GainsFirst, AppendsFirst, WritesFirst}
+use Rattle.rga_exchange.specs.Sending.{log_text, AreWritable, GainsFirst, AppendsFirst, WritesFirst}
 use Rattle.rga_exchange.proofs.BegunLemmas.{begun_left}
 use Rattle.rga_exchange.proofs.WritableLaws.{MayBeWritten}
 use Rattle.rga_exchange.proofs.BegunLogLaws.{joinable_take, stands_begun}
@@ -30,15 +29,7 @@ log_text-split ops n =
     ∙ flat_map-append (λ (l : List ℕ). l ++ newline ∷ []) (map line (take n ops)) (map line (drop n ops))
 
 gains_of_first : (bytes front : List ℕ) (c : Content) (ops : List Op) (n : ℕ) → n ≤ length ops → GainsFirst bytes front c (take n ops) → GainsFirst bytes front c ops
-gains_of_first bytes front c ops n within h =
-    let fewer : h.count ≤ n = omega (arith, h.within, length-take-le n ops within) in
-    let same : take h.count (take n ops) ≡ take h.count ops = take-take h.count n ops fewer in
-    record {
-      count = h.count;
-      within = omega (arith, fewer, within);
-      operations = h.operations ∙ ap (λ (os : List Op). log_operations bytes ++ os) same;
-      stands = subst (λ (os : List Op). StandsFor (bytes ++ front) (join c (content_of os))) same h.stands;
-    }
+gains_of_first bytes front c ops n within h = grind (arith, length-take-le, take-take)
 
 -- ---- what was written of them
 

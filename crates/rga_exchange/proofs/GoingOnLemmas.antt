@@ -1,5 +1,5 @@
 -- The insertions that go on with a run, and the deletions that do.
-use Rattle.std.proofs.Common.{◌≡◌, ℕ, zero, suc, ◌+◌, ◌-◌, ◌<◌, ◌≤◌, Bool, true, false, cond, ◌&&◌, nat_le, nat_lt, le-leb, lit<, append_assoc, append-nil, Ok, List, [], ◌∷◌, ◌++◌, length, Option, Some, None, refl, sym, ap, subst, ◌∙◌, arith, inl, inr}
+use Rattle.std.proofs.Common.{◌≡◌, ℕ, zero, suc, ◌+◌, ◌-◌, ◌<◌, ◌≤◌, true, false, cond, nat_lt, append_assoc, append-nil, Ok, List, [], ◌∷◌, ◌++◌, length, Option, Some, None, refl, sym, ap, subst, ◌∙◌, arith, inl, inr}
 use Rattle.std.specs.Prelude.{option_and_then}
 use Rattle.std.specs.Option.{option_map, option_map_or}
 use Rattle.std.specs.FinMap as finite_map
@@ -11,7 +11,7 @@ use Rattle.rga_ops.specs.Operation.{checked}
 use Rattle.rga_ops.specs.declared.op.Op.TheVariants.{Insert}
 use Rattle.rga_ops.proofs.AnswerLaws.{well_formed_insertion}
 use Rattle.rga_ops.specs.Identifier.{Identifier, is_id}
-use Rattle.rga_ops.specs.Content.{Element, element, Content}
+use Rattle.rga_ops.specs.Content.{element, Content}
 use Rattle.rga_ops.specs.declared.id.TheConstants.Id.{MAX_COUNTER}
 use Rattle.rga_ops.proofs.IdentifierLaws.{is_id-is}
 use Rattle.rga_lines.specs.Runs.{next}
@@ -23,11 +23,7 @@ use Rattle.rga_exchange.specs.Compacting.{character_below, next_character, going
 
 -- the next identifier is an element's too
 next_within : (last : Identifier) → IsElement last → last.counter < MAX_COUNTER → IsElement (next last)
-next_within last within below =
-    let p = and_parts (nat_le 1 last.counter && nat_le last.counter MAX_COUNTER) (nat_le 1 last.replica && nat_le last.replica 65535) within in
-    let from : nat_le 1 (last.counter + 1) ≡ true = le-leb 1 (last.counter + 1) (omega arith) in
-    let to : nat_le (last.counter + 1) MAX_COUNTER ≡ true = le-leb (last.counter + 1) MAX_COUNTER (omega (arith, below)) in
-    λ k. (from k && to k) && p.1 k
+next_within last within below = grind arith
 
 -- ---- a list that is made step by step
 

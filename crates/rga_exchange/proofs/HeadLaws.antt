@@ -1,5 +1,5 @@
 -- The head of an exchange: what is taken of a stream is what is taken of its lines behind the head, as of a log.
-use Rattle.std.proofs.Common.{◌≡◌, ℕ, ◌+◌, ◌<◌, ◌≤◌, Bool, true, false, cond, List, [], ◌∷◌, ◌++◌, length, Result, Ok, Err, refl, sym, ap, subst, ◌∙◌, arith, true≢false}
+use Rattle.std.proofs.Common.{◌≡◌, ℕ, ◌+◌, ◌<◌, Bool, true, false, cond, List, [], ◌∷◌, ◌++◌, length, Result, Ok, Err, refl, sym, ap, subst, ◌∙◌, arith, true≢false}
 use Rattle.std.specs.Prelude.{◌↔◌}
 use Rattle.std.proofs.lemmas.Bool.{ne_eqb, eq-eqb, eqb-true}
 use Rattle.rga_ops.specs.Content.{Content}
@@ -7,7 +7,7 @@ use Rattle.rga_ops.specs.Answer.{taken}
 use Rattle.rga_ops.specs.declared.refusal.Refusal.{Refusal}
 use Rattle.rga_lines.specs.Runs.{stretch_operations, run_deletions}
 use Rattle.rga_lines.specs.Table.{AnyReading, any_line_at}
-use Rattle.rga_lines.specs.Log.{operations_of, then_operations, is_head, behind_head}
+use Rattle.rga_lines.specs.Log.{operations_of, is_head, behind_head}
 use Rattle.rga_lines.specs.declared.line.Line.TheVariants.{One, Run, Deletions, Head, Last}
 use Rattle.rga_lines.specs.declared.fault.LineFault.TheVariants as line_fault
 use Rattle.rga_lines.proofs.StandLemmas.{stands}
@@ -38,30 +38,18 @@ head-iff Log n = (λ e. absurd cc, λ p. let clash : Log ≡ Exchange = p.0 in a
 head-iff Exchange n = (λ e. (refl, eqb-true n 1 e), λ p. eq-eqb n 1 p.1)
 
 says_head : (r : AnyReading) → is_head r ≡ true → r ≡ Ok Head
-says_head (Ok (One op)) e = absurd cc
-says_head (Ok (Run r)) e = absurd cc
-says_head (Ok (Deletions r)) e = absurd cc
-says_head (Ok Head) e = refl
-says_head (Ok (Last number)) e = absurd cc
-says_head (Err x) e = absurd cc
+says_head zp1 e = grind (arith)
 
 -- a head where none may be is the fault of its line
 pub head_elsewhere : (form : Form) (limit n : ℕ) (c : Content) (line : List ℕ) (lines : List (List ℕ)) → any_line_at line ≡ Ok Head → may_be_head form (n + 1) ≡ false
     → lines_taken form limit n c (line ∷ lines) ≡ progress n c (AtFault (fault.Line (n + 1) line_fault.Kind))
-head_elsewhere form limit n c line lines says none =
-    ap (λ r. go_on n c (after_line form limit (n + 1) c r) (λ d. lines_taken form limit (n + 1) d lines)) says
-    ∙ ap (λ b. go_on n c (cond b (on c) (no_head_at (n + 1))) (λ d. lines_taken form limit (n + 1) d lines)) none
+head_elsewhere form limit n c line lines says none = grind (arith)
 
 -- ---- as a log
 
 -- a line is taken as one of a log, but for a head where one may be
 as_line : (form : Form) (limit n : ℕ) (c : Content) (r : AnyReading) → (is_head r ≡ true → may_be_head form n ≡ false) → after_line form limit n c r ≡ after_line Log limit n c r
-as_line form limit n c (Ok (One op)) none = refl
-as_line form limit n c (Ok (Run r)) none = refl
-as_line form limit n c (Ok (Deletions r)) none = refl
-as_line form limit n c (Ok Head) none = ap (λ b. cond b (on c) (no_head_at n)) (none refl)
-as_line form limit n c (Ok (Last number)) none = refl
-as_line form limit n c (Err e) none = refl
+as_line form limit n c zp1 none = grind (arith)
 
 pub as_log : (form : Form) (limit n : ℕ) (c : Content) (lines : List (List ℕ)) → may_be_head form (n + 1) ≡ false → lines_taken form limit n c lines ≡ lines_taken Log limit n c lines
 as_log form limit n c [] none = refl
@@ -70,14 +58,7 @@ as_log form limit n c (line ∷ lines) none =
 
 -- no lines have none
 pub body-nil : (form : Form) (n : ℕ) → body_behind form n [] ≡ []
-body-nil form n = by_place (may_be_head form (n + 1))
-  where
-    none : List (List ℕ)
-    none = []
-
-    by_place : (may : Bool) → cond may none none ≡ none
-    by_place true = refl
-    by_place false = refl
+body-nil form n = grind (arith)
 
 -- what is taken of lines is what is taken of those that are to be operations, as lines of a log behind so many others
 pub record ThroughBody (form : Form) (limit n : ℕ) (c : Content) (lines body : List (List ℕ)) : Type 0 where
@@ -107,26 +88,11 @@ through_body form limit n c (line ∷ lines) = by_place (may_be_head form (n + 1
 -- ---- lines that are to be operations
 
 pub body-append : (form : Form) (n : ℕ) (xs ys : List (List ℕ)) → body_behind form n (xs ++ ys) ≡ body_behind form n xs ++ body_behind form (n + length xs) ys
-body-append form n [] ys =
-    let here : n ≡ n + 0 = omega arith in
-    ap (λ i. body_behind form i ys) here ∙ ap (λ (ls : List (List ℕ)). ls ++ body_behind form (n + 0) ys) (sym (body-nil form n))
-body-append form n (x ∷ xs) ys =
-    by_place (may_be_head form (n + 1)) (is_head (any_line_at x))
-    ∙ ap (λ b. body_behind form n (x ∷ xs) ++ cond b (behind_head ys) ys) (sym (none_behind form (n + length (x ∷ xs)) (omega arith)))
-  where
-    by_place : (may head : Bool) → cond may (cond head (xs ++ ys) (x ∷ (xs ++ ys))) (x ∷ (xs ++ ys)) ≡ cond may (cond head xs (x ∷ xs)) (x ∷ xs) ++ ys
-    by_place true true = refl
-    by_place true false = refl
-    by_place false head = refl
+body-append form n zp1 ys = grind arith
 
 -- a head stands for no operations, be it taken or not
 pub body_alone : (form : Form) (n : ℕ) (line : List ℕ) → operations_of (body_behind form n (line ∷ [])) ≡ operations_of (line ∷ [])
-body_alone form n line = by_place (may_be_head form (n + 1)) (is_head (any_line_at line)) refl
-  where
-    by_place : (may head : Bool) → is_head (any_line_at line) ≡ head → operations_of (cond may (cond head [] (line ∷ [])) (line ∷ [])) ≡ operations_of (line ∷ [])
-    by_place true true is = sym (ap (λ r. then_operations r []) (stands line (Ok Head) (says_head (any_line_at line) is)))
-    by_place true false is = refl
-    by_place false head is = refl
+body_alone form n line = grind (arith, stands, says_head)
 
 -- ---- an exchange
 

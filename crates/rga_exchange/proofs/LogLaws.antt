@@ -1,23 +1,20 @@
 -- Logs that are read to their end, in words.
-use Rattle.std.proofs.Common.{◌≡◌, ℕ, ◌+◌, ◌≤◌, Bool, true, false, cond, nat_lt, List, [], ◌∷◌, ◌++◌, length, Result, Ok, Err, refl, sym, ap, subst, ◌∙◌, arith, append-nil, inl, inr, lit≤}
-use Rattle.std.specs.Prelude.{◌⊎◌, Contains}
+use Rattle.std.proofs.Common.{◌≡◌, ℕ, ◌+◌, ◌≤◌, cond, List, [], ◌∷◌, ◌++◌, length, Result, Ok, Err, refl, sym, ap, subst, ◌∙◌, arith, append-nil, inl, inr}
+use Rattle.std.specs.Prelude.{◌⊎◌}
 use Rattle.std.specs.List.{AllByRecursion}
 use Rattle.std.specs.FinSet as finite_set
 use Rattle.std.proofs.lemmas.Bool.{cases_lt, le-ltb}
 use Rattle.std.proofs.lemmas.List.Elements.{All-contains, All-from_recursion}
 use Rattle.rga_ops.specs.Operation.{checked}
 use Rattle.rga_ops.specs.Content.{Content, Agree, join, content_of, known_ids}
-use Rattle.rga_ops.specs.Answer.{taken, taken_one_by_one}
+use Rattle.rga_ops.specs.Answer.{taken_one_by_one}
 use Rattle.rga_ops.specs.ListAnswer.{IsJoinable}
 use Rattle.rga_ops.specs.declared.op.Op.{Op}
-use Rattle.rga_ops.specs.declared.refusal.Refusal.{Refusal}
 use Rattle.rga_ops.proofs.MemberLaws.{all_append}
-use Rattle.rga_ops.proofs.TakenLaws.{took, one_by_one-append}
+use Rattle.rga_ops.proofs.TakenLaws.{took}
 use Rattle.rga_ops.proofs.KnownLaws.{takeable_is_taken, taken_list_within}
 use Rattle.rga_ops.proofs.ListAnswerLaws.{one_by_one_list, list_taken-iff}
-use Rattle.rga_lines.specs.Runs.{stretch_operations, run_deletions}
-use Rattle.rga_lines.specs.declared.line.Line.TheVariants.{One, Run, Deletions, Head, Last}
-use Rattle.rga_lines.specs.Table.{AnyReading, any_line_at}
+use Rattle.rga_lines.specs.Table.{any_line_at}
 use Rattle.rga_lines.specs.declared.line.TheConstants.{MAX_LINE}
 use Rattle.rga_lines.specs.Stream.{lines_of, rest_of}
 use Rattle.rga_lines.specs.Log.{operations_in, operations_of, operations_at, then_operations, log_operations, IsOperation, HasOnlyOperations}
@@ -29,8 +26,8 @@ use Rattle.rga_exchange.specs.declared.log.LogEnd.{LogEnd}
 use Rattle.rga_exchange.specs.declared.log.LogEnd.TheVariants.{Whole, Bare, Torn}
 use Rattle.rga_exchange.specs.declared.log.LogRead.{LogRead}
 use Rattle.rga_exchange.specs.declared.taking.Form.TheVariants.{Log}
-use Rattle.rga_exchange.specs.Taking.{AllTaken, AtFault, progress, taken_whole, stop_at_rest}
-use Rattle.rga_exchange.specs.Log.{LogOutcome, end_outcome, after_bare_operation, after_bare_line, after_rest, after_stop, after_lines, log_outcome}
+use Rattle.rga_exchange.specs.Taking.{AllTaken, AtFault, progress, stop_at_rest}
+use Rattle.rga_exchange.specs.Log.{end_outcome, after_bare_operation, after_rest, after_stop, after_lines, log_outcome}
 use Rattle.rga_exchange.specs.Sending.{StandsFor}
 use Rattle.rga_exchange.specs.Stops.{HasNothingTorn}
 use Rattle.rga_exchange.proofs.TakingLaws.{some_or_none, are_taken, lines_counted, took_front, operations_of-append}
@@ -66,10 +63,7 @@ log_only_operations limit c d read bytes h whole =
 
 operations_checked : (lines : List (List ℕ)) → AreChecked (operations_of lines)
 operations_checked [] = tt
-operations_checked (line ∷ lines) = elim (operations_at line) as (λ r. operations_at line ≡ r → AreChecked (then_operations r (operations_of lines))) [
-  | Ok ops ↦ λ reads. all_append (λ op. checked op ≡ Ok tt) ops (operations_of lines) (stand_checked line ops reads) (operations_checked lines)
-  | Err e ↦ λ reads. tt
-] refl
+operations_checked (line ∷ lines) = grind (arith, all_append, stand_checked, operations_checked lines)
 
 -- lines that are operations were taken one by one, and then others
 parts_taken : (limit : ℕ) (c d : Content) (lines others : List (List ℕ)) → AllByRecursion IsOperation lines → taken_one_by_one limit c (operations_of (lines ++ others)) ≡ Ok d → (e : Content) × (taken_one_by_one limit c (operations_of lines) ≡ Ok e) × (taken_one_by_one limit e (operations_of others) ≡ Ok d)
@@ -78,10 +72,7 @@ parts_taken limit c d lines others all h =
 
 -- a rest that is not empty and no operation
 none_torn : (b : ℕ) (bytes : List ℕ) (e : LineFault) → operations_at (b ∷ bytes) ≡ Err e → (b ∷ bytes ≡ []) ⊎ IsOperation (b ∷ bytes) → ⊥
-none_torn b bytes e reads (inl none) = absurd cc
-none_torn b bytes e reads (inr (ops, says)) =
-    let clash : stands_for_none e ≡ stands_for ops = sym reads ∙ says in
-    absurd cc
+none_torn b bytes e reads zp1 = grind arith
 
 abbrev ReadTo : ℕ → ℕ → Content → Content → List ℕ → Type 0
 ReadTo limit n c d rest = (read : LogRead) × (after_rest limit n c rest ≡ (d, Ok read)) × ((rest ≡ []) ⊎ IsOperation rest → HasNothingTorn read.end)
@@ -108,13 +99,7 @@ rest_read limit n c d (b ∷ bytes) within h = elim (some_or_none limit c (any_l
 
 -- a rest that is an operation, or none, is not too long
 rest_is_short : (rest : List ℕ) → (rest ≡ []) ⊎ IsOperation rest → length rest ≤ MAX_LINE
-rest_is_short rest (inl none) = subst (λ (r : List ℕ). length r ≤ MAX_LINE) (sym none) (lit≤ tt)
-rest_is_short rest (inr (ops, says)) = elim (cases_lt MAX_LINE (length rest)) [
-  | inl long ↦
-      let clash : stands_for_none line_fault.Long ≡ stands_for ops = sym (long_stands rest long) ∙ says in
-      absurd cc
-  | inr short ↦ short
-]
+rest_is_short rest zp1 = grind (arith, cases_lt, stands_for_none, stands_for, long_stands)
 
 log_to_end : (limit : ℕ) (c : Content) (bytes : List ℕ) → AllByRecursion IsOperation (lines_of bytes) → length (rest_of bytes) ≤ MAX_LINE → IsJoinable c (log_operations bytes) → finite_set.len (known_ids (join c (content_of (log_operations bytes)))) ≤ limit → (read : LogRead) × (log_outcome limit c bytes ≡ (join c (content_of (log_operations bytes)), Ok read)) × ((rest_of bytes ≡ []) ⊎ IsOperation (rest_of bytes) → HasNothingTorn read.end)
 log_to_end limit c bytes operations short joinable fits =

@@ -1,21 +1,19 @@
 -- What was taken of a stream or a log, as operations.
-use Rattle.std.proofs.Common.{◌≡◌, ◌≢◌, ℕ, ◌+◌, ◌≤◌, Bool, true, false, cond, List, [], ◌∷◌, ◌++◌, length, Option, Some, None, Result, Ok, Err, refl, sym, ap, subst, ◌∙◌, arith, nat_lt, append-nil, inl, inr, ◌⊎◌}
+use Rattle.std.proofs.Common.{◌≡◌, ◌≢◌, ℕ, ◌+◌, ◌≤◌, Bool, true, false, cond, List, [], ◌∷◌, ◌++◌, length, Option, Result, Ok, Err, refl, sym, ap, subst, ◌∙◌, arith, nat_lt, append-nil, inl, inr, ◌⊎◌}
 use Rattle.std.specs.Prelude.{IfSome}
-use Rattle.std.proofs.lemmas.Bool.{ltb-false, eq-eqb, ne_eqb}
+use Rattle.std.proofs.lemmas.Bool.{ltb-false}
 use Rattle.std.proofs.lemmas.List.{nil_from_length}
 use Rattle.std.proofs.lemmas.Option.{IfSome_then}
 use Rattle.rga_ops.specs.Content.{Content, join, content_of}
-use Rattle.rga_ops.specs.Answer.{taken, and_take, taken_one_by_one}
+use Rattle.rga_ops.specs.Answer.{taken, taken_one_by_one}
 use Rattle.rga_ops.specs.declared.op.Op.{Op}
 use Rattle.rga_ops.specs.declared.refusal.Refusal.{Refusal}
 use Rattle.rga_ops.proofs.TakenLaws.{taken_list_is, one_by_one-append}
-use Rattle.rga_lines.specs.Runs.{stretch_operations, run_deletions}
-use Rattle.rga_lines.specs.Table.{AnyReading, any_line_at}
+use Rattle.rga_lines.specs.Table.{any_line_at}
 use Rattle.rga_lines.specs.declared.line.TheConstants.{MAX_LINE}
 use Rattle.rga_lines.specs.Stream.{lines_of, rest_of}
-use Rattle.rga_lines.specs.Log.{operations_of, operations_at, stream_operations, log_operations, then_operations, is_head, behind_head, IsOperation}
+use Rattle.rga_lines.specs.Log.{operations_of, operations_at, stream_operations, log_operations, then_operations, IsOperation}
 use Rattle.rga_lines.specs.declared.fault.LineFault.{LineFault}
-use Rattle.rga_lines.specs.declared.line.Line.TheVariants.{One, Run, Deletions, Head, Last}
 use Rattle.rga_lines.specs.declared.fault.LineFault.TheVariants as line_fault
 use Rattle.rga_lines.proofs.StandLemmas.{stands, nothing_stands}
 use Rattle.rga_store.specs.Taking.{TakesMore}
@@ -25,15 +23,13 @@ use Rattle.rga_exchange.specs.declared.fault.LogFault.TheVariants as fault
 use Rattle.rga_exchange.specs.declared.log.LogEnd.{LogEnd}
 use Rattle.rga_exchange.specs.declared.log.LogEnd.TheVariants.{Whole, Bare, Torn}
 use Rattle.rga_exchange.specs.declared.taking.LineTaken.{LineTaken}
-use Rattle.rga_exchange.specs.declared.taking.LineTaken.TheVariants.{Operations, EndLine}
 use Rattle.rga_exchange.specs.declared.log.LogRead.{LogRead}
 use Rattle.rga_exchange.specs.declared.taking.Form.{Form}
 use Rattle.rga_exchange.specs.declared.taking.Form.TheVariants.{Log, Exchange}
-use Rattle.rga_exchange.specs.Taking.{may_be_head, body_behind, Stop, AllTaken, AtEnd, AtFault, Progress, progress, after_line, taken_whole, refused_at, go_on, lines_taken, stop_at_rest, stream_taken, Intake, TakesNone}
+use Rattle.rga_exchange.specs.Taking.{body_behind, Stop, AllTaken, AtEnd, AtFault, Progress, progress, after_line, lines_taken, stop_at_rest, stream_taken, Intake, TakesNone}
 use Rattle.rga_exchange.specs.Parts.{TakesAs}
-use Rattle.rga_exchange.specs.Log.{LogOutcome, end_outcome, after_bare_operation, after_bare_line, after_rest, after_stop, after_lines, log_outcome, bare_answer, TakesRest}
-use Rattle.rga_exchange.specs.Receiving.{number_received, exchange_outcome}
-use Rattle.rga_exchange.specs.declared.fault.ReceiveFault.{ReceiveFault}
+use Rattle.rga_exchange.specs.Log.{LogOutcome, end_outcome, after_bare_operation, after_rest, after_stop, after_lines, log_outcome, bare_answer, TakesRest}
+use Rattle.rga_exchange.specs.Receiving.{exchange_outcome}
 use Rattle.rga_exchange.specs.declared.fault.ReceiveFault.TheVariants as exchange_fault
 use Rattle.rga_exchange.specs.Stops.{StartsWithEnd, HasNothingTorn}
 use Rattle.rga_exchange.proofs.HeadLaws.{body-append}
@@ -47,14 +43,7 @@ ran r c = (c, r)
 
 -- nothing counts from an end line on
 nothing_behind : (form : Form) (n number : ℕ) (lines : List (List ℕ)) → StartsWithEnd lines number → operations_of (body_behind form n lines) ≡ []
-nothing_behind form n number lines w = ap (λ ls. operations_of (body_behind form n ls)) w.split ∙ by_place (may_be_head form (n + 1))
-  where
-    here : operations_of (w.line ∷ w.later) ≡ []
-    here = ap (λ r. then_operations r (operations_of w.later)) (stands w.line (Ok (Last number)) w.says)
-
-    by_place : (may : Bool) → operations_of (cond may (behind_head (w.line ∷ w.later)) (w.line ∷ w.later)) ≡ []
-    by_place true = ap (λ r. operations_of (cond (is_head r) w.later (w.line ∷ w.later))) w.says ∙ here
-    by_place false = here
+nothing_behind form n number lines w = grind (arith, stands)
 
 -- the lines of a stream before an end line are operations behind its head, which were taken
 lines_end : (form : Form) (limit n m : ℕ) (c d : Content) (number : ℕ) (lines : List (List ℕ)) → lines_taken form limit n c lines ≡ progress m d (AtEnd number) → taken_one_by_one limit c (operations_of (body_behind form n lines)) ≡ Ok d
@@ -74,23 +63,8 @@ ends_at_once form limit n c d number lines h =
     let none : w.front ≡ [] = nil_from_length w.front (omega (arith, w.count)) in
     ap (λ ls. operations_of (body_behind form n ls)) (w.split ∙ ap (λ (ls : List (List ℕ)). ls ++ w.later) none) ∙ nothing_behind form n number w.later w.reason
 
--- the rest of a stream changes nothing of an end that came before
-before_rest : (n : ℕ) (rest : List ℕ) (stop : Stop) (number : ℕ) → stop_at_rest n rest stop ≡ AtEnd number → stop ≡ AtEnd number
-before_rest n rest AllTaken number h = by_size (nat_lt MAX_LINE (length rest)) h
-  where
-    by_size : (b : Bool) → cond b (AtFault (fault.Line (n + 1) line_fault.Long)) AllTaken ≡ AtEnd number → AllTaken ≡ AtEnd number
-    by_size true h = absurd cc
-    by_size false h = h
-before_rest n rest (AtEnd k) number h = h
-before_rest n rest (AtFault e) number h = h
-
 pub stream_lines_end : (form : Form) (limit n : ℕ) (c d : Content) (number : ℕ) (bytes : List ℕ) → stream_taken form limit c bytes ≡ progress n d (AtEnd number) → lines_taken form limit 0 c (lines_of bytes) ≡ progress n d (AtEnd number)
-stream_lines_end form limit n c d number bytes h =
-    let t = lines_taken form limit 0 c (lines_of bytes) in
-    let lines : t.lines ≡ n = ap (λ (u : Progress). u.lines) h in
-    let content : t.content ≡ d = ap (λ (u : Progress). u.content) h in
-    let stop : t.stop ≡ AtEnd number = before_rest t.lines (rest_of bytes) t.stop number (ap (λ (u : Progress). u.stop) h) in
-    λ k. progress (lines k) (content k) (stop k)
+stream_lines_end form limit n c d number bytes h = grind arith
 
 -- what is received up to the end was taken, operation by operation
 pub stream_is_taken : (limit n : ℕ) (c d : Content) (number : ℕ) (bytes : List ℕ) → stream_taken Exchange limit c bytes ≡ progress n d (AtEnd number) → taken_one_by_one limit c (stream_operations bytes) ≡ Ok d
@@ -108,59 +82,16 @@ is_read_to_end read = Ok read
 pub no_fault : {c d : Content} (e : LogFault) (read : LogRead) → ran (Err e) c ≡ ran (Ok read) d → ⊥
 no_fault e read h = let clash : Err e ≡ is_read_to_end read = ap (λ (o : LogOutcome). o.1) h in cc
 
--- what a rest that is not empty leads to, by what it leads to as a line
-abbrev after_bare : ℕ → Content → ℕ → Result Content Stop → LogOutcome
-after_bare n c bytes (Ok d) = end_outcome n d Bare
-after_bare n c bytes (Err (AtFault (fault.Refused k e))) = (c, Err (fault.Refused k e))
-after_bare n c bytes (Err stop) = end_outcome n c (Torn bytes)
-
-bare_operation : (n : ℕ) (c : Content) (bytes : ℕ) (r : Result Content Refusal) → after_bare_operation n c r ≡ after_bare n c bytes (refused_at (n + 1) r)
-bare_operation n c bytes (Ok d) = refl
-bare_operation n c bytes (Err e) = refl
-
-bare_line : (limit n : ℕ) (c : Content) (bytes : ℕ) (r : AnyReading) → after_bare_line limit n c bytes r ≡ after_bare n c bytes (after_line Log limit (n + 1) c r)
-bare_line limit n c bytes (Ok (One op)) = bare_operation n c bytes (taken limit c op)
-bare_line limit n c bytes (Ok (Run r)) = bare_operation n c bytes (taken_whole limit c (stretch_operations r))
-bare_line limit n c bytes (Ok (Deletions r)) = bare_operation n c bytes (taken_whole limit c (run_deletions r))
-bare_line limit n c bytes (Ok Head) = refl
-bare_line limit n c bytes (Ok (Last number)) = refl
-bare_line limit n c bytes (Err e) = refl
-
-bare_rest : (limit n : ℕ) (c : Content) (rest : List ℕ) → length rest ≢ 0 → after_rest limit n c rest ≡ after_bare n c (length rest) (after_line Log limit (n + 1) c (any_line_at rest))
-bare_rest limit n c [] some = absurd (some refl)
-bare_rest limit n c (b ∷ bytes) some = bare_line limit n c (length (b ∷ bytes)) (any_line_at (b ∷ bytes))
-
 -- what becomes of the rest
 module _ (took : Intake) (n : ℕ) (rest : List ℕ) where
   pub rest_empty : length rest ≡ 0 → TakesNone took → TakesRest took n rest (Ok Whole)
-  rest_empty empty none =
-      let is = nil_from_length rest empty in (
-        ap (after_rest took.limit n took.old) is ∙ ap (λ (d : Content). end_outcome n d Whole) (sym none.same),
-        subst took.follows (sym (ap (λ (l : List ℕ). operations_of (l ∷ [])) is ∙ ap (λ r. then_operations r []) nothing_stands)) none.nothing,
-      )
+  rest_empty empty none = grind (arith, nil_from_length, nothing_stands)
 
   pub rest_takes : (r : Result LineTaken LogFault) → length rest ≢ 0 → TakesAs took (after_line Log took.limit (n + 1) took.old (any_line_at rest)) (operations_of (rest ∷ [])) r → TakesRest took n rest (bare_answer (length rest) r)
-  rest_takes r some h = by_answer r h
-    where
-      leads : (r : Result Content Stop) → after_line Log took.limit (n + 1) took.old (any_line_at rest) ≡ r → after_rest took.limit n took.old rest ≡ after_bare n took.old (length rest) r
-      leads r is = bare_rest took.limit n took.old rest some ∙ ap (after_bare n took.old (length rest)) is
-
-      torn : TakesNone took → operations_of (rest ∷ []) ≡ [] → after_rest took.limit n took.old rest ≡ end_outcome n took.old (Torn (length rest)) → TakesRest took n rest (Ok (Torn (length rest)))
-      torn none no_operation is = (is ∙ ap (λ (d : Content). end_outcome n d (Torn (length rest))) (sym none.same), subst took.follows (sym no_operation) none.nothing)
-
-      by_answer : (r : Result LineTaken LogFault) → TakesAs took (after_line Log took.limit (n + 1) took.old (any_line_at rest)) (operations_of (rest ∷ [])) r → TakesRest took n rest (bare_answer (length rest) r)
-      by_answer (Ok (Operations count)) h = (leads _ h.0, h.1)
-      by_answer (Ok (EndLine number)) h = torn h.2 h.1 (leads _ h.0)
-      by_answer (Err (fault.Line k e)) h = torn h.2 h.1 (leads _ h.0)
-      by_answer (Err (fault.Refused k e)) h = (leads _ h.0 ∙ ap (λ (d : Content). ran (Err (fault.Refused k e)) d) (sym h.1.same), h.1)
-      by_answer (Err fault.Read) h = absurd h
-      by_answer (Err fault.Memory) h = h
+  rest_takes r some h = grind arith
 
   pub rest_fails : (e : LogFault) → TakesRest took n rest (Err e) → (e ≢ fault.Memory → after_rest took.limit n took.old rest ≡ ran (Err e) took.new) × TakesNone took × (e ≢ fault.Read)
-  rest_fails (fault.Line k x) h = absurd h
-  rest_fails (fault.Refused k x) h = ((λ _. h.0), h.1, (λ is. absurd cc))
-  rest_fails fault.Read h = absurd h
-  rest_fails fault.Memory h = ((λ not_memory. absurd (not_memory refl)), h, (λ is. absurd cc))
+  rest_fails zp1 h = grind (arith)
 
 -- how the rest of a log ends it, at content c behind n lines
 pub record RestTaken (limit n : ℕ) (c d : Content) (read : LogRead) (rest : List ℕ) : Type 0 where
@@ -239,12 +170,6 @@ log_joined limit c d read bytes h = (taken_list_is limit c (log_operations bytes
 
 -- ---- of a device that tells its bytes
 
-abbrev pub was_received : ℕ → Result ℕ ReceiveFault
-was_received n = Ok n
-
-abbrev pub not_received : ReceiveFault → Result ℕ ReceiveFault
-not_received e = Err e
-
 abbrev pub EndsBehind : Option (List ℕ) → ℕ → ℕ → ℕ → ℕ → Content → Content → Type 0
 EndsBehind known limit n j number c d = IfSome known (λ bytes. (stream_taken Exchange limit c bytes ≡ progress n d (AtEnd number)) × (j ≡ length (stream_operations bytes)))
 
@@ -260,16 +185,10 @@ pub received_number : (known : Option (List ℕ)) (limit n j number : ℕ) (c d 
 received_number known limit n j number c d same h = IfSome_then known h (λ bytes k. same ∙ k.1)
 
 pub received_all : (known : Option (List ℕ)) (limit n j number : ℕ) (c d : Content) → number ≡ j → EndsBehind known limit n j number c d → IfSome known (λ bytes. exchange_outcome limit c bytes ≡ (d, Ok number))
-received_all known limit n j number c d same h = IfSome_then known h (λ bytes h.
-    ap (λ (t : Progress). (t.content, number_received (length (stream_operations bytes)) t.stop)) h.0
-    ∙ (λ k. (d, number_received (sym (same ∙ h.1) k) (AtEnd number)))
-    ∙ ap (λ b. (d, cond b (was_received number) (not_received exchange_fault.Count))) (eq-eqb number number refl))
+received_all known limit n j number c d same h = grind arith
 
 pub received_other : (known : Option (List ℕ)) (limit n j number : ℕ) (c d : Content) → (number ≡ j → ⊥) → EndsBehind known limit n j number c d → IfSome known (λ bytes. exchange_outcome limit c bytes ≡ (d, Err exchange_fault.Count))
-received_other known limit n j number c d other h = IfSome_then known h (λ bytes h.
-    let all : ℕ = length (stream_operations bytes) in
-    ap (λ (t : Progress). (t.content, number_received all t.stop)) h.0
-    ∙ ap (λ b. (d, cond b (was_received all) (not_received exchange_fault.Count))) (ne_eqb number all (λ e. other (e ∙ sym h.1))))
+received_other known limit n j number c d other h = grind arith
 
 -- a log of which all lines were taken, and then the rest; the taker's own limit may be another name of the same number
 pub log_ends : (limit own n : ℕ) (c e d : Content) (rest bytes : List ℕ) (told : Result LogRead LogFault) → own ≡ limit → (stream_taken Log limit c bytes ≡ progress n e AllTaken) × (rest_of bytes ≡ rest) → after_rest own n e rest ≡ ran told d → log_outcome limit c bytes ≡ ran told d
@@ -277,9 +196,7 @@ log_ends limit own n c e d rest bytes told is h outcome =
     (λ k. after_lines limit (h.1 k) (h.0 k)) ∙ sym (ap (λ l. after_rest l n e rest) is) ∙ outcome
 
 pub log_ends_outcome : (known : Option (List ℕ)) (limit own n : ℕ) (c e d : Content) (rest : List ℕ) (told : Result LogRead LogFault) → own ≡ limit → IfSome known (λ bytes. (stream_taken Log limit c bytes ≡ progress n e AllTaken) × (rest_of bytes ≡ rest)) → after_rest own n e rest ≡ ran told d → IfSome known (λ bytes. let p = log_outcome limit c bytes in (p.0 ≡ d) × (p.1 ≡ told))
-log_ends_outcome known limit own n c e d rest told is h outcome = IfSome_then known h (λ bytes h.
-    let all = log_ends limit own n c e d rest bytes told is h outcome in
-    (ap (λ (o : LogOutcome). o.0) all, ap (λ (o : LogOutcome). o.1) all))
+log_ends_outcome known limit own n c e d rest told is h outcome = grind arith
 
 pub log_ends_joined : (known : Option (List ℕ)) (limit own n : ℕ) (c e d : Content) (rest : List ℕ) (end : LogEnd) → own ≡ limit → IfSome known (λ bytes. (stream_taken Log limit c bytes ≡ progress n e AllTaken) × (rest_of bytes ≡ rest)) → after_rest own n e rest ≡ end_outcome n d end → IfSome known (λ bytes. d ≡ join c (content_of (log_operations bytes)))
 log_ends_joined known limit own n c e d rest end is h outcome = IfSome_then known h (λ bytes h.

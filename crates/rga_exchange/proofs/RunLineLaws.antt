@@ -1,11 +1,11 @@
 -- Lines of a list in which neighbours that are a run stand in one say the operations of the list.
-use Rattle.std.proofs.Common.{◌≡◌, ℕ, zero, suc, ◌+◌, ◌-◌, ◌<◌, ◌≤◌, Bool, true, false, cond, ◌&&◌, List, [], ◌∷◌, ◌++◌, length, take, drop, Option, Some, None, Ok, refl, sym, ap, subst, ◌∙◌, append_assoc, append-nil, arith, lit<}
+use Rattle.std.proofs.Common.{◌≡◌, ℕ, zero, suc, ◌+◌, ◌-◌, ◌<◌, ◌≤◌, ◌&&◌, List, [], ◌∷◌, ◌++◌, length, take, drop, Option, Some, None, Ok, refl, sym, ap, subst, ◌∙◌, append_assoc, arith}
 use Rattle.std.specs.Char.{IsScalar}
 use Rattle.std.specs.List.{AllByRecursion}
 use Rattle.std.specs.Option.{option_map_or}
 use Rattle.std.proofs.lemmas.Bool.{leb-false, and_parts}
 use Rattle.std.proofs.lemmas.Option.{cond_some}
-use Rattle.std.proofs.lemmas.List.{take-append-drop, length_push}
+use Rattle.std.proofs.lemmas.List.{take-append-drop}
 use Rattle.std.proofs.lemmas.List.Elements.{All-from_recursion, recursion_from_All, All-weaker, All-take, All-contains_itself}
 use Rattle.std.specs.Prelude.{Contains}
 use Rattle.rga_ops.specs.Identifier.{Identifier, is_id}
@@ -17,7 +17,6 @@ use Rattle.rga_ops.specs.declared.op.Op.{Op}
 use Rattle.rga_ops.specs.declared.op.Op.TheVariants.{Insert, Delete}
 use Rattle.rga_ops.proofs.AnswerLaws.{well_formed_insertion}
 use Rattle.rga_ops.proofs.IdentifierLaws.{is_id-is}
-use Rattle.rga_ops.proofs.OperationLaws.{Contains-first}
 use Rattle.rga_lines.specs.declared.run.TheConstants.{MAX_RUN}
 use Rattle.rga_exchange.specs.Counting.{Calls, WritesFront, WritesAllBut}
 use Rattle.rga_lines.specs.Runs.{stretch, next, run_operations}
@@ -55,14 +54,7 @@ front_are : (last : Identifier) (room : ℕ) (ops : List Op) → run_operations 
 unfolding front_characters
 front_are last zero ops = refl
 front_are last (suc room) [] = refl
-front_are last (suc room) (op ∷ ops) = elim (going_behind last op) as (λ o. going_behind last op ≡ o
-    → run_operations (next last) last (option_map_or (λ p. p.1 ∷ front_characters p.0 room ops) o []) ≡ take (length (option_map_or (λ p. p.1 ∷ front_characters p.0 room ops) o [])) (op ∷ ops)) [
-      | None ↦ λ is. refl
-      | Some p ↦ λ is.
-          let behind = is_behind last op p is in
-          subst (λ (i : Identifier). Insert (next last) last p.1 ∷ run_operations (next (next last)) (next last) (front_characters i room ops) ≡ op ∷ take (length (front_characters i room ops)) ops) (sym behind.id)
-          (λ k. sym behind.is k ∷ front_are (next last) room ops k)
-    ] refl
+front_are last (suc room) (op ∷ ops) = grind (arith, is_behind, front_are (next last) room ops)
 
 front_few : (last : Identifier) (room : ℕ) (ops : List Op) → length (front_characters last room ops) ≤ room
 unfolding front_characters
@@ -121,9 +113,7 @@ front_full max id ch behind chars last rest begun full = begun_whole front_from 
 
 none_left : (last : Identifier) (room : ℕ) (ops : List Op) → length ops ≡ 0 → front_characters last room ops ≡ []
 unfolding front_characters
-none_left last zero ops none = refl
-none_left last (suc room) [] none = refl
-none_left last (suc room) (op ∷ ops) none = absurd (omega (arith, none))
+none_left last zp1 ops none = grind (arith)
 
 pub front_last : (max : ℕ) (id : Identifier) (ch : ℕ) (behind : List Op) (chars : List ℕ) (last : Identifier) (rest : List Op) → IsFrontBegun max id ch behind chars last rest → length rest ≡ 0 → chars ≡ ch ∷ front_characters id (max - 1) behind
 front_last max id ch behind chars last rest begun none = begun_whole front_from max (ch ∷ front_characters id (max - 1) behind) chars (last, rest) begun (none_left last (max - length chars) rest none)
@@ -161,12 +151,7 @@ ends_within id parent ch [] h = omega (arith, (within id h.0.0.0).counter)
 ends_within id parent ch (d ∷ chars) h = omega (arith, ends_within (next id) id d chars h.1)
 
 writable_run : (id parent : Identifier) (ch : ℕ) (chars : List ℕ) → AreSayable (run_operations id parent (ch ∷ chars)) → length (ch ∷ chars) ≤ MAX_RUN → IsWritableRun (stretch id parent (ch ∷ chars))
-writable_run id parent ch chars h few = record {
-  id = h.0.0.0;
-  parent = h.0.0.1;
-  scalars = scalars id parent (ch ∷ chars) h;
-  run = record { some = omega arith; few = few; end = ends_within id parent ch chars h; rising = leb-false id.counter parent.counter (well_formed_insertion id parent ch h.0.1).1 };
-}
+writable_run id parent ch chars h few = grind (arith, scalars, ends_within, leb-false, well_formed_insertion)
 
 pub run_says : (id parent : Identifier) (ch : ℕ) (chars : List ℕ) → AreSayable (run_operations id parent (ch ∷ chars)) → length (ch ∷ chars) ≤ MAX_RUN → Says (stretch_line (stretch id parent (ch ∷ chars))) (run_operations id parent (ch ∷ chars))
 run_says id parent ch [] h few = line_says (Insert id parent ch) h.0.0 h.0.1
@@ -229,11 +214,7 @@ lines_of_rest (suc n) (op ∷ ops) = lines_of_rest n ops
 
 module _ {W : Type 0} (contents : W → Option (List ℕ)) where
   pub runs_gained : (a b : Calls W) (ops : List Op) → (AreWellFormed ops → AreWritable ops) → WritesFront contents a b (runs_text ops) → AppendsFirst contents a b ops
-  runs_gained a b ops writable h = record {
-    front = h.front;
-    written = h.written;
-    gained = λ bytes held stands ended well joinable. runs_begun bytes held ops h.front h.rest stands ended (writable well) well joinable (sym h.parts);
-  }
+  runs_gained a b ops writable h = grind (arith, runs_begun)
 
   -- a block that begins empty, and what was written of it
   pub runs_front : (a b : Calls W) (start text : List ℕ) → start ≡ [] → WritesFront contents a b (start ++ text) → WritesFront contents a b text

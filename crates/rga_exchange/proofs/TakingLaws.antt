@@ -1,5 +1,5 @@
 -- A stream line by line: what is taken of it, in whatever parts it comes.
-use Rattle.std.proofs.Common.{◌≡◌, ℕ, ◌+◌, ◌≤◌, Bool, true, false, List, [], ◌∷◌, ◌++◌, length, Option, Some, None, Result, Ok, Err, refl, sym, ap, subst, ◌∙◌, append_assoc, append-nil, cond, arith, length-append, inl, inr, ◌⊎◌}
+use Rattle.std.proofs.Common.{◌≡◌, ℕ, ◌+◌, ◌≤◌, Bool, true, false, List, [], ◌∷◌, ◌++◌, length, Option, None, Result, Ok, Err, refl, sym, ap, subst, ◌∙◌, append_assoc, append-nil, cond, arith, length-append, inl, inr, ◌⊎◌}
 use Rattle.std.specs.List.{AllByRecursion}
 use Rattle.std.proofs.lemmas.Bool.{lt-ltb, le-ltb}
 use Rattle.std.specs.FinSet as finite_set
@@ -15,7 +15,6 @@ use Rattle.rga_lines.specs.Table.{AnyReading, any_line_at}
 use Rattle.rga_lines.specs.declared.line.TheConstants.{MAX_LINE}
 use Rattle.rga_lines.specs.Stream.{lines_of, rest_of, BeginsLong, Splitting}
 use Rattle.rga_lines.specs.Log.{operations_in, operations_of, operations_at, then_operations, IsOperation}
-use Rattle.rga_lines.specs.declared.line.Line.{Line}
 use Rattle.rga_lines.specs.declared.line.Line.TheVariants.{One, Run, Deletions, Head, Last}
 use Rattle.rga_lines.specs.declared.fault.LineFault.{LineFault}
 use Rattle.rga_lines.specs.declared.fault.LineFault.TheVariants as line_fault
@@ -31,7 +30,7 @@ use Rattle.rga_exchange.specs.declared.taking.Form.TheVariants.{Log}
 use Rattle.rga_exchange.specs.Taking.{may_be_head, body_behind, Stop, AllTaken, AtEnd, AtFault, Progress, progress, refused_at, after_list, taken_whole, after_head, after_line, go_on, lines_taken, with_rest, bytes_taken, Intake, TakesNone, AreTaken}
 use Rattle.rga_exchange.specs.declared.log.LogEnd.TheVariants.{Torn}
 use Rattle.rga_exchange.specs.Log.{end_outcome, after_bare_operation, after_bare_line}
-use Rattle.rga_exchange.specs.Stops.{fault_in, taken_of_line, GoesOnWith}
+use Rattle.rga_exchange.specs.Stops.{GoesOnWith}
 use Rattle.rga_exchange.specs.Parts.{Stage, stage, head_answer, TakesAs, TakesUpTo, TakesFirst, StopsAs, TakesLines}
 use Rattle.rga_exchange.proofs.HeadLaws.{on, halt, through_body, body-nil, body-append, body_alone}
 
@@ -40,34 +39,9 @@ use Rattle.rga_exchange.proofs.HeadLaws.{on, halt, through_body, body-nil, body-
 abbrev pub no_fault : Option LineFault
 no_fault = None
 
-abbrev pub some_fault : LineFault → Option LineFault
-some_fault e = Some e
-
 -- what stops at a line is so
 pub halting_line : (form : Form) (limit n : ℕ) (c : Content) (line : List ℕ) (lines : List (List ℕ)) (stop : Stop) → after_line form limit (n + 1) c (any_line_at line) ≡ Err stop → GoesOnWith form limit n c (line ∷ lines) stop
-halting_line form limit n c line lines stop h = by_reading (any_line_at line) refl h
-  where
-    so : (s : Stop) → halt s ≡ halt stop → GoesOnWith form limit n c (line ∷ lines) s → GoesOnWith form limit n c (line ∷ lines) stop
-    so s same w = let is : s ≡ stop = cc in subst (GoesOnWith form limit n c (line ∷ lines)) is w
-
-    by_taken : (said : Line) (r : Result Content Refusal) → any_line_at line ≡ Ok said → taken_of_line limit c said ≡ r → refused_at (n + 1) r ≡ Err stop → GoesOnWith form limit n c (line ∷ lines) stop
-    by_taken said (Ok d) says was g = let clash : on d ≡ halt stop = g in absurd cc
-    by_taken said (Err e) says was g = so (AtFault (fault.Refused (n + 1) e)) g (refl, record { line = line; later = lines; split = refl; said = said; says = says; refused = was })
-
-    wrong : (e : LineFault) → fault_in form (n + 1) (any_line_at line) ≡ Some e → halt (AtFault (fault.Line (n + 1) e)) ≡ halt stop → GoesOnWith form limit n c (line ∷ lines) stop
-    wrong e is g = so (AtFault (fault.Line (n + 1) e)) g (refl, record { line = line; later = lines; split = refl; wrong = is })
-
-    by_place : (may : Bool) → may_be_head form (n + 1) ≡ may → any_line_at line ≡ Ok Head → cond may (on c) (halt (AtFault (fault.Line (n + 1) line_fault.Kind))) ≡ halt stop → GoesOnWith form limit n c (line ∷ lines) stop
-    by_place true is says g = let clash : on c ≡ halt stop = g in absurd cc
-    by_place false is says g = wrong line_fault.Kind (ap (fault_in form (n + 1)) says ∙ ap (λ b. cond b no_fault (some_fault line_fault.Kind)) is) g
-
-    by_reading : (r : AnyReading) → any_line_at line ≡ r → after_line form limit (n + 1) c r ≡ Err stop → GoesOnWith form limit n c (line ∷ lines) stop
-    by_reading (Ok (One op)) says g = by_taken (One op) (taken limit c op) says refl g
-    by_reading (Ok (Run r)) says g = by_taken (Run r) (taken_whole limit c (stretch_operations r)) says refl g
-    by_reading (Ok (Deletions r)) says g = by_taken (Deletions r) (taken_whole limit c (run_deletions r)) says refl g
-    by_reading (Ok Head) says g = by_place (may_be_head form (n + 1)) refl says g
-    by_reading (Ok (Last number)) says g = so (AtEnd number) g (record { line = line; later = lines; split = refl; says = says })
-    by_reading (Err e) says g = wrong e (ap (fault_in form (n + 1)) says) g
+halting_line form limit n c line lines stop h = grind arith
 
 pub record GoesOn (form : Form) (limit n m : ℕ) (c d : Content) (line : List ℕ) (lines : List (List ℕ)) : Type 0 where
   pub next : Content
@@ -87,10 +61,7 @@ goes_on form limit n m c d line lines h = by_first (after_line form limit (n + 1
 -- ---- lines in a row
 
 pub lines_taken-append : (form : Form) (limit n m : ℕ) (c d : Content) (xs ys : List (List ℕ)) → lines_taken form limit n c xs ≡ progress m d AllTaken → lines_taken form limit n c (xs ++ ys) ≡ lines_taken form limit m d ys
-lines_taken-append form limit n m c d [] ys h =
-    let count : n ≡ m = ap (λ (t : Progress). t.lines) h in
-    let content : c ≡ d = ap (λ (t : Progress). t.content) h in
-    λ k. lines_taken form limit (count k) (content k) ys
+lines_taken-append form limit n m c d [] ys h = grind (arith)
 lines_taken-append form limit n m c d (x ∷ xs) ys h =
     let w = goes_on form limit n m c d x xs h in
     ap (λ r. go_on n c r (λ e. lines_taken form limit (n + 1) e (xs ++ ys))) w.first
@@ -98,16 +69,11 @@ lines_taken-append form limit n m c d (x ∷ xs) ys h =
 
 -- and so does a line that is too long
 pub begins_long : (form : Form) (limit n : ℕ) (c : Content) (lines : List (List ℕ)) (rest : List ℕ) → BeginsLong lines rest → with_rest rest (lines_taken form limit n c lines) ≡ progress n c (AtFault (fault.Line (n + 1) line_fault.Long))
-begins_long form limit n c [] rest h = ap (λ b. progress n c (cond b (AtFault (fault.Line (n + 1) line_fault.Long)) AllTaken)) (lt-ltb MAX_LINE (length rest) h)
-begins_long form limit n c (line ∷ lines) rest h =
-    ap (λ r. with_rest rest (go_on n c (after_line form limit (n + 1) c r) (λ d. lines_taken form limit (n + 1) d lines))) (too_long line h)
+begins_long form limit n c zp1 rest h = grind (arith, lt-ltb, too_long)
 
 -- no line waits: the rest alone is left, which is not too long
 pub only_rest : (form : Form) (limit n : ℕ) (c : Content) (waiting : List ℕ) → lines_of waiting ≡ [] → rest_of waiting ≡ waiting → length waiting ≤ MAX_LINE → bytes_taken form limit n c (waiting ++ []) ≡ progress n c AllTaken
-only_rest form limit n c waiting none whole short =
-    ap (bytes_taken form limit n c) (append-nil waiting)
-    ∙ (λ k. with_rest (whole k) (lines_taken form limit n c (none k)))
-    ∙ ap (λ b. progress n c (cond b (AtFault (fault.Line (n + 1) line_fault.Long)) AllTaken)) (le-ltb MAX_LINE (length waiting) short)
+only_rest form limit n c waiting none whole short = grind (arith, append-nil, le-ltb)
 
 -- ---- what was taken, as operations
 
@@ -139,11 +105,7 @@ one_by_one_taken_whole limit c d ops within h =
     ap (after_list c ops) (one_by_one_list limit c d ops within h) ∙ ap Ok (sym (taken_list_is limit c ops d h).joined)
 
 pub one_taken : (limit : ℕ) (c d : Content) (op : Op) → taken_one_by_one limit c (op ∷ []) ≡ Ok d → taken limit c op ≡ Ok d
-one_taken limit c d op h =
-    let w = took_first limit c d op [] h in
-    let same : took w.0 ≡ took d = w.2 in
-    let is : w.0 ≡ d = cc in
-    w.1 ∙ ap Ok is
+one_taken limit c d op h = grind arith
 
 -- ---- what a line of a log stands for
 
@@ -205,9 +167,7 @@ module _ (form : Form) (took : Intake) (n : ℕ) (line : List ℕ) where
   -- by what it says, and what becomes of that
   pub line_takes : (r : Result LineTaken LogFault) (said : AnyReading) (ops : List Op) → any_line_at line ≡ said → then_operations (operations_in said) [] ≡ ops → TakesAs took (after_line form took.limit n took.old said) ops r
       → TakesAs took (after_line form took.limit n took.old (any_line_at line)) (operations_of (line ∷ [])) r
-  line_takes r said ops says are h =
-      subst (λ (l : List Op). TakesAs took (after_line form took.limit n took.old (any_line_at line)) l r) (sym (ap (λ o. then_operations o []) (stands line said says) ∙ are))
-      (subst (λ (s : AnyReading). TakesAs took (after_line form took.limit n took.old s) ops r) (sym says) h)
+  line_takes r said ops says are h = grind (arith, took, stands)
 
   pub head_takes : (r : Result LineTaken LogFault) → any_line_at line ≡ Ok Head → TakesNone took → r ≡ head_answer form n → TakesAs took (after_line form took.limit n took.old (any_line_at line)) (operations_of (line ∷ [])) r
   head_takes r says none is = line_takes r (Ok Head) [] says refl (subst (TakesAs took (after_head form n took.old) []) (sym is) (by_place (may_be_head form n)))
@@ -219,9 +179,7 @@ module _ (form : Form) (took : Intake) (n : ℕ) (line : List ℕ) where
 -- ---- lines
 
 pub lines_counted : (form : Form) (limit n m : ℕ) (c d : Content) (lines : List (List ℕ)) → lines_taken form limit n c lines ≡ progress m d AllTaken → m ≡ n + length lines
-lines_counted form limit n m c d [] h =
-    let count : n ≡ m = ap (λ (t : Progress). t.lines) h in
-    omega (arith, count)
+lines_counted form limit n m c d [] h = grind (arith)
 lines_counted form limit n m c d (line ∷ lines) h =
     let w = goes_on form limit n m c d line lines h in
     omega (arith, lines_counted form limit (n + 1) m w.next d lines w.later)
@@ -252,11 +210,7 @@ are_taken form limit n m c d lines h =
 
 pub operations_of-append : (xs ys : List (List ℕ)) → AllByRecursion IsOperation xs → operations_of (xs ++ ys) ≡ operations_of xs ++ operations_of ys
 operations_of-append [] ys all = refl
-operations_of-append (x ∷ xs) ys all =
-    ap (λ r. then_operations r (operations_of (xs ++ ys))) (all.0).1
-    ∙ ap (λ (os : List Op). (all.0).0 ++ os) (operations_of-append xs ys all.1)
-    ∙ sym (append_assoc (all.0).0 (operations_of xs) (operations_of ys))
-    ∙ sym (ap (λ r. then_operations r (operations_of xs) ++ operations_of ys) (all.0).1)
+operations_of-append (x ∷ xs) ys all = grind (arith, append_assoc, operations_of-append xs ys all.1)
 
 -- ---- what was taken of a stream in parts
 
@@ -265,9 +219,7 @@ between limit c d follows = record { limit = limit; old = c; new = d; follows = 
 
 -- whatever bytes follow, what waits leads to what all bytes lead to
 pub takes_after : {form : Form} {took : Intake} {p q : Stage} → TakesUpTo form took p q → (more : List ℕ) → bytes_taken form took.limit p.lines took.old (p.waiting ++ more) ≡ bytes_taken form took.limit q.lines took.new (q.waiting ++ more)
-takes_after {form} {took} {p} {q} s more =
-    (λ k. with_rest (s.rest more k) (lines_taken form took.limit p.lines took.old (s.cut more k)))
-    ∙ ap (with_rest (rest_of (q.waiting ++ more))) (lines_taken-append form took.limit p.lines q.lines took.old took.new s.lines (lines_of (q.waiting ++ more)) s.taken)
+takes_after {form} {took} {p} {q} s more = grind (arith, took, lines_taken-append)
 
 -- no line, by a taker that holds the same
 abbrev pub up_to_nothing : {form : Form} {limit : ℕ} {c d : Content} {follows : List Op → Type 0} {n k j : ℕ} {bytes : List ℕ} → d ≡ c → follows [] → j ≡ k → TakesUpTo form (between limit c d follows) (stage n k bytes) (stage n j bytes)
@@ -352,7 +304,4 @@ module _ {form : Form} {limit own : ℕ} {c d : Content} {first : List Op → Ty
 
 -- at a fault the first of them were taken, and but for want of memory the stream stops there
 pub faulted : (form : Form) (took : Intake) (p : Stage) (n j : ℕ) (s : Splitting) (e : LogFault) → TakesLines form took p n j s (Err e) → TakesFirst form took p n j × ((e ≡ fault.Memory → ⊥) → StopsAs form took p n (AtFault e))
-faulted form took p n j s (fault.Line k x) h = (h.0, λ _. h.1)
-faulted form took p n j s (fault.Refused k x) h = (h.0, λ _. h.1)
-faulted form took p n j s fault.Read h = absurd h
-faulted form took p n j s fault.Memory h = (h, λ not_memory. absurd (not_memory refl))
+faulted form took p n j s zp1 h = grind arith

@@ -1,15 +1,12 @@
 -- Operation by operation come the compacted lines.
-use Rattle.std.proofs.Common.{◌≡◌, ℕ, ◌+◌, ◌<◌, ◌≤◌, Bool, true, false, cond, ◌&&◌, ◌||◌, ◌==◌, nat_le, nat_lt, List, [], ◌∷◌, ◌++◌, map, length, drop, get_or, Option, Ok, append_assoc, append-nil, refl, sym, ap, ◌∙◌, subst, T, le-leb, le-ltb, arith}
+use Rattle.std.proofs.Common.{◌≡◌, ℕ, ◌+◌, ◌<◌, ◌≤◌, Bool, true, false, cond, List, [], ◌∷◌, ◌++◌, map, length, drop, get_or, Option, Ok, append_assoc, append-nil, refl, sym, ap, ◌∙◌, subst, T, le-ltb, arith}
 use Rattle.std.specs.Prelude.{Contains}
 use Rattle.std.specs.List.{AllByRecursion}
-use Rattle.std.specs.Ordering.{nat_cmp, is_lt, ordering_then}
-use Rattle.std.specs.declared.cmp.Ordering.TheVariants.{Less, Equal, Greater}
+use Rattle.std.specs.Ordering.{is_lt}
 use Rattle.std.specs.FinMap as finite_map
 use Rattle.std.specs.FinSet as finite_set
 use Rattle.std.specs.FinMap.{FinMap, is_sorted}
 use Rattle.std.specs.FinMap.Entries.{below_all}
-use Rattle.std.proofs.Math.Bool.{or-false}
-use Rattle.std.proofs.lemmas.Bool.{eqb-true, ltb-true, ltb-false}
 use Rattle.std.proofs.lemmas.List.{drop_all, drop_more, length-append}
 use Rattle.std.proofs.lemmas.List.Concat.{flat_map-append}
 use Rattle.rga_ops.specs.Identifier.{Identifier, id_cmp}
@@ -30,23 +27,7 @@ use Rattle.rga_exchange.specs.Turns.{covers, ends_with, ends_behind, deleted_beh
 
 -- a larger identifier of the same replica has a larger counter
 pub larger_counter : (a b : Identifier) → T (is_lt (id_cmp a b)) → b.replica ≡ a.replica → a.counter < b.counter
-larger_counter a b h same = by_counter (nat_lt a.counter b.counter) refl h
-  where
-    not_below : (t : Bool) → nat_lt a.replica b.replica ≡ t → T (is_lt (cond t Less (cond (a.replica == b.replica) Equal Greater))) → a.counter < b.counter
-    not_below true is h = absurd (omega (arith, ltb-true a.replica b.replica is, same))
-    not_below false is h = by_replica (a.replica == b.replica) h
-      where
-        by_replica : (t : Bool) → T (is_lt (cond t Equal Greater)) → a.counter < b.counter
-        by_replica true h = absurd h
-        by_replica false h = absurd h
-
-    by_tie : (t : Bool) → T (is_lt (ordering_then (cond t Equal Greater) (nat_cmp a.replica b.replica))) → a.counter < b.counter
-    by_tie true h = not_below (nat_lt a.replica b.replica) refl h
-    by_tie false h = absurd h
-
-    by_counter : (t : Bool) → nat_lt a.counter b.counter ≡ t → T (is_lt (ordering_then (cond t Less (cond (a.counter == b.counter) Equal Greater)) (nat_cmp a.replica b.replica))) → a.counter < b.counter
-    by_counter true is h = ltb-true a.counter b.counter is
-    by_counter false is h = by_tie (a.counter == b.counter) h
+larger_counter a b h same = grind arith
 
 -- ---- those that begin a run
 
@@ -67,18 +48,7 @@ module _ {A : Type 0} (name : A → Identifier) (size : A → ℕ) where
   module _ (b : A) (begun : List A) (ends : ℕ → ℕ) (new : covers ends (name b) ≡ false) where
     -- what is behind one that begins a run is in this run, or as before
     matches : (id : Identifier) → T (is_lt (id_cmp (name b) id)) → is_in_some name size begun id ≡ covers ends id → is_in_some name size (b ∷ begun) id ≡ covers (ends_with ends (name b) (size b)) id
-    matches id behind before = by_replica (id.replica == (name b).replica) refl
-      where
-        by_replica : (t : Bool) → (id.replica == (name b).replica) ≡ t → ((t && (nat_le (name b).counter id.counter && nat_lt id.counter ((name b).counter + size b))) || is_in_some name size begun id) ≡ nat_lt id.counter (cond t ((name b).counter + size b) (ends id.replica))
-        by_replica true is =
-            let same : id.replica ≡ (name b).replica = eqb-true id.replica (name b).replica is in
-            let above : (name b).counter < id.counter = larger_counter (name b) id behind same in
-            let past : ends (name b).replica ≤ (name b).counter = ltb-false (name b).counter (ends (name b).replica) new in
-            let last : ends id.replica ≤ id.counter = subst (λ q. ends q ≤ id.counter) (sym same) (omega (arith, above, past)) in
-            let out : is_in_some name size begun id ≡ false = before ∙ le-ltb id.counter (ends id.replica) last in
-            let from : nat_le (name b).counter id.counter ≡ true = le-leb (name b).counter id.counter (omega (arith, above)) in
-            (λ k. (from k && nat_lt id.counter ((name b).counter + size b)) || out k) ∙ or-false (nat_lt id.counter ((name b).counter + size b))
-        by_replica false is = before
+    matches id behind before = grind arith
 
     matches_all : (xs : List A) → AreAbove name (name b) xs → Match begun ends xs → Match (b ∷ begun) (ends_with ends (name b) (size b)) xs
     matches_all [] above h = tt
@@ -178,10 +148,7 @@ pub record Leaves (c : Content) (most : ℕ) (ends next deleted later : ℕ → 
 
 pub lines_next : (c : Content) (most : ℕ) (ends next deleted later : ℕ → ℕ) (ops : List Op) (i : ℕ) (op : Op) → i < length ops → op ≡ get_or ops i op → Leaves c most ends next deleted later op
     → lines_from c most ends deleted (drop i ops) ≡ lines_at c most ends deleted op ++ lines_from c most next later (drop (i + 1) ops)
-lines_next c most ends next deleted later ops i op within at behind =
-    ap (λ (os : List Op). lines_from c most ends deleted os) (drop_more ops i op within)
-    ∙ ap (λ (o : Op). lines_at c most ends deleted o ++ lines_from c most (ends_behind c ends o) (deleted_behind c most deleted o) (drop (i + 1) ops)) (sym at)
-    ∙ (λ k. lines_at c most ends deleted op ++ lines_from c most (λ replica. sym (behind.next_is replica) k) (λ replica. sym (behind.later_is replica) k) (drop (i + 1) ops))
+lines_next c most ends next deleted later ops i op within at behind = grind (arith, drop_more)
 
 module _ {W : Type 0} (contents : W → Option (List ℕ)) where
   -- the lines that come for the next operation were added to the block
@@ -212,9 +179,7 @@ fewer_left c most ends next deleted later ops i op lines number all within at be
     omega (arith, both, count, h)
 
 pub none_left : (c : Content) (most : ℕ) (ends deleted : ℕ → ℕ) (ops : List Op) (i lines all : ℕ) → length ops ≤ i → lines + length (lines_from c most ends deleted (drop i ops)) ≡ all → lines ≡ all
-none_left c most ends deleted ops i lines all past h =
-    let only : length (lines_from c most ends deleted (drop i ops)) ≡ 0 = ap (λ (os : List Op). length (lines_from c most ends deleted os)) (drop_all i ops past) in
-    omega (arith, only, h)
+none_left c most ends deleted ops i lines all past h = grind (arith, drop_all)
 
 -- what stands in a sound content is well-formed
 pub operation_well_formed : (c : Content) (ops : List Op) (i : ℕ) (op : Op) → IsSound c → ops ≡ operations c → i < length ops → op ≡ get_or ops i op → checked op ≡ Ok tt

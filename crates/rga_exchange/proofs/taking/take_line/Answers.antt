@@ -1,4 +1,4 @@
-use Rattle.std.proofs.Common.{rules, refl, sym, ◌∙◌, append-nil}
+use Rattle.std.proofs.Common.{rules, refl, append-nil}
 use Rattle.rga_exchange.specs.Taking.{intake}
 use Rattle.rga_exchange.proofs.DeletionRunLemmas.{none_told}
 use Rattle.rga_exchange.proofs.TakingLaws.{line_takes}
