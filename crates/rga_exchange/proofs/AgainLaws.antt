@@ -1,13 +1,13 @@
 -- A stream whose first lines were taken, taken once more from its start.
-use Rattle.std.proofs.Common.{◌≡◌, ℕ, ◌+◌, ◌≤◌, List, [], ◌∷◌, ◌++◌, length, Ok, refl, sym, ap, ◌∙◌, append_assoc}
+use Rattle.std.proofs.Common.{arith, ◌≡◌, ℕ, ◌+◌, ◌≤◌, List, [], ◌∷◌, ◌++◌, length, Ok, refl, sym, ap, ◌∙◌, append_assoc}
 use Rattle.std.specs.Prelude.{Contains}
 use Rattle.std.specs.FinSet as finite_set
 use Rattle.rga_ops.specs.Operation.{checked}
 use Rattle.rga_ops.specs.Content.{Content, Holds, known_ids}
-use Rattle.rga_ops.specs.Answer.{after_answer, and_take, taken_one_by_one}
+use Rattle.rga_ops.specs.Answer.{taken_one_by_one}
 use Rattle.rga_ops.specs.declared.op.Op.{Op}
 use Rattle.rga_ops.proofs.AnswerLaws.{known-iff}
-use Rattle.rga_ops.proofs.OperationLaws.{Contains-first, Contains-later}
+use Rattle.rga_ops.proofs.OperationLaws.{Contains-later}
 use Rattle.rga_ops.proofs.KnownLaws.{taken_list_within}
 use Rattle.rga_ops.proofs.TakenLaws.{taken_list_is}
 use Rattle.rga_lines.specs.Stream.{lines_of, rest_of}
@@ -15,7 +15,7 @@ use Rattle.rga_lines.specs.Log.{operations_of, behind_head, stream_operations}
 use Rattle.rga_lines.proofs.StreamLemmas.{lines-append_ended}
 use Rattle.rga_exchange.specs.declared.taking.Form.{Form}
 use Rattle.rga_exchange.specs.declared.taking.Form.TheVariants.{Log, Exchange}
-use Rattle.rga_exchange.specs.Taking.{body, Progress, lines_taken, with_rest, stream_taken, AreTaken}
+use Rattle.rga_exchange.specs.Taking.{body, Progress, lines_taken, stream_taken, AreTaken}
 use Rattle.rga_exchange.specs.Log.{after_lines, log_outcome}
 use Rattle.rga_exchange.specs.Receiving.{number_received, exchange_outcome}
 use Rattle.rga_exchange.proofs.TakingLaws.{lines_taken-append}
@@ -24,10 +24,7 @@ use Rattle.rga_exchange.proofs.StopLaws.{operations_are_taken}
 -- operations that are held change nothing
 held_again : (limit : ℕ) (d : Content) (ops : List Op) → ((op : Op) → Contains ops op → checked op ≡ Ok tt) → ((op : Op) → Contains ops op → Holds d op) → taken_one_by_one limit d ops ≡ Ok d
 held_again limit d [] well_formed held = refl
-held_again limit d (op ∷ ops) well_formed held =
-    let known = (known-iff limit d op).1 (well_formed op (Contains-first op ops), held op (Contains-first op ops)) in
-    ap (λ r. and_take (after_answer d op r) (λ e. taken_one_by_one limit e ops)) known
-    ∙ held_again limit d ops (λ o m. well_formed o (Contains-later op o ops m)) (λ o m. held o (Contains-later op o ops m))
+held_again limit d (op ∷ ops) well_formed held = grind (arith, known-iff, held_again limit d ops (λ o m. well_formed o (Contains-later op o ops m)) (λ o m. held o (Contains-later op o ops m)))
 
 -- what follows lines that were taken is taken alike
 lines_again : (form : Form) (limit : ℕ) (c d : Content) (lines later : List (List ℕ)) → finite_set.len (known_ids c) ≤ limit → AreTaken limit (body form lines) c d → lines_taken form limit 0 d (lines ++ later) ≡ lines_taken form limit 0 c (lines ++ later)
@@ -39,11 +36,7 @@ lines_again form limit c d lines later within w =
     ∙ sym (lines_taken-append form limit 0 (0 + length lines) c d lines later (operations_are_taken form limit 0 c d lines within w.operations w.taken))
 
 stream_again : (form : Form) (limit : ℕ) (c d : Content) (bytes more : List ℕ) (lines later : List (List ℕ)) → lines_of bytes ≡ lines ++ later → finite_set.len (known_ids c) ≤ limit → AreTaken limit (body form lines) c d → stream_taken form limit d (bytes ++ more) ≡ stream_taken form limit c (bytes ++ more)
-stream_again form limit c d bytes more lines later begins within w =
-    let end : List (List ℕ) = lines_of (rest_of bytes ++ more) in
-    let cut : lines_of (bytes ++ more) ≡ lines ++ (later ++ end) = lines-append_ended bytes more ∙ ap (λ ls. ls ++ end) begins ∙ append_assoc lines later end in
-    ap (with_rest (rest_of (bytes ++ more)))
-    (ap (lines_taken form limit 0 d) cut ∙ lines_again form limit c d lines (later ++ end) within w ∙ sym (ap (lines_taken form limit 0 c) cut))
+stream_again form limit c d bytes more lines later begins within w = grind (arith, lines-append_ended, append_assoc, lines_again)
 
 pub exchange_again : (limit : ℕ) (c d : Content) (bytes more : List ℕ) (lines later : List (List ℕ)) → lines_of bytes ≡ lines ++ later → finite_set.len (known_ids c) ≤ limit → AreTaken limit (behind_head lines) c d → exchange_outcome limit d (bytes ++ more) ≡ exchange_outcome limit c (bytes ++ more)
 exchange_again limit c d bytes more lines later begins within w =

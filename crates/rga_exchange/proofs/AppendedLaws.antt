@@ -1,5 +1,5 @@
 -- Written operations behind a log, and before the end of an exchange.
-use Rattle.std.proofs.Common.{◌≡◌, ◌≢◌, ℕ, ◌<◌, ◌≤◌, lit≤, ◌^◌, cond, List, [], ◌∷◌, ◌++◌, map, length, Ok, refl, sym, ap, ◌∙◌, subst, append-nil}
+use Rattle.std.proofs.Common.{arith, ◌≡◌, ◌≢◌, ℕ, ◌<◌, ◌≤◌, lit≤, ◌^◌, cond, List, [], ◌∷◌, ◌++◌, map, length, Ok, refl, sym, ap, ◌∙◌, subst, append_assoc, append-nil}
 use Rattle.std.specs.Prelude.{All}
 use Rattle.std.specs.List.{AllByRecursion}
 use Rattle.std.proofs.lemmas.List.Elements.{All-nil, All-cons}
@@ -9,6 +9,7 @@ use Rattle.rga_ops.specs.Operations.{operations}
 use Rattle.rga_ops.specs.declared.op.Op.{Op}
 use Rattle.rga_ops.proofs.ContentLaws.{nothing_join}
 use Rattle.rga_ops.proofs.OperationLaws.{Contains-first, Contains-later, content_of-append}
+use Rattle.rga_ops.proofs.MemberLaws.{all_append}
 use Rattle.rga_ops.proofs.OperationsLaws.{operations_hold}
 use Rattle.rga_ops.proofs.AgreeLaws.{agree_swap, agree_nothing}
 use Rattle.rga_ops.proofs.ListAnswerLaws.{joinable_append}
@@ -23,11 +24,16 @@ use Rattle.rga_lines.proofs.ReadBack.{head_back}
 use Rattle.rga_exchange.specs.Sending.{log_text, exchange_lines, exchange_text, AreWritable, StandsFor}
 use Rattle.rga_exchange.proofs.TakingLaws.{operations_of-append}
 
--- ---- lines that are operations
+-- ---- lines that say operations
 
-pub are_operations-append : (xs ys : List (List ℕ)) → AllByRecursion IsOperation xs → AllByRecursion IsOperation ys → AllByRecursion IsOperation (xs ++ ys)
-are_operations-append [] ys all more = more
-are_operations-append (x ∷ xs) ys all more = (all.0, are_operations-append xs ys all.1 more)
+-- the lines say these operations, each some, and none has a newline
+pub record Stand (lines : List (List ℕ)) (ops : List Op) : Type 0 where
+  pub operations : operations_of lines ≡ ops
+  pub all : AllByRecursion IsOperation lines
+  pub none : All HasNoNewline lines
+
+pub stand_cons : (text : List ℕ) (own : List Op) (lines : List (List ℕ)) (ops : List Op) → operations_at text ≡ Ok own → HasNoNewline text → Stand lines ops → Stand (text ∷ lines) (own ++ ops)
+stand_cons text own lines ops says none h = grind (arith)
 
 -- ---- written lines
 
@@ -37,19 +43,11 @@ later_writable op ops writable o m = writable o (Contains-later op o ops m)
 pub later_well_formed : (op : Op) (ops : List Op) → AreWellFormed (op ∷ ops) → AreWellFormed ops
 later_well_formed op ops well o m = well o (Contains-later op o ops m)
 
-pub first_back : (op : Op) (ops : List Op) → AreWritable (op ∷ ops) → AreWellFormed (op ∷ ops) → operations_at (line op) ≡ Ok (op ∷ [])
-first_back op ops writable well = line_stands op (writable op (Contains-first op ops)) (well op (Contains-first op ops))
-
-pub are_operations-written : (ops : List Op) → AreWritable ops → AreWellFormed ops → AllByRecursion IsOperation (map line ops)
-are_operations-written [] writable well = tt
-are_operations-written (op ∷ ops) writable well =
-    ((op ∷ [], first_back op ops writable well), are_operations-written ops (later_writable op ops writable) (later_well_formed op ops well))
-
-pub operations_of-written : (ops : List Op) → AreWritable ops → AreWellFormed ops → operations_of (map line ops) ≡ ops
-operations_of-written [] writable well = refl
-operations_of-written (op ∷ ops) writable well =
-    ap (λ r. then_operations r (operations_of (map line ops))) (first_back op ops writable well)
-    ∙ ap (λ (os : List Op). op ∷ os) (operations_of-written ops (later_writable op ops writable) (later_well_formed op ops well))
+pub written : (ops : List Op) → AreWritable ops → AreWellFormed ops → Stand (map line ops) ops
+written [] writable well = record { operations = refl; all = tt; none = All-nil HasNoNewline }
+written (op ∷ ops) writable well =
+    let can = writable op (Contains-first op ops) in
+    stand_cons (line op) (op ∷ []) (map line ops) ops (line_stands op can (well op (Contains-first op ops))) (line_has_none op can) (written ops (later_writable op ops writable) (later_well_formed op ops well))
 
 -- before such lines and behind them there is no newline
 written_then : (ops : List Op) (lines : List (List ℕ)) → AreWritable ops → All HasNoNewline lines → All HasNoNewline (map line ops ++ lines)
@@ -62,45 +60,22 @@ pub cut_again : (lines : List (List ℕ)) → All HasNoNewline lines → (lines 
 cut_again lines none =
     only_cut (bytes_of_lines lines) lines [] (record { whole = sym (append-nil (bytes_of_lines lines)); lines_have_none = none; rest_has_none = All-nil (λ b. b ≢ newline) })
 
-log_cut : (ops : List Op) → AreWritable ops → (map line ops ≡ lines_of (log_text ops)) × ([] ≡ rest_of (log_text ops))
-log_cut ops writable =
-    cut_again (map line ops) (subst (All HasNoNewline) (append-nil (map line ops)) (written_then ops [] writable (All-nil HasNoNewline)))
-
 -- ---- a log that goes on
 
 pub rest_ended : (front : List ℕ) → rest_of (front ++ newline ∷ []) ≡ []
 rest_ended front = rest-append_ended front (newline ∷ []) ∙ rest-line (rest_of front) [] (is_cut front).rest_has_none
 
-lines_appended : (bytes : List ℕ) (ops : List Op) → rest_of bytes ≡ [] → AreWritable ops → lines_of (bytes ++ log_text ops) ≡ lines_of bytes ++ map line ops
-lines_appended bytes ops ended writable =
-    lines-append_ended bytes (log_text ops)
-    ∙ ap (λ (rest : List ℕ). lines_of bytes ++ lines_of (rest ++ log_text ops)) ended
-    ∙ ap (λ (ls : List (List ℕ)). lines_of bytes ++ ls) (sym (log_cut ops writable).0)
+-- nor behind lines with their newlines
+pub ended_lines : (bytes : List ℕ) (lines : List (List ℕ)) → rest_of bytes ≡ [] → rest_of (bytes ++ bytes_of_lines lines) ≡ []
+ended_lines bytes [] ended = ap rest_of (append-nil bytes) ∙ ended
+ended_lines bytes (text ∷ lines) ended = grind (arith, append_assoc, rest_ended, ended_lines (bytes ++ (text ++ newline ∷ [])) lines (ap rest_of (sym (append_assoc bytes text (newline ∷ []))) ∙ rest_ended (bytes ++ text)))
 
 pub rest_appended : (bytes : List ℕ) (ops : List Op) → rest_of bytes ≡ [] → AreWritable ops → rest_of (bytes ++ log_text ops) ≡ []
-rest_appended bytes ops ended writable =
-    rest-append_ended bytes (log_text ops)
-    ∙ ap (λ (rest : List ℕ). rest_of (rest ++ log_text ops)) ended
-    ∙ sym (log_cut ops writable).1
+rest_appended bytes ops ended writable = ended_lines bytes (map line ops) ended
 
 -- where no rest is left the operations of a log are those of its lines
 pub operations_ended : (bytes : List ℕ) → rest_of bytes ≡ [] → AllByRecursion IsOperation (lines_of bytes) → log_operations bytes ≡ operations_of (lines_of bytes)
-operations_ended bytes ended all =
-    operations_of-append (lines_of bytes) (rest_of bytes ∷ []) all
-    ∙ ap (λ (rest : List ℕ). operations_of (lines_of bytes) ++ operations_of (rest ∷ [])) ended
-    ∙ ap (λ r. operations_of (lines_of bytes) ++ then_operations r []) nothing_stands
-    ∙ append-nil (operations_of (lines_of bytes))
-
-only_appended : (bytes : List ℕ) (ops : List Op) → AllByRecursion IsOperation (lines_of bytes) → rest_of bytes ≡ [] → AreWritable ops → AreWellFormed ops → AllByRecursion IsOperation (lines_of (bytes ++ log_text ops))
-only_appended bytes ops all ended writable well =
-    subst (AllByRecursion IsOperation) (sym (lines_appended bytes ops ended writable)) (are_operations-append (lines_of bytes) (map line ops) all (are_operations-written ops writable well))
-
-operations_appended : (bytes : List ℕ) (ops : List Op) → AllByRecursion IsOperation (lines_of bytes) → rest_of bytes ≡ [] → AreWritable ops → AreWellFormed ops → log_operations (bytes ++ log_text ops) ≡ log_operations bytes ++ ops
-operations_appended bytes ops all ended writable well =
-    operations_ended (bytes ++ log_text ops) (rest_appended bytes ops ended writable) (only_appended bytes ops all ended writable well)
-    ∙ ap operations_of (lines_appended bytes ops ended writable)
-    ∙ operations_of-append (lines_of bytes) (map line ops) all
-    ∙ (λ k. sym (operations_ended bytes ended all) k ++ operations_of-written ops writable well k)
+operations_ended bytes ended all = grind (arith, operations_of-append, nothing_stands, append-nil)
 
 -- operations that agree, and further ones that can be joined to their content, agree
 pub agreed_append : (xs ys : List Op) → IsAgreed xs → IsJoinable (content_of xs) ys → IsAgreed (xs ++ ys)
@@ -110,16 +85,31 @@ agreed_append xs ys agreed joinable =
       subst (λ c. IsJoinable c ys) (sym (nothing_join (content_of xs))) joinable,
     )).agreed
 
-pub stands_appended : (bytes : List ℕ) (c : Content) (ops : List Op) → StandsFor bytes c → rest_of bytes ≡ [] → AreWritable ops → AreWellFormed ops → IsJoinable c ops → StandsFor (bytes ++ log_text ops) (join c (content_of ops))
-stands_appended bytes c ops stands ended writable well joinable =
-    let all : AllByRecursion IsOperation (lines_of bytes) = stands.lines in
-    let both : log_operations (bytes ++ log_text ops) ≡ log_operations bytes ++ ops = operations_appended bytes ops all ended writable well in
+-- bytes that are cut into these lines, with nothing behind them
+pub stands_so : (bytes : List ℕ) (lines : List (List ℕ)) (ops : List Op) → lines_of bytes ≡ lines → rest_of bytes ≡ [] → AllByRecursion IsOperation lines → operations_of lines ≡ ops → IsAgreed ops → StandsFor bytes (content_of ops)
+stands_so bytes lines ops cut ended all says agreed =
+    let here = subst (AllByRecursion IsOperation) (sym cut) all in
+    let said = operations_ended bytes ended here ∙ ap operations_of cut ∙ says in
     record {
-      lines = only_appended bytes ops all ended writable well;
-      short = subst (λ (rest : List ℕ). length rest ≤ MAX_LINE) (sym (rest_appended bytes ops ended writable)) (lit≤ tt);
-      agreed = subst IsAgreed (sym both) (agreed_append (log_operations bytes) ops stands.agreed (subst (λ d. IsJoinable d ops) stands.content joinable));
-      content = ap (λ d. join d (content_of ops)) stands.content ∙ sym (content_of-append (log_operations bytes) ops) ∙ ap content_of (sym both);
+      lines = here;
+      short = subst (λ (rest : List ℕ). length rest ≤ MAX_LINE) (sym ended) (lit≤ tt);
+      agreed = subst IsAgreed (sym said) agreed;
+      content = ap content_of (sym said);
     }
+
+-- what a log stands for with such lines behind it
+pub stands_joined : (bytes : List ℕ) (c : Content) (lines : List (List ℕ)) (ops : List Op) → StandsFor bytes c → rest_of bytes ≡ [] → Stand lines ops → IsJoinable c ops → StandsFor (bytes ++ bytes_of_lines lines) (join c (content_of ops))
+stands_joined bytes c lines ops stands ended stand joinable =
+    subst (StandsFor (bytes ++ bytes_of_lines lines)) (content_of-append (log_operations bytes) ops ∙ ap (λ d. join d (content_of ops)) (sym stands.content))
+    (stands_so (bytes ++ bytes_of_lines lines) (lines_of bytes ++ lines) (log_operations bytes ++ ops)
+    (lines-append_ended bytes (bytes_of_lines lines) ∙ (λ k. lines_of bytes ++ lines_of (ended k ++ bytes_of_lines lines)) ∙ ap (λ (ls : List (List ℕ)). lines_of bytes ++ ls) (sym (cut_again lines stand.none).0))
+    (ended_lines bytes lines ended)
+    (all_append IsOperation (lines_of bytes) lines stands.lines stand.all)
+    (operations_of-append (lines_of bytes) lines stands.lines ∙ (λ k. sym (operations_ended bytes ended stands.lines) k ++ stand.operations k))
+    (agreed_append (log_operations bytes) ops stands.agreed (subst (λ d. IsJoinable d ops) stands.content joinable)))
+
+pub stands_appended : (bytes : List ℕ) (c : Content) (ops : List Op) → StandsFor bytes c → rest_of bytes ≡ [] → AreWritable ops → AreWellFormed ops → IsJoinable c ops → StandsFor (bytes ++ log_text ops) (join c (content_of ops))
+stands_appended bytes c ops stands ended writable well joinable = stands_joined bytes c (map line ops) ops stands ended (written ops writable well) joinable
 
 -- ---- an exchange
 
@@ -145,8 +135,8 @@ pub exchange_says : (ops : List Op) → AreWellFormed ops → AreWritable ops �
 exchange_says ops well writable few =
     ap (λ ls. operations_of (behind_head ls)) (exchange_lines-cut ops writable few)
     ∙ ap operations_of (behind_written_head (lines_and_end ops))
-    ∙ operations_of-append (map line ops) (end_line (length ops) ∷ []) (are_operations-written ops writable well)
-    ∙ (λ k. operations_of-written ops writable well k ++ then_operations (end_stands (length ops) few k) [])
+    ∙ operations_of-append (map line ops) (end_line (length ops) ∷ []) (written ops writable well).all
+    ∙ (λ k. (written ops writable well).operations k ++ then_operations (end_stands (length ops) few k) [])
     ∙ append-nil ops
 
 -- the operations of a sound content are well-formed

@@ -2,7 +2,7 @@
 use Rattle.std.proofs.Common.{◌≡◌, ℕ, ◌+◌, ◌≤◌, lit≤, List, [], ◌∷◌, ◌++◌, map, length, take, drop, get_or, Ok, Err, refl, sym, ap, ◌∙◌, subst, append_assoc, append-nil, length-append, inl, inr, ◌⊎◌, arith}
 use Rattle.std.specs.List.{AllByRecursion}
 use Rattle.std.proofs.lemmas.Bool.{cases_lt}
-use Rattle.std.proofs.lemmas.List.{take-append-drop, take_all, get_or_append_left}
+use Rattle.std.proofs.lemmas.List.{take-append-drop, get_or_append_left}
 use Rattle.std.proofs.Math.Seq.{take-append_seam, take-append-add}
 use Rattle.rga_ops.specs.Operation.{checked}
 use Rattle.rga_ops.specs.Content.{Content, join, content_of, IsAgreed}
@@ -10,6 +10,8 @@ use Rattle.rga_ops.specs.ListAnswer.{AreWellFormed, IsJoinable}
 use Rattle.rga_ops.specs.declared.op.Op.{Op}
 use Rattle.rga_ops.proofs.OperationLaws.{Contains-first, content_of-append}
 use Rattle.rga_ops.proofs.ListAnswerLaws.{joinable_append}
+use Rattle.rga_ops.proofs.MemberLaws.{all_append}
+use Rattle.std.proofs.lemmas.List.Elements.{All-nil}
 use Rattle.rga_lines.specs.declared.line.TheConstants.{MAX_LINE}
 use Rattle.rga_lines.specs.declared.fault.LineFault.{LineFault}
 use Rattle.rga_lines.specs.Log.{operations_at, then_operations, operations_of, log_operations, IsOperation}
@@ -20,7 +22,7 @@ use Rattle.rga_lines.proofs.StandLemmas.{stands_for, stands_for_none, nothing_st
 use Rattle.rga_lines.proofs.NewlineLemmas.{line_has_none}
 use Rattle.rga_exchange.specs.Sending.{log_text, AreWritable, StandsFor, GainsFirst}
 use Rattle.rga_exchange.proofs.TakingLaws.{operations_of-append}
-use Rattle.rga_exchange.proofs.AppendedLaws.{later_writable, later_well_formed, are_operations-append, operations_ended, agreed_append}
+use Rattle.rga_exchange.proofs.AppendedLaws.{later_writable, later_well_formed, Stand, stand_cons, operations_ended, agreed_append}
 
 -- ---- lines that say operations
 
@@ -60,20 +62,12 @@ record IsLogOf (front : List ℕ) (ops : List Op) (j : ℕ) : Type 0 where
 cut_in_two : (xs front rest ys : List ℕ) (b : ℕ) → front ++ rest ≡ xs ++ b ∷ ys → ((more : List ℕ) × (xs ≡ front ++ more)) ⊎ ((more : List ℕ) × (front ≡ xs ++ b ∷ more) × (more ++ rest ≡ ys))
 cut_in_two xs [] rest ys b e = inl (xs, refl)
 cut_in_two [] (y ∷ front) rest ys b e = inr (front, ap (λ (l : List ℕ). get_or l 0 0 ∷ front) e, ap (drop 1) e)
-cut_in_two (x ∷ xs) (y ∷ front) rest ys b e =
-    let heads : y ≡ x = ap (λ (l : List ℕ). get_or l 0 0) e in
-    elim (cut_in_two xs front rest ys b (ap (drop 1) e)) [
-      | inl inside ↦ inl (inside.0, λ k. sym heads k ∷ inside.1 k)
-      | inr past ↦ inr (past.0, λ k. heads k ∷ past.1 k, past.2)
-    ]
+cut_in_two (x ∷ xs) (y ∷ front) rest ys b e = grind (arith, cut_in_two xs front rest ys b (ap (drop 1) e))
 
 module _ (text : List ℕ) (own : List Op) (said : Says text own) (later : List Op) where
   -- a line that is too long says none
   short_line : length text ≤ MAX_LINE
-  short_line = elim (cases_lt MAX_LINE (length text)) [
-    | inl long ↦ let clash : stands_for_none LineFault.Long ≡ stands_for own = sym (long_stands text long) ∙ said.says in absurd cc
-    | inr short ↦ short
-  ]
+  short_line = grind (arith, cases_lt, stands_for_none, stands_for, long_stands)
 
   -- the log is within the first line
   within_line : (front more : List ℕ) → text ≡ front ++ more → (j : ℕ) × IsLogOf front (own ++ later) j
@@ -138,20 +132,9 @@ begun (text ∷ lines) ops front rest (own, later, parts, said, say) e =
     ])
 
 -- all of them
-record IsLogOfAll (text : List ℕ) (ops : List Op) : Type 0 where
-  log : IsLogOf text ops (length ops)
-  ended : rest_of text ≡ []
-
-all_lines : (lines : List (List ℕ)) (ops : List Op) → Say lines ops → IsLogOfAll (bytes_of_lines lines) ops
-all_lines [] ops none = subst (IsLogOfAll []) (sym none) (record { log = log_of_none; ended = refl })
-all_lines (text ∷ lines) ops (own, later, parts, said, say) =
-    let more = all_lines lines later say in
-    let behind : (text ++ newline ∷ []) ++ bytes_of_lines lines ≡ text ++ newline ∷ bytes_of_lines lines = append_assoc text (newline ∷ []) (bytes_of_lines lines) in
-    let count : length own + length later ≡ length (own ++ later) = sym (length-append own later) in
-    subst (IsLogOfAll (bytes_of_lines (text ∷ lines))) (sym parts) (record {
-      log = subst (IsLogOf (bytes_of_lines (text ∷ lines)) (own ++ later)) count (past_line text own said later (bytes_of_lines (text ∷ lines)) (bytes_of_lines lines) (length later) behind more.log);
-      ended = ap rest_of behind ∙ rest-line text (bytes_of_lines lines) said.none ∙ more.ended;
-    })
+pub say_stand : (lines : List (List ℕ)) (ops : List Op) → Say lines ops → Stand lines ops
+say_stand [] ops none = subst (Stand []) (sym none) (record { operations = refl; all = tt; none = All-nil HasNoNewline })
+say_stand (text ∷ lines) ops (own, later, parts, said, say) = subst (Stand (text ∷ lines)) (sym parts) (stand_cons text own lines later said.says said.none (say_stand lines later say))
 
 -- ---- behind a log
 
@@ -178,7 +161,7 @@ module _ (bytes : List ℕ) (c : Content) (ops : List Op) (front : List ℕ) (j 
 
   stands_behind : StandsFor (bytes ++ front) (join c (content_of (take j ops)))
   stands_behind = record {
-    lines = subst (AllByRecursion IsOperation) (sym (lines_behind bytes front ended)) (are_operations-append (lines_of bytes) (lines_of front) stands.lines log.lines);
+    lines = subst (AllByRecursion IsOperation) (sym (lines_behind bytes front ended)) (all_append IsOperation (lines_of bytes) (lines_of front) stands.lines log.lines);
     short = subst (λ (l : List ℕ). length l ≤ MAX_LINE) (sym (rest_behind bytes front ended)) log.short;
     agreed = subst IsAgreed (sym has_both) (agreed_append (log_operations bytes) (take j ops) stands.agreed (subst (λ d. IsJoinable d (take j ops)) stands.content (joinable_take c ops j joinable)));
     content = ap (λ d. join d (content_of (take j ops))) stands.content ∙ sym (content_of-append (log_operations bytes) (take j ops)) ∙ ap content_of (sym has_both);
@@ -194,15 +177,6 @@ say_begun bytes c lines ops front rest stands ended say joinable e =
       operations = has_both bytes c ops front log.0 stands ended log.1 joinable;
       stands = stands_behind bytes c ops front log.0 stands ended log.1 joinable;
     }
-
--- and all of the lines leave one of all operations, which ends in a newline
-pub say_appended : (bytes : List ℕ) (c : Content) (lines : List (List ℕ)) (ops : List Op) → StandsFor bytes c → rest_of bytes ≡ [] → Say lines ops → IsJoinable c ops → StandsFor (bytes ++ bytes_of_lines lines) (join c (content_of ops))
-say_appended bytes c lines ops stands ended say joinable =
-    subst (λ (os : List Op). StandsFor (bytes ++ bytes_of_lines lines) (join c (content_of os))) (take_all (length ops) ops (omega arith))
-    (stands_behind bytes c ops (bytes_of_lines lines) (length ops) stands ended (all_lines lines ops say).log joinable)
-
-pub say_ended : (bytes : List ℕ) (lines : List (List ℕ)) (ops : List Op) → rest_of bytes ≡ [] → Say lines ops → rest_of (bytes ++ bytes_of_lines lines) ≡ []
-say_ended bytes lines ops ended say = rest_behind bytes (bytes_of_lines lines) ended ∙ (all_lines lines ops say).ended
 
 pub stands_begun : (bytes : List ℕ) (c : Content) (ops : List Op) (front rest : List ℕ) → StandsFor bytes c → rest_of bytes ≡ [] → AreWritable ops → AreWellFormed ops → IsJoinable c ops → front ++ rest ≡ log_text ops → GainsFirst bytes front c ops
 stands_begun bytes c ops front rest stands ended writable well joinable e =

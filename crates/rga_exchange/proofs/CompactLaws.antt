@@ -1,36 +1,34 @@
 -- The compacted lines of a content stand for that content.
-use Rattle.std.proofs.Common.{◌≡◌, ℕ, zero, suc, ◌+◌, ◌-◌, ◌<◌, ◌≤◌, Bool, true, false, cond, ◌&&◌, ◌||◌, ◌==◌, nat_le, nat_lt, List, [], ◌∷◌, ◌++◌, map, length, Option, Some, None, Ok, refl, sym, ap, ap₂, ◌∙◌, subst, append_assoc, append-nil, arith, inl, inr, ◌⊎◌, lit≤, lit<}
-use Rattle.std.specs.Prelude.{Contains, All}
-use Rattle.std.specs.Char.{IsScalar}
+use Rattle.std.proofs.Common.{◌≡◌, ℕ, zero, suc, ◌+◌, ◌-◌, ◌<◌, ◌≤◌, Bool, true, false, cond, ◌||◌, ◌==◌, List, [], ◌∷◌, ◌++◌, map, length, Option, Some, None, Ok, refl, sym, ap, ap₂, ◌∙◌, subst, append_assoc, append-nil, arith, inl, inr, ◌⊎◌, lit≤, lit<}
+use Rattle.std.specs.Prelude.{Contains}
 use Rattle.std.specs.List.{flat_map, AllByRecursion}
 use Rattle.std.specs.Option.{option_map_or}
 use Rattle.std.specs.FinMap as finite_map
 use Rattle.std.specs.FinSet as finite_set
-use Rattle.std.proofs.lemmas.Bool.{and_parts, eqb-true, leb-true, ltb-true, leb-false, cases_eq}
-use Rattle.std.proofs.lemmas.List.Elements.{All-nil, All-cons, Contains-append_left, Contains-append_right}
+use Rattle.std.proofs.lemmas.Bool.{eqb-true, cases_eq}
+use Rattle.std.proofs.lemmas.List.Elements.{All-nil, All-contains, All-from_recursion, Contains-append_left, Contains-append_right}
 use Rattle.rga_ops.specs.Identifier.{Identifier, identifier}
 use Rattle.rga_ops.specs.Content.{Element, element, Content, content_of, Holds, IsSound, IsAgreed, HasSameOperations}
 use Rattle.rga_ops.specs.Operations.{insertion_of, insertions, rising, deletions, operations}
-use Rattle.rga_ops.specs.declared.id.TheConstants.Id.{MAX_COUNTER}
 use Rattle.rga_ops.specs.declared.op.Op.{Op}
 use Rattle.rga_ops.specs.declared.op.Op.TheVariants.{Insert, Delete}
-use Rattle.rga_ops.proofs.AnswerLaws.{well_formed_insertion}
 use Rattle.rga_ops.proofs.OperationLaws.{Contains-first, Contains-later, Contains-cases, Contains-nil, Contains-append, content_inserted, content_deleted, same_operations_same_content}
 use Rattle.rga_ops.proofs.OperationsLaws.{content_of-operations, operations_agree, operations_hold}
-use Rattle.rga_lines.specs.declared.line.TheConstants.{MAX_LINE}
 use Rattle.rga_lines.specs.declared.run.TheConstants.{MAX_RUN}
 use Rattle.rga_lines.specs.declared.deletion_run.DeletionRun.{DeletionRun}
-use Rattle.rga_lines.specs.Runs.{Stretch, stretch, next, run_operations, stretch_operations, deletions_from, run_deletions, IsDeletionRun}
-use Rattle.rga_lines.specs.Spelling.{line, deletion_run_line, IsElement, IsWritableRun}
-use Rattle.rga_lines.specs.Stream.{lines_of, rest_of, HasNoNewline}
-use Rattle.rga_lines.specs.Log.{operations_of, operations_at, then_operations, IsOperation}
-use Rattle.rga_lines.proofs.NewlineLemmas.{line_has_none, run_has_none, deletions_have_none}
+use Rattle.rga_lines.specs.Runs.{next, run_operations, stretch_operations, deletions_from, run_deletions, IsDeletionRun}
+use Rattle.rga_lines.specs.Spelling.{line, deletion_run_line, IsElement}
+use Rattle.rga_lines.specs.Stream.{rest_of, HasNoNewline}
+use Rattle.rga_lines.specs.Log.{operations_at}
+use Rattle.rga_lines.proofs.NewlineLemmas.{line_has_none, deletions_have_none}
 use Rattle.rga_lines.proofs.DeletionLemmas.{above_root, deletions_checked}
 use Rattle.rga_lines.proofs.ReadBack.{within}
-use Rattle.rga_lines.proofs.StandLemmas.{line_stands, run_stands, deletions_stand}
-use Rattle.rga_exchange.specs.RunLines.{shortest_line, stretch_line}
+use Rattle.rga_lines.proofs.StandLemmas.{line_stands, deletions_stand}
+use Rattle.rga_exchange.specs.RunLines.{stretch_line}
 use Rattle.rga_exchange.specs.Sending.{AreWritable, StandsFor}
-use Rattle.rga_exchange.proofs.AppendedLaws.{cut_again, operations_ended}
+use Rattle.rga_exchange.proofs.AppendedLaws.{Stand, stand_cons, cut_again, stands_so}
+use Rattle.rga_exchange.proofs.RunLineLaws.{IsSayable, AreSayable, run_says}
+use Rattle.rga_ops.proofs.MemberLaws.{all_map}
 use Rattle.rga_exchange.specs.Compacting.{next_character, going_on, run_of, is_among, is_in_some, beginnings, run_size, run_beginnings, is_next_deleted, deletions_behind, most_deletions, deletion_run_of, deletion_size, deletion_beginnings, deletion_line, compact_lines, compact_text}
 use Rattle.rga_exchange.proofs.GoingOnLemmas.{next_is, length-going_on, next_deleted_is, few_deleted, deleted_within}
 
@@ -39,11 +37,7 @@ use Rattle.rga_exchange.proofs.GoingOnLemmas.{next_is, length-going_on, next_del
 -- what holds of all holds of those that begin a run
 pub begin_all : {A : Type 0} (name : A → Identifier) (size : A → ℕ) (P : A → Type 0) (begun xs : List A) → AllByRecursion P xs → AllByRecursion P (beginnings name size begun xs)
 begin_all name size P begun [] h = tt
-begin_all name size P begun (x ∷ xs) h = by_choice (is_in_some name size begun (name x)) (begin_all name size P begun xs h.1) (begin_all name size P (x ∷ begun) xs h.1)
-  where
-    by_choice : (b : Bool) → AllByRecursion P (beginnings name size begun xs) → AllByRecursion P (beginnings name size (x ∷ begun) xs) → AllByRecursion P (cond b (beginnings name size begun xs) (x ∷ beginnings name size (x ∷ begun) xs))
-    by_choice true with_it without = with_it
-    by_choice false with_it without = (h.0, without)
+begin_all name size P begun (x ∷ xs) h = grind (arith, begin_all name size P begun xs h.1, begin_all name size P (x ∷ begun) xs h.1)
 
 -- what an identifier is that is one of so many
 pub record IsAmong (first : Identifier) (count : ℕ) (id : Identifier) : Type 0 where
@@ -52,10 +46,7 @@ pub record IsAmong (first : Identifier) (count : ℕ) (id : Identifier) : Type 0
   pub to : id.counter < first.counter + count
 
 pub among : (first : Identifier) (count : ℕ) (id : Identifier) → is_among first count id ≡ true → IsAmong first count id
-among first count id h =
-    let p = and_parts (id.replica == first.replica) (nat_le first.counter id.counter && nat_lt id.counter (first.counter + count)) h in
-    let q = and_parts (nat_le first.counter id.counter) (nat_lt id.counter (first.counter + count)) p.1 in
-    record { replica = eqb-true id.replica first.replica p.0; from = leb-true first.counter id.counter q.0; to = ltb-true id.counter (first.counter + count) q.1 }
+among first count id h = grind arith
 
 -- Each says an operation of its own. The run that begins with one has its operation, and those of all that are among the
 -- run's.
@@ -145,21 +136,14 @@ module _ (c : Content) where
       by_next true is later = ((next_deleted_is c last is).held, later)
       by_next false is later = tt
 
-  record IsHeldRun (r : Stretch) : Type 0 where
-    ops : AreHeld (stretch_operations r)
-    some : 0 < length r.chars
-    few : length r.chars ≤ MAX_RUN
-
   abbrev IsEntry : Identifier × Element → Type 0
   IsEntry e = Holds c (insertion_of e)
 
   abbrev IsDeleted : Identifier → Type 0
   IsDeleted id = Holds c (Delete id)
 
-  run_held : (e : Identifier × Element) → IsEntry e → IsHeldRun (run_of c e)
-  run_held e h =
-      let few = length-going_on c e.0 (MAX_RUN - 1) in
-      record { ops = (h, going_held e.0 (MAX_RUN - 1)); some = omega arith; few = omega (arith, few) }
+  run_held : (e : Identifier × Element) → IsEntry e → AreHeld (stretch_operations (run_of c e))
+  run_held e h = (h, going_held e.0 (MAX_RUN - 1))
 
   deletion_run_held : (most : ℕ) (id : Identifier) → IsDeleted id → AreHeld (run_deletions (deletion_run_of c most id))
   deletion_run_held most id h = (h, deletions_held id (most - 1))
@@ -180,19 +164,15 @@ module _ (c : Content) where
         (in_run (next rid) rid chars id x held.1 (record { replica = h.replica; from = omega (arith, h.from, other); to = omega (arith, h.to) }) found)
   ]
 
-  entries_held : (es : List (Identifier × Element)) → ((op : Op) → Contains (map insertion_of es) op → Holds c op) → AllByRecursion IsEntry es
-  entries_held [] h = tt
-  entries_held (e ∷ es) h = (h (insertion_of e) (Contains-first (insertion_of e) (map insertion_of es)), entries_held es (λ op m. h op (Contains-later (insertion_of e) op (map insertion_of es) m)))
-
-  ids_held : (ids : List Identifier) → ((op : Op) → Contains (map Delete ids) op → Holds c op) → AllByRecursion IsDeleted ids
-  ids_held [] h = tt
-  ids_held (id ∷ ids) h = (h (Delete id) (Contains-first (Delete id) (map Delete ids)), ids_held ids (λ op m. h op (Contains-later (Delete id) op (map Delete ids) m)))
+  each_held : {A : Type 0} (make : A → Op) (xs : List A) → ((op : Op) → Contains (map make xs) op → Holds c op) → AllByRecursion (λ x. Holds c (make x)) xs
+  each_held make [] h = tt
+  each_held make (x ∷ xs) h = (h (make x) (Contains-first (make x) (map make xs)), each_held make xs (λ op m. h op (Contains-later (make x) op (map make xs) m)))
 
   pub all_entries : AllByRecursion IsEntry (finite_map.entries c.inserted)
-  all_entries = entries_held (finite_map.entries c.inserted) (λ op m. operations_hold c op (Contains-append_left (insertions c) (deletions c) op m))
+  all_entries = each_held insertion_of (finite_map.entries c.inserted) (λ op m. operations_hold c op (Contains-append_left (insertions c) (deletions c) op m))
 
   pub all_deleted : AllByRecursion IsDeleted (rising (finite_set.items c.deleted))
-  all_deleted = ids_held (rising (finite_set.items c.deleted)) (λ op m. operations_hold c op (Contains-append_right (insertions c) (deletions c) op m))
+  all_deleted = each_held Delete (rising (finite_set.items c.deleted)) (λ op m. operations_hold c op (Contains-append_right (insertions c) (deletions c) op m))
 
   pub all_run_beginnings : AllByRecursion IsEntry (run_beginnings c)
   all_run_beginnings = begin_all (λ (e : Identifier × Element). e.0) (run_size c) IsEntry [] (finite_map.entries c.inserted) all_entries
@@ -203,7 +183,7 @@ module _ (c : Content) where
   all_inserted : (op : Op) → Contains (insertions c) op → Contains (flat_map (λ (e : Identifier × Element). stretch_operations (run_of c e)) (run_beginnings c)) op
   all_inserted = all_in (λ (e : Identifier × Element). e.0) (run_size c) insertion_of (λ (e : Identifier × Element). stretch_operations (run_of c e)) IsEntry
       (λ e. Contains-first (insertion_of e) (run_operations (next e.0) e.0 (going_on c e.0 (MAX_RUN - 1))))
-      (λ e f p q h. in_run e.0 e.1.parent (run_of c e).chars f.0 f.1 (run_held e p).ops h q)
+      (λ e f p q h. in_run e.0 e.1.parent (run_of c e).chars f.0 f.1 (run_held e p) h q)
       [] (finite_map.entries c.inserted) tt all_entries
 
   all_gone : (most : ℕ) (op : Op) → Contains (deletions c) op → Contains (flat_map (λ (id : Identifier). run_deletions (deletion_run_of c most id)) (deletion_beginnings c most)) op
@@ -219,8 +199,7 @@ module _ (c : Content) where
   held_is_had (Delete id) h = content_deleted (operations c) id (ap (λ (d : Content). finite_set.contains d.deleted id) (content_of-operations c) ∙ h)
 
   held_of_list : (ops : List Op) (op : Op) → AreHeld ops → Contains ops op → Holds c op
-  held_of_list [] op held m = absurd (Contains-nil op m)
-  held_of_list (o ∷ ops) op held m = elim (Contains-cases o op ops m) [ inl same ↦ subst (Holds c) same held.0 | inr later ↦ held_of_list ops op held.1 later ]
+  held_of_list ops op held m = All-contains (Holds c) ops op (All-from_recursion (Holds c) ops held) m
 
   held_of_runs : {A : Type 0} (says : A → List Op) (P : A → Type 0) → ((x : A) → P x → AreHeld (says x)) → (xs : List A) (op : Op) → AllByRecursion P xs → Contains (flat_map says xs) op → Holds c op
   held_of_runs says P held [] op h m = absurd (Contains-nil op m)
@@ -238,7 +217,7 @@ module _ (c : Content) where
   compact_has : (most : ℕ) → HasSameOperations (compact_operations c most) (operations c)
   compact_has most op = (
     λ m. elim (Contains-append insertion_runs (deletion_part most) op m) [
-      | inl here ↦ held_is_had op (held_of_runs (λ (e : Identifier × Element). stretch_operations (run_of c e)) IsEntry (λ e h. (run_held e h).ops) (run_beginnings c) op all_run_beginnings here)
+      | inl here ↦ held_is_had op (held_of_runs (λ (e : Identifier × Element). stretch_operations (run_of c e)) IsEntry run_held (run_beginnings c) op all_run_beginnings here)
       | inr there ↦ held_is_had op (held_of_runs (λ (id : Identifier). run_deletions (deletion_run_of c most id)) IsDeleted (deletion_run_held most) (deletion_beginnings c most) op (all_deletion_beginnings most) there)
     ],
     λ m. elim (Contains-append (insertions c) (deletions c) op m) [
@@ -256,58 +235,26 @@ module _ (c : Content) where
   -- ---- the lines
 
   module _ (sound : IsSound c) (writable : AreWritable (operations c)) where
-    scalars_held : (id parent : Identifier) (chars : List ℕ) → AreHeld (run_operations id parent chars) → AllByRecursion IsScalar chars
-    scalars_held id parent [] h = tt
-    scalars_held id parent (ch ∷ chars) h = ((writable (Insert id parent ch) (held_is_had (Insert id parent ch) h.0)).2, scalars_held (next id) id chars h.1)
-
-    ends_within : (id parent : Identifier) (ch : ℕ) (chars : List ℕ) → AreHeld (run_operations id parent (ch ∷ chars)) → id.counter + length (ch ∷ chars) ≤ MAX_COUNTER + 1
-    ends_within id parent ch [] h = omega (arith, (within id (writable (Insert id parent ch) (held_is_had (Insert id parent ch) h.0)).0).counter)
-    ends_within id parent ch (d ∷ chars) h = omega (arith, ends_within (next id) id d chars h.1)
-
-    writable_run : (id parent : Identifier) (ch : ℕ) (chars : List ℕ) → IsHeldRun (stretch id parent (ch ∷ chars)) → IsWritableRun (stretch id parent (ch ∷ chars))
-    writable_run id parent ch chars h =
-        let first : Op = Insert id parent ch in
-        let can = writable first (held_is_had first h.ops.0) in
-        record {
-          id = can.0;
-          parent = can.1;
-          scalars = scalars_held id parent (ch ∷ chars) h.ops;
-          run = record { some = h.some; few = h.few; end = ends_within id parent ch chars h.ops; rising = leb-false id.counter parent.counter (well_formed_insertion id parent ch (sound first h.ops.0)).1 };
-        }
-
-    run_line_stands : (id parent : Identifier) (chars : List ℕ) → IsHeldRun (stretch id parent chars) → (operations_at (shortest_line id parent chars) ≡ Ok (run_operations id parent chars)) × HasNoNewline (shortest_line id parent chars)
-    run_line_stands id parent [] h = absurd (omega (arith, h.some))
-    run_line_stands id parent (ch ∷ []) h =
-        let first : Op = Insert id parent ch in
-        let can = writable first (held_is_had first h.ops.0) in
-        (line_stands first can (sound first h.ops.0), line_has_none first can)
-    run_line_stands id parent (ch ∷ d ∷ chars) h =
-        let can = writable_run id parent ch (d ∷ chars) h in
-        (run_stands (stretch id parent (ch ∷ d ∷ chars)) can, run_has_none (stretch id parent (ch ∷ d ∷ chars)) can)
-
-    record Stand (lines : List (List ℕ)) (ops : List Op) : Type 0 where
-      operations : operations_of lines ≡ ops
-      all : AllByRecursion IsOperation lines
-      none : All HasNoNewline lines
+    sayable_held : (ops : List Op) → AreHeld ops → AreSayable ops
+    sayable_held = all_map (Holds c) IsSayable (λ op h. (writable op (held_is_had op h), sound op h))
 
     -- a line that is read as these operations
     abbrev Says : List ℕ → List Op → Type 0
     Says l ops = (operations_at l ≡ Ok ops) × HasNoNewline l
+
+    run_line_stands : (e : Identifier × Element) → IsEntry e → Says (stretch_line (run_of c e)) (stretch_operations (run_of c e))
+    run_line_stands e h =
+        let chars = going_on c e.0 (MAX_RUN - 1) in
+        let says = run_says e.0 e.1.parent e.1.ch chars (sayable_held (stretch_operations (run_of c e)) (run_held e h)) (omega (arith, length-going_on c e.0 (MAX_RUN - 1))) in
+        (says.says, says.none)
 
     lines_stand : {A R : Type 0} (make : A → R) (spell : R → List ℕ) (says : A → List Op) (P : A → Type 0) → ((x : A) → P x → Says (spell (make x)) (says x)) → (xs : List A) (more : List (List ℕ)) (ops : List Op) → AllByRecursion P xs → Stand more ops
         → Stand (map spell (map make xs) ++ more) (flat_map says xs ++ ops)
     lines_stand make spell says P each [] more ops h stand = stand
     lines_stand make spell says P each (x ∷ xs) more ops h stand =
         let first = each x h.0 in
-        let w = lines_stand make spell says P each xs more ops h.1 stand in
-        let others : List (List ℕ) = map spell (map make xs) ++ more in
-        record {
-          operations = ap (λ o. then_operations o (operations_of others)) first.0
-              ∙ ap (λ (os : List Op). says x ++ os) w.operations
-              ∙ sym (append_assoc (says x) (flat_map says xs) ops);
-          all = ((says x, first.0), w.all);
-          none = All-cons HasNoNewline (spell (make x)) others first.1 w.none;
-        }
+        subst (Stand (map spell (map make (x ∷ xs)) ++ more)) (sym (append_assoc (says x) (flat_map says xs) ops))
+        (stand_cons (spell (make x)) (says x) (map spell (map make xs) ++ more) (flat_map says xs ++ ops) first.0 first.1 (lines_stand make spell says P each xs more ops h.1 stand))
 
     -- the run of a deletion is one
     deletions_are_run : (most : ℕ) (id : Identifier) → 0 < most → most ≤ MAX_RUN → IsDeleted id → IsDeletionRun (deletion_run_of c most id)
@@ -338,25 +285,15 @@ module _ (c : Content) where
         (λ id h. deletion_stands (deletion_run_of c most id) (deletions_are_run most id (most_some dels) (most_few dels) h))
         (deletion_beginnings c most) [] [] (all_deletion_beginnings most) (record { operations = refl; all = tt; none = All-nil HasNoNewline }) in
         lines_stand (run_of c) stretch_line (λ (e : Identifier × Element). stretch_operations (run_of c e)) IsEntry
-        (λ e h. run_line_stands e.0 e.1.parent (run_of c e).chars (run_held e h))
-        (run_beginnings c) spelled (deletion_part most) all_run_beginnings
+        run_line_stands (run_beginnings c) spelled (deletion_part most) all_run_beginnings
         (subst (λ (ls : List (List ℕ)). Stand ls (deletion_part most)) (append-nil spelled) (subst (Stand (spelled ++ [])) (append-nil (deletion_part most)) ends))
-
-    pub compact_cut : (dels : Bool) → (compact_lines dels c ≡ lines_of (compact_text dels c)) × ([] ≡ rest_of (compact_text dels c))
-    compact_cut dels = cut_again (compact_lines dels c) (all_stand dels).none
 
     -- the compacted lines stand for the content, and end in a newline
     pub compact_stands : (dels : Bool) → StandsFor (compact_text dels c) c × (rest_of (compact_text dels c) ≡ [])
     compact_stands dels =
-        let cut = compact_cut dels in
-        let ended = sym cut.1 in
-        let all = subst (AllByRecursion IsOperation) cut.0 (all_stand dels).all in
-        let said = operations_ended (compact_text dels c) ended all ∙ ap operations_of (sym cut.0) ∙ (all_stand dels).operations in (
-          record {
-            lines = all;
-            short = subst (λ (rest : List ℕ). length rest ≤ MAX_LINE) cut.1 (lit≤ tt);
-            agreed = subst IsAgreed (sym said) (compact_agree (most_deletions dels));
-            content = sym (ap content_of said ∙ compact_content (most_deletions dels));
-          },
-          ended,
+        let stand = all_stand dels in
+        let most = most_deletions dels in
+        let cut = cut_again (compact_lines dels c) stand.none in (
+          subst (StandsFor (compact_text dels c)) (compact_content most) (stands_so (compact_text dels c) (compact_lines dels c) (compact_operations c most) (sym cut.0) (sym cut.1) stand.all stand.operations (compact_agree most)),
+          sym cut.1,
         )

@@ -1,24 +1,24 @@
 -- No line of a log holds the first operations of two lines to which it is compacted, so these are no more than its own.
-use Rattle.std.proofs.Common.{◌≡◌, ℕ, zero, suc, ◌+◌, ◌-◌, ◌<◌, ◌≤◌, Bool, true, false, cond, ◌&&◌, ◌||◌, ◌==◌, nat_le, nat_lt, List, [], ◌∷◌, ◌++◌, map, length, Some, None, Result, Ok, Err, refl, sym, ap, ◌∙◌, subst, arith, inl, inr, ◌⊎◌, T, le-leb, length-append, true≢false}
-use Rattle.std.specs.Prelude.{Contains, option_and_then}
+use Rattle.std.proofs.Common.{◌≡◌, ℕ, zero, suc, ◌+◌, ◌-◌, ◌<◌, ◌≤◌, Bool, true, false, cond, ◌&&◌, ◌||◌, nat_lt, List, [], ◌∷◌, ◌++◌, map, length, Some, Result, Ok, refl, sym, ap, ◌∙◌, subst, arith, inl, inr, ◌⊎◌, T, length-append, true≢false}
+use Rattle.std.specs.Prelude.{Contains}
 use Rattle.std.specs.List.{AllByRecursion}
 use Rattle.std.specs.Ordering.{is_lt}
 use Rattle.std.specs.FinMap as finite_map
 use Rattle.std.specs.FinSet as finite_set
-use Rattle.std.proofs.lemmas.Bool.{eq-eqb, lt-ltb, or_left, or_right}
+use Rattle.std.proofs.lemmas.Bool.{lt-ltb, or_left, or_right, or_parts}
 use Rattle.std.proofs.lemmas.List.{length-map}
-use Rattle.std.proofs.lemmas.List.Elements.{Contains-append_left, Contains-append_right}
+use Rattle.std.proofs.lemmas.List.Elements.{Contains-append_left, Contains-append_right, recursion_from_All, All-weaker, All-contains_itself}
 use Rattle.rga_ops.specs.Identifier.{Identifier, id_cmp}
 use Rattle.rga_ops.specs.Content.{Element, element, Content, content_of, Holds, IsAgreed}
 use Rattle.rga_ops.specs.Operations.{insertion_of, rising}
 use Rattle.rga_ops.specs.declared.id.TheConstants.Id.{MAX_COUNTER}
 use Rattle.rga_ops.specs.declared.op.Op.{Op}
 use Rattle.rga_ops.specs.declared.op.Op.TheVariants.{Insert, Delete}
-use Rattle.rga_ops.proofs.IdentifierLaws.{is_id-itself}
-use Rattle.rga_ops.proofs.OperationLaws.{Contains-first, Contains-later, Contains-cases, Contains-nil, Contains-append, content_inserted, content_deleted, inserted-iff, deleted-iff}
+use Rattle.rga_ops.proofs.OperationLaws.{Contains-cases, Contains-nil, Contains-append, content_inserted, content_deleted, inserted-iff, deleted-iff}
+use Rattle.rga_ops.proofs.MemberLaws.{all_map}
 use Rattle.rga_ops.proofs.SortedLaws.{all_zip}
 use Rattle.rga_lines.specs.declared.run.TheConstants.{MAX_RUN}
-use Rattle.rga_lines.specs.declared.line.Line.TheVariants.{One, Run, Deletions, Head, Last}
+use Rattle.rga_lines.specs.declared.line.Line.TheVariants.{One, Run, Deletions}
 use Rattle.rga_lines.specs.declared.fault.LineFault.{LineFault}
 use Rattle.rga_lines.specs.Runs.{next, run_operations, deletions_from, IsRun, IsDeletionRun}
 use Rattle.rga_lines.specs.Table.{AnyReading, any_line_at}
@@ -26,8 +26,7 @@ use Rattle.rga_lines.specs.Log.{operations_in, operations_of, operations_at, the
 use Rattle.rga_lines.proofs.ReadingLemmas.{any_run, any_deletions}
 use Rattle.rga_lines.proofs.StandLemmas.{stands}
 use Rattle.rga_exchange.specs.DeletionRuns.{is_deletion_run, have_deletion_runs}
-use Rattle.rga_exchange.specs.RunLines.{stretch_line}
-use Rattle.rga_exchange.specs.Compacting.{character_below, next_character, going_on, run_of, is_among, is_in_some, beginnings, run_size, run_beginnings, is_next_deleted, deletions_behind, most_deletions, deletion_run_of, deletion_size, deletion_beginnings, deletion_line, compact_lines}
+use Rattle.rga_exchange.specs.Compacting.{next_character, going_on, is_among, is_in_some, beginnings, run_size, run_beginnings, is_next_deleted, deletions_behind, most_deletions, deletion_size, deletion_beginnings, compact_lines}
 use Rattle.rga_exchange.specs.FewLines.{said, Says, AreApart, AllApart, first_operations}
 use Rattle.rga_exchange.proofs.GoingOnLemmas.{goes_on, one_deleted}
 use Rattle.rga_exchange.proofs.CompactLaws.{IsAmong, begin_all, all_run_beginnings, all_deletion_beginnings}
@@ -40,50 +39,44 @@ abbrev Said : List (List ℕ) → Op → Type 0
 Said [] op = ⊥
 Said (line ∷ lines) op = Says line op ⊎ Said lines op
 
--- the lines but for the first one that stands for the operation
-others : (lines : List (List ℕ)) (op : Op) → Said lines op → List (List ℕ)
-others [] op m = []
-others (line ∷ lines) op (inl here) = lines
-others (line ∷ lines) op (inr later) = line ∷ others lines op later
+apart_behind : (line : List ℕ) (lines : List (List ℕ)) (ops : List Op) → AllApart (line ∷ lines) ops → AllApart lines ops
+apart_behind line lines [] h = tt
+apart_behind line lines (op ∷ ops) h = (all_map (AreApart (line ∷ lines) op) (AreApart lines op) (λ b apart. apart.1) ops h.0, apart_behind line lines ops h.1)
 
-one_fewer : (lines : List (List ℕ)) (op : Op) (m : Said lines op) → length lines ≡ suc (length (others lines op m))
-unfolding others
-one_fewer [] op m = absurd m
-one_fewer (line ∷ lines) op (inl here) = refl
-one_fewer (line ∷ lines) op (inr later) = ap suc (one_fewer lines op later)
+-- some of the operations, all but one, are in the later lines
+record Behind (lines : List (List ℕ)) (ops : List Op) : Type 1 where
+  rest : List Op
+  fewer : length ops ≤ suc (length rest)
+  said : AllByRecursion (Said lines) rest
+  apart : AllApart lines rest
+  some : (P : Op → Type 0) → AllByRecursion P ops → AllByRecursion P rest
 
-in_others : (lines : List (List ℕ)) (a b : Op) (m : Said lines a) → AreApart lines a b → Said lines b → Said (others lines a m) b
-unfolding others
-in_others [] a b m apart n = absurd m
-in_others (line ∷ lines) a b (inl here) apart (inl there) = absurd (apart.0 here there)
-in_others (line ∷ lines) a b (inl here) apart (inr later) = later
-in_others (line ∷ lines) a b (inr m) apart (inl there) = inl there
-in_others (line ∷ lines) a b (inr m) apart (inr later) = inr (in_others lines a b m apart.1 later)
-
-apart_in_others : (lines : List (List ℕ)) (op a b : Op) (m : Said lines op) → AreApart lines a b → AreApart (others lines op m) a b
-unfolding others
-apart_in_others [] op a b m apart = tt
-apart_in_others (line ∷ lines) op a b (inl here) apart = apart.1
-apart_in_others (line ∷ lines) op a b (inr later) apart = (apart.0, apart_in_others lines op a b later apart.1)
-
-all_in_others : (lines : List (List ℕ)) (op : Op) (m : Said lines op) (ops : List Op) → AllByRecursion (AreApart lines op) ops → AllByRecursion (Said lines) ops → AllByRecursion (Said (others lines op m)) ops
-all_in_others lines op m [] apart h = tt
-all_in_others lines op m (b ∷ ops) apart h = (in_others lines op b m apart.0 h.0, all_in_others lines op m ops apart.1 h.1)
-
-one_apart : (lines : List (List ℕ)) (op a : Op) (m : Said lines op) (ops : List Op) → AllByRecursion (AreApart lines a) ops → AllByRecursion (AreApart (others lines op m) a) ops
-one_apart lines op a m [] h = tt
-one_apart lines op a m (b ∷ ops) h = (apart_in_others lines op a b m h.0, one_apart lines op a m ops h.1)
-
-all_apart : (lines : List (List ℕ)) (op : Op) (m : Said lines op) (ops : List Op) → AllApart lines ops → AllApart (others lines op m) ops
-all_apart lines op m [] h = tt
-all_apart lines op m (a ∷ ops) h = (one_apart lines op a m ops h.0, all_apart lines op m ops h.1)
+behind : (line : List ℕ) (lines : List (List ℕ)) (ops : List Op) → AllByRecursion (Said (line ∷ lines)) ops → AllApart (line ∷ lines) ops → Behind lines ops
+behind line lines [] h apart = record { rest = []; fewer = omega arith; said = tt; apart = tt; some = λ P all. tt }
+behind line lines (op ∷ ops) (inl here, h) apart = record {
+  rest = ops;
+  fewer = omega arith;
+  said = all_zip (Said (line ∷ lines)) (AreApart (line ∷ lines) op) (Said lines) (λ b m k. elim m [ inl there ↦ absurd (k.0 here there) | inr later ↦ later ]) ops h apart.0;
+  apart = apart_behind line lines ops apart.1;
+  some = λ P all. all.1;
+}
+behind line lines (op ∷ ops) (inr later, h) apart =
+    let w = behind line lines ops h apart.1 in
+    record {
+      rest = op ∷ w.rest;
+      fewer = omega (arith, w.fewer);
+      said = (later, w.said);
+      apart = (all_map (AreApart (line ∷ lines) op) (AreApart lines op) (λ b k. k.1) w.rest (w.some (AreApart (line ∷ lines) op) apart.0), w.apart);
+      some = λ P all. (all.0, w.some P all.1);
+    }
 
 -- operations that are in the lines, of which no line stands for two, are no more than the lines
-no_more : (ops : List Op) (lines : List (List ℕ)) → AllByRecursion (Said lines) ops → AllApart lines ops → length ops ≤ length lines
-no_more [] lines h apart = omega arith
-no_more (op ∷ ops) lines h apart =
-    let fewer = no_more ops (others lines op h.0) (all_in_others lines op h.0 ops apart.0 h.1) (all_apart lines op h.0 ops apart.1) in
-    omega (arith, fewer, one_fewer lines op h.0)
+no_more : (lines : List (List ℕ)) (ops : List Op) → AllByRecursion (Said lines) ops → AllApart lines ops → length ops ≤ length lines
+no_more [] [] h apart = omega arith
+no_more [] (op ∷ ops) h apart = absurd h.0
+no_more (line ∷ lines) ops h apart =
+    let w = behind line lines ops h apart in
+    omega (arith, w.fewer, no_more lines w.rest w.said w.apart)
 
 -- ---- those that begin a run are apart
 
@@ -97,51 +90,32 @@ module _ {A : Type 0} (name : A → Identifier) (size : A → ℕ) where
   AreBehind [] = Unit {0}
   AreBehind (x ∷ xs) = AllByRecursion (IsBehind x) xs × AreBehind xs
 
-  in_none : (a b : Bool) → (a || b) ≡ false → (a ≡ false) × (b ≡ false)
-  in_none true b h = absurd (true≢false h)
-  in_none false b h = (refl, h)
+  abbrev IsOutside : List A → A → Type 0
+  IsOutside begun y = is_in_some name size begun (name y) ≡ false
 
-  none_first : (x : A) (begun xs : List A) → AllByRecursion (λ y. is_in_some name size (x ∷ begun) (name y) ≡ false) xs → AllByRecursion (λ y. is_among (name x) (size x) (name y) ≡ false) xs
-  none_first x begun [] h = tt
-  none_first x begun (y ∷ xs) h = ((in_none (is_among (name x) (size x) (name y)) (is_in_some name size begun (name y)) h.0).0, none_first x begun xs h.1)
-
-  none_later : (x : A) (begun xs : List A) → AllByRecursion (λ y. is_in_some name size (x ∷ begun) (name y) ≡ false) xs → AllByRecursion (λ y. is_in_some name size begun (name y) ≡ false) xs
-  none_later x begun [] h = tt
-  none_later x begun (y ∷ xs) h = ((in_none (is_among (name x) (size x) (name y)) (is_in_some name size begun (name y)) h.0).1, none_later x begun xs h.1)
-
-  in_no_run : (begun xs : List A) → AllByRecursion (λ y. is_in_some name size begun (name y) ≡ false) (beginnings name size begun xs)
+  in_no_run : (begun xs : List A) → AllByRecursion (IsOutside begun) (beginnings name size begun xs)
   in_no_run begun [] = tt
-  in_no_run begun (x ∷ xs) = by_choice (is_in_some name size begun (name x)) refl (in_no_run begun xs) (in_no_run (x ∷ begun) xs)
-    where
-      by_choice : (b : Bool) → is_in_some name size begun (name x) ≡ b → AllByRecursion (λ y. is_in_some name size begun (name y) ≡ false) (beginnings name size begun xs)
-          → AllByRecursion (λ y. is_in_some name size (x ∷ begun) (name y) ≡ false) (beginnings name size (x ∷ begun) xs)
-          → AllByRecursion (λ y. is_in_some name size begun (name y) ≡ false) (cond b (beginnings name size begun xs) (x ∷ beginnings name size (x ∷ begun) xs))
-      by_choice true is with_it without = with_it
-      by_choice false is with_it without = (is, none_later x begun (beginnings name size (x ∷ begun) xs) without)
+  in_no_run begun (x ∷ xs) = elim (is_in_some name size begun (name x)) as (λ b. is_in_some name size begun (name x) ≡ b → AllByRecursion (IsOutside begun) (cond b (beginnings name size begun xs) (x ∷ beginnings name size (x ∷ begun) xs))) [
+    | true ↦ λ is. in_no_run begun xs
+    | false ↦ λ is. (is, all_map (IsOutside (x ∷ begun)) (IsOutside begun) (λ y out. (or_parts (is_among (name x) (size x) (name y)) (is_in_some name size begun (name y)) out).1) (beginnings name size (x ∷ begun) xs) (in_no_run (x ∷ begun) xs))
+  ] refl
 
   pub beginnings_behind : (begun xs : List A) → Rise name xs → AreBehind (beginnings name size begun xs)
   beginnings_behind begun [] rise = tt
-  beginnings_behind begun (x ∷ xs) rise = by_choice (is_in_some name size begun (name x)) (beginnings_behind begun xs rise.1) (beginnings_behind (x ∷ begun) xs rise.1)
-    where
-      later : List A
-      later = beginnings name size (x ∷ begun) xs
-
-      by_choice : (b : Bool) → AreBehind (beginnings name size begun xs) → AreBehind (beginnings name size (x ∷ begun) xs) → AreBehind (cond b (beginnings name size begun xs) (x ∷ beginnings name size (x ∷ begun) xs))
-      by_choice true with_it without = with_it
-      by_choice false with_it without = (
-        all_zip (λ y. T (is_lt (id_cmp (name x) (name y)))) (λ y. is_among (name x) (size x) (name y) ≡ false) (IsBehind x) (λ y above outside. record { above = above; outside = outside })
-            (beginnings name size (x ∷ begun) xs)
-            (begin_all name size (λ y. T (is_lt (id_cmp (name x) (name y)))) (x ∷ begun) xs rise.0)
-            (none_first x begun (beginnings name size (x ∷ begun) xs) (in_no_run (x ∷ begun) xs)),
-        without,
-      )
+  beginnings_behind begun (x ∷ xs) rise = elim (is_in_some name size begun (name x)) as (λ b. AreBehind (cond b (beginnings name size begun xs) (x ∷ beginnings name size (x ∷ begun) xs))) [
+    | true ↦ beginnings_behind begun xs rise.1
+    | false ↦ (
+      all_zip (λ y. T (is_lt (id_cmp (name x) (name y)))) (IsOutside (x ∷ begun)) (IsBehind x)
+          (λ y above out. record { above = above; outside = (or_parts (is_among (name x) (size x) (name y)) (is_in_some name size begun (name y)) out).0 })
+          (beginnings name size (x ∷ begun) xs)
+          (begin_all name size (λ y. T (is_lt (id_cmp (name x) (name y)))) (x ∷ begun) xs rise.0)
+          (in_no_run (x ∷ begun) xs),
+      beginnings_behind (x ∷ begun) xs rise.1,
+    )
+  ]
 
 not_among : (first : Identifier) (count : ℕ) (id : Identifier) → is_among first count id ≡ false → IsAmong first count id → ⊥
-not_among first count id out h =
-    let replica : (id.replica == first.replica) ≡ true = eq-eqb id.replica first.replica h.replica in
-    let from : nat_le first.counter id.counter ≡ true = le-leb first.counter id.counter h.from in
-    let to : nat_lt id.counter (first.counter + count) ≡ true = lt-ltb id.counter (first.counter + count) h.to in
-    true≢false (sym (λ k. replica k && (from k && to k)) ∙ out)
+not_among first count id out h = grind arith
 
 -- ---- what is in a line
 
@@ -179,10 +153,7 @@ module _ (c : Content) where
   -- ---- a run of the content reaches as far as any line does
 
   next_found : (last : Identifier) (ch : ℕ) → Holds c (Insert (next last) last ch) → last.counter < MAX_COUNTER → next_character c last ≡ Some ch
-  next_found last ch held below =
-      ap (λ b. cond b (option_and_then (character_below last) (finite_map.get c.inserted (next last))) None) (lt-ltb last.counter MAX_COUNTER below)
-      ∙ ap (option_and_then (character_below last)) held
-      ∙ ap (λ b. cond b (Some ch) None) (is_id-itself last)
+  next_found last ch held below = grind arith
 
   going_reaches : (last : Identifier) (room : ℕ) (chars : List ℕ) → AreHeld (run_operations (next last) last chars) → last.counter + length chars ≤ MAX_COUNTER → length chars ≤ room → length chars ≤ length (going_on c last room)
   going_reaches last room [] held end fits = omega arith
@@ -201,58 +172,34 @@ module _ (c : Content) where
       let more = deleted_reach (next last) room count held.1 (omega (arith, end)) (omega (arith, fits)) in
       omega (arith, one_deleted c last room is, more)
 
-  run_reaches : (first parent : Identifier) (chars : List ℕ) (x y : Identifier × Element) → AreHeld (run_operations first parent chars) → first.counter + length chars ≤ MAX_COUNTER + 1 → length chars ≤ MAX_RUN
-      → Contains (run_operations first parent chars) (insertion_of x) → Contains (run_operations first parent chars) (insertion_of y) → x.0.counter < y.0.counter → y.0.counter < x.0.counter + run_size c x
-  run_reaches first parent [] x y held end few m n less = absurd (Contains-nil (insertion_of x) m)
-  run_reaches first parent (ch ∷ chars) x y held end few m n less = elim (Contains-cases (Insert first parent ch) (insertion_of x) (run_operations (next first) first chars) m) [
+  run_reaches : (first parent : Identifier) (chars : List ℕ) (x : Identifier × Element) → AreHeld (run_operations first parent chars) → first.counter + length chars ≤ MAX_COUNTER + 1 → length chars ≤ MAX_RUN
+      → Contains (run_operations first parent chars) (insertion_of x) → first.counter + length chars ≤ x.0.counter + run_size c x
+  run_reaches first parent [] x held end few m = absurd (Contains-nil (insertion_of x) m)
+  run_reaches first parent (ch ∷ chars) x held end few m = elim (Contains-cases (Insert first parent ch) (insertion_of x) (run_operations (next first) first chars) m) [
     | inl same ↦
-        let is : first ≡ x.0 = ap name_of same in
         let far = going_reaches first (MAX_RUN - 1) chars held.1 (omega (arith, end)) (omega (arith, few)) in
-        let size : length chars ≤ length (going_on c x.0 (MAX_RUN - 1)) = subst (λ (i : Identifier). length chars ≤ length (going_on c i (MAX_RUN - 1))) is far in
-        let to = (among_run first parent (ch ∷ chars) (insertion_of y) n).0.to in
-        omega (arith, to, size, ap (λ (i : Identifier). i.counter) is)
-    | inr later ↦ elim (Contains-cases (Insert first parent ch) (insertion_of y) (run_operations (next first) first chars) n) [
-      | inl same ↦
-          let from = (among_run (next first) first chars (insertion_of x) later).0.from in
-          absurd (omega (arith, from, less, ap (λ (o : Op). (name_of o).counter) same))
-      | inr behind ↦ run_reaches (next first) first chars x y held.1 (omega (arith, end)) (omega (arith, few)) later behind less
-    ]
+        subst (λ (i : Identifier). first.counter + suc (length chars) ≤ i.counter + suc (length (going_on c i (MAX_RUN - 1)))) (ap name_of same) (omega (arith, far))
+    | inr later ↦ omega (arith, run_reaches (next first) first chars x held.1 (omega (arith, end)) (omega (arith, few)) later)
   ]
 
-  deletions_reach : (first : Identifier) (count : ℕ) (x y : Identifier) → AreHeld (deletions_from first count) → first.counter + count ≤ MAX_COUNTER + 1 → count ≤ MAX_RUN
-      → Contains (deletions_from first count) (Delete x) → Contains (deletions_from first count) (Delete y) → x.counter < y.counter → y.counter < x.counter + deletion_size c MAX_RUN x
-  deletions_reach first zero x y held end few m n less = absurd (Contains-nil (Delete x) m)
-  deletions_reach first (suc count) x y held end few m n less = elim (Contains-cases (Delete first) (Delete x) (deletions_from (next first) count) m) [
+  deletions_reach : (first : Identifier) (count : ℕ) (x : Identifier) → AreHeld (deletions_from first count) → first.counter + count ≤ MAX_COUNTER + 1 → count ≤ MAX_RUN
+      → Contains (deletions_from first count) (Delete x) → first.counter + count ≤ x.counter + deletion_size c MAX_RUN x
+  deletions_reach first zero x held end few m = absurd (Contains-nil (Delete x) m)
+  deletions_reach first (suc count) x held end few m = elim (Contains-cases (Delete first) (Delete x) (deletions_from (next first) count) m) [
     | inl same ↦
-        let is : first ≡ x = ap name_of same in
         let far = deleted_reach first (MAX_RUN - 1) count held.1 (omega (arith, end)) (omega (arith, few)) in
-        let size : count ≤ deletions_behind c x (MAX_RUN - 1) = subst (λ (i : Identifier). count ≤ deletions_behind c i (MAX_RUN - 1)) is far in
-        let to = (among_deletions first (suc count) (Delete y) n).0.to in
-        omega (arith, to, size, ap (λ (i : Identifier). i.counter) is)
-    | inr later ↦ elim (Contains-cases (Delete first) (Delete y) (deletions_from (next first) count) n) [
-      | inl same ↦
-          let from = (among_deletions (next first) count (Delete x) later).0.from in
-          absurd (omega (arith, from, less, ap (λ (o : Op). (name_of o).counter) same))
-      | inr behind ↦ deletions_reach (next first) count x y held.1 (omega (arith, end)) (omega (arith, few)) later behind less
-    ]
+        subst (λ (i : Identifier). first.counter + suc count ≤ i.counter + suc (deletions_behind c i (MAX_RUN - 1))) (ap name_of same) (omega (arith, far))
+    | inr later ↦ omega (arith, deletions_reach (next first) count x held.1 (omega (arith, end)) (omega (arith, few)) later)
   ]
 
   -- ---- no line has two of them
 
+  only : (o a : Op) → Contains (o ∷ []) a → o ≡ a
+  only o a m = elim (Contains-cases o a [] m) [ inl same ↦ same | inr later ↦ absurd (Contains-nil a later) ]
+
   -- two of one operation have one name
   one_name : (o a b : Op) → Contains (o ∷ []) a → Contains (o ∷ []) b → T (is_lt (id_cmp (name_of a) (name_of b))) → ⊥
-  one_name o a b m n above =
-      let first : o ≡ a = elim (Contains-cases o a [] m) [ inl same ↦ same | inr later ↦ absurd (Contains-nil a later) ] in
-      let second : o ≡ b = elim (Contains-cases o b [] n) [ inl same ↦ same | inr later ↦ absurd (Contains-nil b later) ] in
-      let same : a ≡ b = sym first ∙ second in
-      let less = larger_counter (name_of a) (name_of b) above (ap (λ (o : Op). (name_of o).replica) (sym same)) in
-      omega (arith, less, ap (λ (o : Op). (name_of o).counter) same)
-
-  of_one_kind : (a b : Op) → is_deletion a ≡ false → is_deletion b ≡ true → (o : Op) → Contains (o ∷ []) a → Contains (o ∷ []) b → ⊥
-  of_one_kind a b p q o m n =
-      let first : o ≡ a = elim (Contains-cases o a [] m) [ inl same ↦ same | inr later ↦ absurd (Contains-nil a later) ] in
-      let second : o ≡ b = elim (Contains-cases o b [] n) [ inl same ↦ same | inr later ↦ absurd (Contains-nil b later) ] in
-      true≢false (sym q ∙ ap is_deletion (sym second ∙ first) ∙ p)
+  one_name o a b m n above = grind arith
 
   module _ (line : List ℕ) (held : AreHeld (said (operations_at line))) where
     -- by what the line says
@@ -271,17 +218,16 @@ module _ (c : Content) where
             let run : IsRun r = any_run line r says in
             let first = says_in (Ok (Run r)) (insertion_of x) says m in
             let second = says_in (Ok (Run r)) (insertion_of y) says n in
-            let same : y.0.replica ≡ x.0.replica = (among_run r.id r.parent r.chars (insertion_of y) second).0.replica ∙ sym (among_run r.id r.parent r.chars (insertion_of x) first).0.replica in
+            let within = (among_run r.id r.parent r.chars (insertion_of y) second).0 in
+            let same : y.0.replica ≡ x.0.replica = within.replica ∙ sym (among_run r.id r.parent r.chars (insertion_of x) first).0.replica in
             let less : x.0.counter < y.0.counter = larger_counter x.0 y.0 behind.above same in
             not_among x.0 (run_size c x) y.0 behind.outside (record {
               replica = same;
               from = omega (arith, less);
-              to = run_reaches r.id r.parent r.chars x y (held_in (Ok (Run r)) says) run.end run.few first second less;
+              to = omega (arith, within.to, run_reaches r.id r.parent r.chars x (held_in (Ok (Run r)) says) run.end run.few first);
             })
         by_reading (Ok (Deletions r)) says = true≢false (sym (among_deletions r.id r.count (insertion_of x) (says_in (Ok (Deletions r)) (insertion_of x) says m)).1)
-        by_reading (Ok Head) says = Contains-nil (insertion_of x) (says_in (Ok Head) (insertion_of x) says m)
-        by_reading (Ok (Last number)) says = Contains-nil (insertion_of x) (says_in (Ok (Last number)) (insertion_of x) says m)
-        by_reading (Err e) says = Contains-nil (insertion_of x) (says_in (Err e) (insertion_of x) says m)
+        by_reading r says = Contains-nil (insertion_of x) (says_in r (insertion_of x) says m)
 
     deletions_apart : (most : ℕ) → (is_deletion_run (any_line_at line) ≡ true → most ≡ MAX_RUN) → (x y : Identifier) → IsBehind (λ (id : Identifier). id) (deletion_size c most) x y → Says line (Delete x) → Says line (Delete y) → ⊥
     deletions_apart most runs x y behind m n = by_reading (any_line_at line) refl
@@ -293,28 +239,25 @@ module _ (c : Content) where
             let run : IsDeletionRun r = any_deletions line r says in
             let first = says_in (Ok (Deletions r)) (Delete x) says m in
             let second = says_in (Ok (Deletions r)) (Delete y) says n in
-            let same : y.replica ≡ x.replica = (among_deletions r.id r.count (Delete y) second).0.replica ∙ sym (among_deletions r.id r.count (Delete x) first).0.replica in
+            let within = (among_deletions r.id r.count (Delete y) second).0 in
+            let same : y.replica ≡ x.replica = within.replica ∙ sym (among_deletions r.id r.count (Delete x) first).0.replica in
             let less : x.counter < y.counter = larger_counter x y behind.above same in
             let all : most ≡ MAX_RUN = runs (ap is_deletion_run says) in
             not_among x (deletion_size c most x) y behind.outside (record {
               replica = same;
               from = omega (arith, less);
-              to = subst (λ (size : ℕ). y.counter < x.counter + deletion_size c size x) (sym all) (deletions_reach r.id r.count x y (held_in (Ok (Deletions r)) says) run.end run.few first second less);
+              to = subst (λ (size : ℕ). y.counter < x.counter + deletion_size c size x) (sym all) (omega (arith, within.to, deletions_reach r.id r.count x (held_in (Ok (Deletions r)) says) run.end run.few first));
             })
-        by_reading (Ok Head) says = Contains-nil (Delete x) (says_in (Ok Head) (Delete x) says m)
-        by_reading (Ok (Last number)) says = Contains-nil (Delete x) (says_in (Ok (Last number)) (Delete x) says m)
-        by_reading (Err e) says = Contains-nil (Delete x) (says_in (Err e) (Delete x) says m)
+        by_reading r says = Contains-nil (Delete x) (says_in r (Delete x) says m)
 
     kinds_apart : (a b : Op) → is_deletion a ≡ false → is_deletion b ≡ true → Says line a → Says line b → ⊥
     kinds_apart a b p q m n = by_reading (any_line_at line) refl
       where
         by_reading : (r : AnyReading) → any_line_at line ≡ r → ⊥
-        by_reading (Ok (One op)) says = of_one_kind a b p q op (says_in (Ok (One op)) a says m) (says_in (Ok (One op)) b says n)
+        by_reading (Ok (One op)) says = true≢false (sym q ∙ ap is_deletion (sym (only op b (says_in (Ok (One op)) b says n)) ∙ only op a (says_in (Ok (One op)) a says m)) ∙ p)
         by_reading (Ok (Run r)) says = true≢false (sym q ∙ (among_run r.id r.parent r.chars b (says_in (Ok (Run r)) b says n)).1)
         by_reading (Ok (Deletions r)) says = true≢false (sym (among_deletions r.id r.count a (says_in (Ok (Deletions r)) a says m)).1 ∙ p)
-        by_reading (Ok Head) says = Contains-nil a (says_in (Ok Head) a says m)
-        by_reading (Ok (Last number)) says = Contains-nil a (says_in (Ok (Last number)) a says m)
-        by_reading (Err e) says = Contains-nil a (says_in (Err e) a says m)
+        by_reading r says = Contains-nil a (says_in r a says m)
 
   -- ---- of all lines
 
@@ -323,8 +266,7 @@ module _ (c : Content) where
     runs : is_deletion_run (any_line_at line) ≡ true → most ≡ MAX_RUN
 
   all_lines_apart : (most : ℕ) (a b : Op) (lines : List (List ℕ)) → ((line : List ℕ) → Fits most line → Says line a → Says line b → ⊥) → AllByRecursion (Fits most) lines → AreApart lines a b
-  all_lines_apart most a b [] apart h = tt
-  all_lines_apart most a b (line ∷ lines) apart h = (apart line h.0, all_lines_apart most a b lines apart h.1)
+  all_lines_apart most a b lines apart h = all_map (Fits most) (λ line. Says line a → Says line b → ⊥) apart lines h
 
   module _ (most : ℕ) (lines : List (List ℕ)) (fits : AllByRecursion (Fits most) lines) where
     abbrev inserted : Identifier × Element → Identifier
@@ -362,8 +304,7 @@ content_has ops (Insert id parent ch) h = content_inserted ops id (element paren
 content_has ops (Delete id) h = content_deleted ops id h
 
 list_held : (c : Content) (ops : List Op) → ((op : Op) → Contains ops op → Holds c op) → AllByRecursion (Holds c) ops
-list_held c [] h = tt
-list_held c (op ∷ ops) h = (h op (Contains-first op ops), list_held c ops (λ o m. h o (Contains-later op o ops m)))
+list_held c ops h = recursion_from_All (Holds c) ops (All-weaker (Contains ops) (Holds c) h ops (All-contains_itself ops))
 
 abbrev in_line : List (List ℕ) → Op → Result (List Op) LineFault → Type 0
 in_line lines op r = Contains (then_operations r (operations_of lines)) op
@@ -409,27 +350,11 @@ first_apart dels lines all agreed =
 
 -- each line has a first operation
 as_many : (dels : Bool) (c : Content) → length (first_operations dels c) ≡ length (compact_lines dels c)
-as_many dels c =
-    let most = most_deletions dels in
-    let es = run_beginnings c in
-    let ids = deletion_beginnings c most in
-    let runs = map (run_of c) es in
-    let deleted = map (deletion_run_of c most) ids in
-    omega (
-      arith,
-      length-append (map insertion_of es) (map Delete ids),
-      length-append (map stretch_line runs) (map deletion_line deleted),
-      length-map es insertion_of,
-      length-map ids Delete,
-      length-map runs stretch_line,
-      length-map es (run_of c),
-      length-map deleted deletion_line,
-      length-map ids (deletion_run_of c most),
-    )
+as_many dels c = grind (arith, length-append, length-map)
 
 pub no_more_lines : (dels : Bool) (lines : List (List ℕ)) → AllByRecursion IsOperation lines → IsAgreed (operations_of lines) → length (compact_lines (dels || have_deletion_runs lines) (content_of (operations_of lines))) ≤ length lines
 no_more_lines dels lines all agreed =
     let c = content_of (operations_of lines) in
     let runs = dels || have_deletion_runs lines in
-    let fewer = no_more (first_operations runs c) lines (all_said lines all (run_beginnings c) (deletion_beginnings c (most_deletions runs)) (all_run_beginnings c) (all_deletion_beginnings c (most_deletions runs))) (first_apart dels lines all agreed) in
+    let fewer = no_more lines (first_operations runs c) (all_said lines all (run_beginnings c) (deletion_beginnings c (most_deletions runs)) (all_run_beginnings c) (all_deletion_beginnings c (most_deletions runs))) (first_apart dels lines all agreed) in
     omega (arith, fewer, as_many runs c)

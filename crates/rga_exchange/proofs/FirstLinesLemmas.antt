@@ -1,44 +1,26 @@
 -- The lines of the first operations of a list, of which a beginning was written.
-use Rattle.std.proofs.Common.{◌≡◌, ℕ, ◌<◌, ◌≤◌, List, [], ◌∷◌, ◌++◌, map, length, take, drop, get_or, Option, sym, ap, subst, ◌∙◌, append_assoc, arith}
-use Rattle.std.specs.Prelude.{Contains}
-use Rattle.std.proofs.lemmas.List.{append_cancel_right, map-append, take-append-drop, length-take-le, get_or-take, take_all, take-take}
+use Rattle.std.proofs.Common.{◌≡◌, ℕ, ◌≤◌, List, [], ◌∷◌, ◌++◌, map, length, take, drop, Option, sym, ap, subst, ◌∙◌, append_assoc, arith}
+use Rattle.std.specs.Prelude.{All, Contains}
+use Rattle.std.proofs.lemmas.List.Elements.{All-contains, Contains-append_left}
+use Rattle.std.proofs.lemmas.List.{append_cancel_right, map-append, take-append-drop, length-take-le, take_all, take-take}
 use Rattle.std.proofs.lemmas.List.Concat.{flat_map-append}
-use Rattle.rga_ops.specs.Content.{Content, join, content_of}
+use Rattle.rga_ops.specs.Content.{Content}
 use Rattle.rga_ops.specs.ListAnswer.{AreWellFormed}
 use Rattle.rga_ops.specs.declared.op.Op.{Op}
 use Rattle.rga_ops.proofs.OperationLaws.{Contains-nil}
 use Rattle.rga_exchange.specs.Counting.{Calls, WritesFront, WritesAllBut}
-use Rattle.rga_lines.specs.Log.{log_operations}
 use Rattle.rga_lines.specs.Spelling.{line}
 use Rattle.rga_lines.specs.Stream.{newline, bytes_of_lines}
 use Rattle.rga_exchange.proofs.WrittenLemmas.{front_none}
-use Rattle.rga_exchange.specs.Sending.{log_text, AreWritable, StandsFor, GainsFirst, AppendsFirst, WritesFirst}
+use Rattle.rga_exchange.specs.Sending.{log_text, AreWritable, GainsFirst, AppendsFirst, WritesFirst}
 use Rattle.rga_exchange.proofs.BegunLemmas.{begun_left}
-use Rattle.rga_exchange.proofs.WritableLaws.{AreWritableUpTo}
+use Rattle.rga_exchange.proofs.WritableLaws.{MayBeWritten}
 use Rattle.rga_exchange.proofs.BegunLogLaws.{joinable_take, stands_begun}
 
 -- ---- the first operations
 
-record IsAmongFirst (ops : List Op) (n : ℕ) (op : Op) : Type 0 where
-  place : ℕ
-  before : place < n
-  inside : place < length ops
-  at : get_or ops place op ≡ op
-
-among_first : (ops : List Op) (n : ℕ) (op : Op) → n ≤ length ops → Contains (take n ops) op → IsAmongFirst ops n op
-among_first ops n op within (k, inside, at) =
-    let before : k < n = omega (arith, inside, length-take-le n ops within) in
-    record { place = k; before = before; inside = omega (arith, before, within); at = sym (get_or-take n ops k op before) ∙ at }
-
-first_well_formed : (ops : List Op) (n : ℕ) → n ≤ length ops → AreWellFormed ops → AreWellFormed (take n ops)
-first_well_formed ops n within well op m =
-    let h = among_first ops n op within m in
-    well op (h.place, h.inside, h.at)
-
-first_writable : (ops : List Op) (n : ℕ) → n ≤ length ops → AreWritableUpTo n ops → AreWellFormed ops → AreWritable (take n ops)
-first_writable ops n within up_to well op m =
-    let h = among_first ops n op within m in
-    up_to h.place op h.before h.inside h.at (well op (h.place, h.inside, h.at))
+first_well_formed : (ops : List Op) (n : ℕ) → AreWellFormed ops → AreWellFormed (take n ops)
+first_well_formed ops n well op m = well op (subst (λ os. Contains os op) (take-append-drop n ops) (Contains-append_left (take n ops) (drop n ops) op m))
 
 log_text-split : (ops : List Op) (n : ℕ) → log_text ops ≡ log_text (take n ops) ++ log_text (drop n ops)
 log_text-split ops n =
@@ -47,15 +29,7 @@ log_text-split ops n =
     ∙ flat_map-append (λ (l : List ℕ). l ++ newline ∷ []) (map line (take n ops)) (map line (drop n ops))
 
 gains_of_first : (bytes front : List ℕ) (c : Content) (ops : List Op) (n : ℕ) → n ≤ length ops → GainsFirst bytes front c (take n ops) → GainsFirst bytes front c ops
-gains_of_first bytes front c ops n within h =
-    let fewer : h.count ≤ n = omega (arith, h.within, length-take-le n ops within) in
-    let same : take h.count (take n ops) ≡ take h.count ops = take-take h.count n ops fewer in
-    record {
-      count = h.count;
-      within = omega (arith, fewer, within);
-      operations = h.operations ∙ ap (λ (os : List Op). log_operations bytes ++ os) same;
-      stands = subst (λ (os : List Op). StandsFor (bytes ++ front) (join c (content_of os))) same h.stands;
-    }
+gains_of_first bytes front c ops n within h = grind (arith, length-take-le, take-take)
 
 -- ---- what was written of them
 
@@ -64,7 +38,7 @@ module _ {W : Type 0} (contents : W → Option (List ℕ)) where
   first_none a bytes ops = record { count = 0; within = omega arith; writable = λ well op m. absurd (Contains-nil op m); begun = front_none contents a (bytes ++ []) }
 
   -- A block and the lines from an operation on were left, and then a beginning of the block was written.
-  pub first_begun : (a b c : Calls W) (start block : List ℕ) (ops : List Op) (n : ℕ) → n ≤ length ops → AreWritableUpTo n ops → WritesAllBut contents a b (start ++ log_text ops) (block ++ log_text (drop n ops)) → WritesFront contents b c block → WritesFirst contents a c start ops
+  pub first_begun : (a b c : Calls W) (start block : List ℕ) (ops : List Op) (n : ℕ) → n ≤ length ops → All MayBeWritten (take n ops) → WritesAllBut contents a b (start ++ log_text ops) (block ++ log_text (drop n ops)) → WritesFront contents b c block → WritesFirst contents a c start ops
   first_begun a b c start block ops n within up_to h k =
       let first : List ℕ = log_text (take n ops) in
       let later : List ℕ = log_text (drop n ops) in
@@ -73,7 +47,7 @@ module _ {W : Type 0} (contents : W → Option (List ℕ)) where
       record {
         count = n;
         within = within;
-        writable = first_writable ops n within up_to;
+        writable = λ well op m. All-contains MayBeWritten (take n ops) op up_to m (first_well_formed ops n well op m);
         begun = begun_left contents a b c (start ++ first) block (record { front = h.front; parts = append_cancel_right (start ++ first) (h.front ++ block) later whole; written = h.written }) k;
       }
 
@@ -96,5 +70,5 @@ module _ {W : Type 0} (contents : W → Option (List ℕ)) where
         front = h.begun.front;
         written = h.begun.written;
         gained = λ bytes held stands ended well joinable. gains_of_first bytes h.begun.front held ops h.count h.within (
-            stands_begun bytes held first h.begun.front h.begun.rest stands ended (h.writable well) (first_well_formed ops h.count h.within well) (joinable_take held ops h.count joinable) parts);
+            stands_begun bytes held first h.begun.front h.begun.rest stands ended (h.writable well) (first_well_formed ops h.count well) (joinable_take held ops h.count joinable) parts);
       }

@@ -1,16 +1,17 @@
 -- The insertions that go on with a run, and the deletions that do.
-use Rattle.std.proofs.Common.{◌≡◌, ℕ, zero, suc, ◌+◌, ◌-◌, ◌<◌, ◌≤◌, Bool, true, false, cond, ◌&&◌, nat_le, nat_lt, le-leb, lit<, append_assoc, append-nil, Ok, List, [], ◌∷◌, ◌++◌, length, Option, Some, None, refl, sym, ap, subst, ◌∙◌, arith}
+use Rattle.std.proofs.Common.{◌≡◌, ℕ, zero, suc, ◌+◌, ◌-◌, ◌<◌, ◌≤◌, true, false, cond, nat_lt, append_assoc, append-nil, Ok, List, [], ◌∷◌, ◌++◌, length, Option, Some, None, refl, sym, ap, subst, ◌∙◌, arith, inl, inr}
 use Rattle.std.specs.Prelude.{option_and_then}
 use Rattle.std.specs.Option.{option_map, option_map_or}
 use Rattle.std.specs.FinMap as finite_map
 use Rattle.std.specs.FinSet as finite_set
-use Rattle.std.proofs.lemmas.Bool.{and_parts, ltb-true, leb-false}
+use Rattle.std.proofs.lemmas.Bool.{and_parts, ltb-true, leb-false, cases_Bool, cond-true, false_from_ne_true}
+use Rattle.std.proofs.lemmas.Option.{cond_some, option_and_then_some, none-some, same_Some}
 use Rattle.std.proofs.lemmas.List.{length_push}
 use Rattle.rga_ops.specs.Operation.{checked}
 use Rattle.rga_ops.specs.declared.op.Op.TheVariants.{Insert}
 use Rattle.rga_ops.proofs.AnswerLaws.{well_formed_insertion}
 use Rattle.rga_ops.specs.Identifier.{Identifier, is_id}
-use Rattle.rga_ops.specs.Content.{Element, element, Content}
+use Rattle.rga_ops.specs.Content.{element, Content}
 use Rattle.rga_ops.specs.declared.id.TheConstants.Id.{MAX_COUNTER}
 use Rattle.rga_ops.proofs.IdentifierLaws.{is_id-is}
 use Rattle.rga_lines.specs.Runs.{next}
@@ -22,11 +23,34 @@ use Rattle.rga_exchange.specs.Compacting.{character_below, next_character, going
 
 -- the next identifier is an element's too
 next_within : (last : Identifier) → IsElement last → last.counter < MAX_COUNTER → IsElement (next last)
-next_within last within below =
-    let p = and_parts (nat_le 1 last.counter && nat_le last.counter MAX_COUNTER) (nat_le 1 last.replica && nat_le last.replica 65535) within in
-    let from : nat_le 1 (last.counter + 1) ≡ true = le-leb 1 (last.counter + 1) (omega arith) in
-    let to : nat_le (last.counter + 1) MAX_COUNTER ≡ true = le-leb (last.counter + 1) MAX_COUNTER (omega (arith, below)) in
-    λ k. (from k && to k) && p.1 k
+next_within last within below = grind arith
+
+-- ---- a list that is made step by step
+
+module _ {S : Type 0} (go : S → ℕ → List ℕ) where
+  -- These are the first of a list of so many at most; the others go on from this state.
+  pub record IsBegun (max : ℕ) (all xs : List ℕ) (s : S) : Type 0 where
+    pub going : xs ++ go s (max - length xs) ≡ all
+    pub room : length xs ≤ max
+
+  pub begun_more : (max : ℕ) (all xs : List ℕ) (s t : S) (x : ℕ) → IsBegun max all xs s → length xs < max → ((room : ℕ) → go s (suc room) ≡ x ∷ go t room) → IsBegun max all (xs ++ x ∷ []) t
+  begun_more max all xs s t x begun less step =
+      let room : ℕ = max - (length xs + 1) in
+      let one : length (xs ++ x ∷ []) ≡ length xs + 1 = length_push xs x in
+      let more : max - length xs ≡ suc room = omega (arith, less) in
+      let fewer : max - length (xs ++ x ∷ []) ≡ room = omega (arith, one) in
+      record {
+        going = ap (λ r. (xs ++ x ∷ []) ++ go t r) fewer
+            ∙ append_assoc xs (x ∷ []) (go t room)
+            ∙ ap (λ (ds : List ℕ). xs ++ ds) (sym (step room))
+            ∙ ap (λ r. xs ++ go s r) (sym more)
+            ∙ begun.going;
+        room = omega (arith, one, less);
+      }
+
+  -- no further one goes on
+  pub begun_whole : (max : ℕ) (all xs : List ℕ) (s : S) → IsBegun max all xs s → go s (max - length xs) ≡ [] → xs ≡ all
+  begun_whole max all xs s begun none = sym (append-nil xs) ∙ ap (λ (ds : List ℕ). xs ++ ds) (sym none) ∙ begun.going
 
 module _ (c : Content) where
   pub record IsNext (last : Identifier) (ch : ℕ) : Type 0 where
@@ -34,43 +58,31 @@ module _ (c : Content) where
     pub below : last.counter < MAX_COUNTER
 
   pub next_is : (last : Identifier) (ch : ℕ) → next_character c last ≡ Some ch → IsNext last ch
-  next_is last ch h = by_bound (nat_lt last.counter MAX_COUNTER) refl h
-    where
-      by_parent : (x : Element) (b : Bool) → is_id x.parent last ≡ b → finite_map.get c.inserted (next last) ≡ Some x → cond b (Some x.ch) None ≡ Some ch → finite_map.get c.inserted (next last) ≡ Some (element last ch)
-      by_parent x true is found h =
-          let both : Some x.ch ≡ Some ch = h in
-          let same : x.ch ≡ ch = cc in
-          found ∙ (λ k. Some (element (is_id-is x.parent last is k) (same k)))
-      by_parent x false is found h = absurd cc
-
-      by_element : (o : Option Element) → finite_map.get c.inserted (next last) ≡ o → option_and_then (character_below last) o ≡ Some ch → finite_map.get c.inserted (next last) ≡ Some (element last ch)
-      by_element None found h = absurd cc
-      by_element (Some x) found h = by_parent x (is_id x.parent last) refl found h
-
-      by_bound : (b : Bool) → nat_lt last.counter MAX_COUNTER ≡ b → cond b (option_and_then (character_below last) (finite_map.get c.inserted (next last))) None ≡ Some ch → IsNext last ch
-      by_bound true within h = record { held = by_element (finite_map.get c.inserted (next last)) refl h; below = ltb-true last.counter MAX_COUNTER within }
-      by_bound false within h = absurd cc
+  next_is last ch h = elim (nat_lt last.counter MAX_COUNTER) as (λ b. nat_lt last.counter MAX_COUNTER ≡ b → cond b (option_and_then (character_below last) (finite_map.get c.inserted (next last))) None ≡ Some ch → IsNext last ch) [
+    | true ↦ λ within g. record {
+      held = option_and_then_some (character_below last) (finite_map.get c.inserted (next last)) ch g (λ x found is.
+          let p = cond_some (is_id x.parent last) x.ch ch is in
+          found ∙ (λ k. Some (element (is_id-is x.parent last p.0 k) (p.1 k))));
+      below = ltb-true last.counter MAX_COUNTER within;
+    }
+    | false ↦ λ within g. absurd (none-some ch g)
+  ] refl h
 
   -- what is found to go on, or nothing
   abbrev with_next : Identifier → Option ℕ → Option (Identifier × ℕ)
   with_next last o = option_map (λ ch. (next last, ch)) o
 
   found_next : (last : Identifier) (p : Identifier × ℕ) → Some p ≡ with_next last (next_character c last) → (next_character c last ≡ Some p.1) × (p.0 ≡ next last)
-  found_next last p h = by_next (next_character c last) h
-    where
-      by_next : (o : Option ℕ) → Some p ≡ with_next last o → (o ≡ Some p.1) × (p.0 ≡ next last)
-      by_next None h = absurd cc
-      by_next (Some ch) h =
-          let found : Identifier × ℕ = (next last, ch) in
-          let same : p ≡ found = cc in
-          (ap (λ (q : Identifier × ℕ). Some q.1) (sym same), ap (λ (q : Identifier × ℕ). q.0) same)
+  found_next last p h = elim (next_character c last) as (λ o. Some p ≡ with_next last o → (o ≡ Some p.1) × (p.0 ≡ next last)) [
+    | None ↦ λ g. absurd (none-some p (sym g))
+    | Some ch ↦ λ g. let same = same_Some p (next last, ch) g in (ap (λ (q : Identifier × ℕ). Some q.1) (sym same), ap (λ (q : Identifier × ℕ). q.0) same)
+  ] h
 
   pub found_none : (last : Identifier) → None ≡ with_next last (next_character c last) → next_character c last ≡ None
-  found_none last h = by_next (next_character c last) h
-    where
-      by_next : (o : Option ℕ) → None ≡ with_next last o → o ≡ None
-      by_next None h = refl
-      by_next (Some ch) h = absurd cc
+  found_none last h = elim (next_character c last) as (λ o. None ≡ with_next last o → o ≡ None) [
+    | None ↦ λ g. refl
+    | Some ch ↦ λ g. absurd (none-some (next last, ch) g)
+  ] h
 
   -- ---- one step
 
@@ -91,21 +103,19 @@ module _ (c : Content) where
   pub length-going_on : (last : Identifier) (room : ℕ) → length (going_on c last room) ≤ room
   unfolding going_on
   length-going_on last zero = omega arith
-  length-going_on last (suc room) = by_next (next_character c last) (length-going_on (next last) room)
-    where
-      by_next : (o : Option ℕ) → length (going_on c (next last) room) ≤ room → length (option_map_or (λ d. d ∷ going_on c (next last) room) o []) ≤ suc room
-      by_next None later = omega arith
-      by_next (Some ch) later = omega (arith, later)
+  length-going_on last (suc room) = elim (next_character c last) as (λ o. length (option_map_or (λ d. d ∷ going_on c (next last) room) o []) ≤ suc room) [
+    | None ↦ omega arith
+    | Some ch ↦ omega (arith, length-going_on (next last) room)
+  ]
 
   -- none has a counter above the greatest
   pub counters_within : (last : Identifier) (room : ℕ) → last.counter ≤ MAX_COUNTER → last.counter + length (going_on c last room) ≤ MAX_COUNTER
   unfolding going_on
   counters_within last zero within = omega (arith, within)
-  counters_within last (suc room) within = by_next (next_character c last) refl (counters_within (next last) room)
-    where
-      by_next : (o : Option ℕ) → next_character c last ≡ o → (last.counter + 1 ≤ MAX_COUNTER → last.counter + 1 + length (going_on c (next last) room) ≤ MAX_COUNTER) → last.counter + length (option_map_or (λ d. d ∷ going_on c (next last) room) o []) ≤ MAX_COUNTER
-      by_next None is later = omega (arith, within)
-      by_next (Some ch) is later = let below : last.counter < MAX_COUNTER = (next_is last ch is).below in omega (arith, later (omega (arith, below)))
+  counters_within last (suc room) within = elim (next_character c last) as (λ o. next_character c last ≡ o → last.counter + length (option_map_or (λ d. d ∷ going_on c (next last) room) o []) ≤ MAX_COUNTER) [
+    | None ↦ λ is. omega (arith, within)
+    | Some ch ↦ λ is. let below : last.counter < MAX_COUNTER = (next_is last ch is).below in omega (arith, counters_within (next last) room (omega (arith, below)))
+  ] refl
 
   -- where none goes on, no room matters
   stops_in : (last : Identifier) (room : ℕ) → next_character c last ≡ None → going_on c last room ≡ []
@@ -115,63 +125,40 @@ module _ (c : Content) where
   -- ---- a run that is made step by step
 
   -- These characters are the first of the run that begins with an insertion; this is the last one's identifier.
-  pub record IsBegun (max : ℕ) (id : Identifier) (ch : ℕ) (chars : List ℕ) (last : Identifier) : Type 0 where
-    pub going : chars ++ going_on c last (max - length chars) ≡ ch ∷ going_on c id (max - 1)
-    pub room : length chars ≤ max
+  pub record IsRunBegun (max : ℕ) (id : Identifier) (ch : ℕ) (chars : List ℕ) (last : Identifier) : Type 0 where
+    pub begun : IsBegun (going_on c) max (ch ∷ going_on c id (max - 1)) chars last
     pub within : IsElement last
 
-  pub begun_first : (max : ℕ) (id : Identifier) (ch : ℕ) → 0 < max → IsElement id → IsBegun max id ch (ch ∷ []) id
-  begun_first max id ch some within = record { going = refl; room = omega (arith, some); within = within }
-
-  begun_next : (max : ℕ) (id : Identifier) (ch : ℕ) (chars : List ℕ) (last : Identifier) (d : ℕ) → IsBegun max id ch chars last → length chars < max → next_character c last ≡ Some d → IsBegun max id ch (chars ++ d ∷ []) (next last)
-  begun_next max id ch chars last d begun less is =
-      let room : ℕ = max - (length chars + 1) in
-      let one : length (chars ++ d ∷ []) ≡ length chars + 1 = length_push chars d in
-      let more : max - length chars ≡ suc room = omega (arith, less) in
-      let fewer : max - length (chars ++ d ∷ []) ≡ room = omega (arith, one) in
-      record {
-        going = ap (λ r. (chars ++ d ∷ []) ++ going_on c (next last) r) fewer
-            ∙ append_assoc chars (d ∷ []) (going_on c (next last) room)
-            ∙ ap (λ (ds : List ℕ). chars ++ ds) (sym (goes_on last room d is))
-            ∙ ap (λ r. chars ++ going_on c last r) (sym more)
-            ∙ begun.going;
-        room = omega (arith, one, less);
-        within = next_within last begun.within (next_is last d is).below;
-      }
+  pub begun_first : (max : ℕ) (id : Identifier) (ch : ℕ) → 0 < max → IsElement id → IsRunBegun max id ch (ch ∷ []) id
+  begun_first max id ch some within = record { begun = record { going = refl; room = omega (arith, some) }; within = within }
 
   -- the next one was found, and put behind them
-  pub grown : (max : ℕ) (id : Identifier) (ch : ℕ) (chars more : List ℕ) (last : Identifier) (p : Identifier × ℕ) → IsBegun max id ch chars last → length chars < max → Some p ≡ with_next last (next_character c last) → more ≡ chars ++ p.1 ∷ [] → IsBegun max id ch more p.0
-  grown max id ch chars more last p begun less is put =
+  pub grown : (max : ℕ) (id : Identifier) (ch : ℕ) (chars more : List ℕ) (last : Identifier) (p : Identifier × ℕ) → IsRunBegun max id ch chars last → length chars < max → Some p ≡ with_next last (next_character c last) → more ≡ chars ++ p.1 ∷ [] → IsRunBegun max id ch more p.0
+  grown max id ch chars more last p h less is put =
       let found = found_next last p is in
-      subst (λ (i : Identifier). IsBegun max id ch more i) (sym found.1)
-      (subst (λ (cs : List ℕ). IsBegun max id ch cs (next last)) (sym put) (begun_next max id ch chars last p.1 begun less found.0))
+      subst (λ (i : Identifier). IsRunBegun max id ch more i) (sym found.1) (subst (λ (cs : List ℕ). IsRunBegun max id ch cs (next last)) (sym put) (record {
+        begun = begun_more (going_on c) max (ch ∷ going_on c id (max - 1)) chars last (next last) p.1 h.begun less (λ room. goes_on last room p.1 found.0);
+        within = next_within last h.within (next_is last p.1 found.0).below;
+      }))
 
   -- no further one goes on, or there is no room for one
-  pub begun_whole : (max : ℕ) (id : Identifier) (ch : ℕ) (chars : List ℕ) (last : Identifier) → IsBegun max id ch chars last → next_character c last ≡ None → chars ≡ ch ∷ going_on c id (max - 1)
-  begun_whole max id ch chars last begun is =
-      sym (append-nil chars) ∙ ap (λ (ds : List ℕ). chars ++ ds) (sym (stops_in last (max - length chars) is)) ∙ begun.going
+  pub begun_ends : (max : ℕ) (id : Identifier) (ch : ℕ) (chars : List ℕ) (last : Identifier) → IsRunBegun max id ch chars last → next_character c last ≡ None → chars ≡ ch ∷ going_on c id (max - 1)
+  begun_ends max id ch chars last h is = begun_whole (going_on c) max (ch ∷ going_on c id (max - 1)) chars last h.begun (stops_in last (max - length chars) is)
 
-  pub begun_full : (max : ℕ) (id : Identifier) (ch : ℕ) (chars : List ℕ) (last : Identifier) → IsBegun max id ch chars last → max ≤ length chars → chars ≡ ch ∷ going_on c id (max - 1)
-  begun_full max id ch chars last begun full =
+  pub begun_full : (max : ℕ) (id : Identifier) (ch : ℕ) (chars : List ℕ) (last : Identifier) → IsRunBegun max id ch chars last → max ≤ length chars → chars ≡ ch ∷ going_on c id (max - 1)
+  begun_full max id ch chars last h full =
       let none : max - length chars ≡ 0 = omega (arith, full) in
-      sym (append-nil chars)
-      ∙ ap (λ (ds : List ℕ). chars ++ ds) (sym (has_no_room last))
-      ∙ ap (λ r. chars ++ going_on c last r) (sym none)
-      ∙ begun.going
+      begun_whole (going_on c) max (ch ∷ going_on c id (max - 1)) chars last h.begun (ap (going_on c last) none ∙ has_no_room last)
 
   -- ---- the run of an insertion
-
-  longer : (max : ℕ) (ch : ℕ) (chars : List ℕ) → 0 < max → length chars ≤ max - 1 → (0 < length (ch ∷ chars)) × (length (ch ∷ chars) ≤ max)
-  longer max ch chars some few = (omega arith, omega (arith, some, few))
 
   pub is_run : (id parent : Identifier) (ch : ℕ) → checked (Insert id parent ch) ≡ Ok tt → IsElement id → IsRun (run_of c (id, element parent ch))
   is_run id parent ch ok within =
       let chars : List ℕ = going_on c id (MAX_RUN - 1) in
-      let sizes = longer MAX_RUN ch chars (lit< tt) (length-going_on id (MAX_RUN - 1)) in
       let end : id.counter + length chars ≤ MAX_COUNTER = counters_within id (MAX_RUN - 1) (in_bounds id within).counter in
       record {
-        some = sizes.0;
-        few = sizes.1;
+        some = omega arith;
+        few = omega (arith, length-going_on id (MAX_RUN - 1));
         end = omega (arith, end);
         rising = leb-false id.counter parent.counter (well_formed_insertion id parent ch ok).1;
       }
@@ -189,22 +176,10 @@ module _ (c : Content) where
 
   -- what was found to be deleted next, or that nothing is
   pub found_deleted : (last id : Identifier) → Some id ≡ cond (is_next_deleted c last) (Some (next last)) None → (is_next_deleted c last ≡ true) × (id ≡ next last)
-  found_deleted last id h = by_choice (is_next_deleted c last) h
-    where
-      by_choice : (b : Bool) → Some id ≡ cond b (Some (next last)) None → (b ≡ true) × (id ≡ next last)
-      by_choice true h =
-          let after : Identifier = next last in
-          let both : Some id ≡ Some after = h in
-          let same : id ≡ after = cc in
-          (refl, same)
-      by_choice false h = absurd cc
+  found_deleted last id h = let p = cond_some (is_next_deleted c last) (next last) id (sym h) in (p.0, sym p.1)
 
   pub found_none_deleted : (last : Identifier) → None ≡ cond (is_next_deleted c last) (Some (next last)) None → is_next_deleted c last ≡ false
-  found_none_deleted last h = by_choice (is_next_deleted c last) h
-    where
-      by_choice : (b : Bool) → None ≡ cond b (Some (next last)) None → b ≡ false
-      by_choice true h = absurd cc
-      by_choice false h = refl
+  found_none_deleted last h = false_from_ne_true (is_next_deleted c last) (λ is. none-some (next last) (h ∙ cond-true (is_next_deleted c last) (Some (next last)) None is))
 
   pub one_deleted : (last : Identifier) (room : ℕ) → is_next_deleted c last ≡ true → deletions_behind c last (suc room) ≡ suc (deletions_behind c (next last) room)
   unfolding deletions_behind
@@ -221,22 +196,20 @@ module _ (c : Content) where
 
   pub few_deleted : (last : Identifier) (room : ℕ) → deletions_behind c last room ≤ room
   few_deleted last zero = omega (arith, no_room_deleted last)
-  few_deleted last (suc room) = by_choice (is_next_deleted c last) refl (few_deleted (next last) room)
-    where
-      by_choice : (b : Bool) → is_next_deleted c last ≡ b → deletions_behind c (next last) room ≤ room → deletions_behind c last (suc room) ≤ suc room
-      by_choice true is later = omega (arith, one_deleted last room is, later)
-      by_choice false is later = omega (arith, none_deleted last (suc room) is)
+  few_deleted last (suc room) = elim (cases_Bool (is_next_deleted c last)) [
+    | inl is ↦ omega (arith, one_deleted last room is, few_deleted (next last) room)
+    | inr is ↦ omega (arith, none_deleted last (suc room) is)
+  ]
 
   -- none has a counter above the greatest
   pub deleted_within : (last : Identifier) (room : ℕ) → last.counter ≤ MAX_COUNTER → last.counter + deletions_behind c last room ≤ MAX_COUNTER
   deleted_within last zero within = omega (arith, no_room_deleted last, within)
-  deleted_within last (suc room) within = by_choice (is_next_deleted c last) refl (deleted_within (next last) room)
-    where
-      by_choice : (b : Bool) → is_next_deleted c last ≡ b → (last.counter + 1 ≤ MAX_COUNTER → last.counter + 1 + deletions_behind c (next last) room ≤ MAX_COUNTER) → last.counter + deletions_behind c last (suc room) ≤ MAX_COUNTER
-      by_choice true is later =
-          let below : last.counter < MAX_COUNTER = (next_deleted_is last is).below in
-          omega (arith, one_deleted last room is, later (omega (arith, below)))
-      by_choice false is later = omega (arith, none_deleted last (suc room) is, within)
+  deleted_within last (suc room) within = elim (cases_Bool (is_next_deleted c last)) [
+    | inl is ↦
+        let below : last.counter < MAX_COUNTER = (next_deleted_is last is).below in
+        omega (arith, one_deleted last room is, deleted_within (next last) room (omega (arith, below)))
+    | inr is ↦ omega (arith, none_deleted last (suc room) is, within)
+  ]
 
   -- So many deletions of the run that begins with one were found; this is the last one's identifier.
   pub record IsCounted (most : ℕ) (id : Identifier) (count : ℕ) (last : Identifier) : Type 0 where

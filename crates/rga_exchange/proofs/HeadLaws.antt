@@ -1,5 +1,5 @@
 -- The head of an exchange: what is taken of a stream is what is taken of its lines behind the head, as of a log.
-use Rattle.std.proofs.Common.{◌≡◌, ℕ, ◌+◌, ◌<◌, ◌≤◌, Bool, true, false, cond, List, [], ◌∷◌, ◌++◌, length, Result, Ok, Err, refl, sym, ap, ◌∙◌, arith}
+use Rattle.std.proofs.Common.{◌≡◌, ℕ, ◌+◌, ◌<◌, Bool, true, false, cond, List, [], ◌∷◌, ◌++◌, length, Result, Ok, Err, refl, sym, ap, subst, ◌∙◌, arith, true≢false}
 use Rattle.std.specs.Prelude.{◌↔◌}
 use Rattle.std.proofs.lemmas.Bool.{ne_eqb, eq-eqb, eqb-true}
 use Rattle.rga_ops.specs.Content.{Content}
@@ -7,7 +7,7 @@ use Rattle.rga_ops.specs.Answer.{taken}
 use Rattle.rga_ops.specs.declared.refusal.Refusal.{Refusal}
 use Rattle.rga_lines.specs.Runs.{stretch_operations, run_deletions}
 use Rattle.rga_lines.specs.Table.{AnyReading, any_line_at}
-use Rattle.rga_lines.specs.Log.{operations_of, then_operations, is_head, behind_head}
+use Rattle.rga_lines.specs.Log.{operations_of, is_head, behind_head}
 use Rattle.rga_lines.specs.declared.line.Line.TheVariants.{One, Run, Deletions, Head, Last}
 use Rattle.rga_lines.specs.declared.fault.LineFault.TheVariants as line_fault
 use Rattle.rga_lines.proofs.StandLemmas.{stands}
@@ -38,118 +38,61 @@ head-iff Log n = (λ e. absurd cc, λ p. let clash : Log ≡ Exchange = p.0 in a
 head-iff Exchange n = (λ e. (refl, eqb-true n 1 e), λ p. eq-eqb n 1 p.1)
 
 says_head : (r : AnyReading) → is_head r ≡ true → r ≡ Ok Head
-says_head (Ok (One op)) e = absurd cc
-says_head (Ok (Run r)) e = absurd cc
-says_head (Ok (Deletions r)) e = absurd cc
-says_head (Ok Head) e = refl
-says_head (Ok (Last number)) e = absurd cc
-says_head (Err x) e = absurd cc
+says_head zp1 e = grind (arith)
 
 -- a head where none may be is the fault of its line
 pub head_elsewhere : (form : Form) (limit n : ℕ) (c : Content) (line : List ℕ) (lines : List (List ℕ)) → any_line_at line ≡ Ok Head → may_be_head form (n + 1) ≡ false
     → lines_taken form limit n c (line ∷ lines) ≡ progress n c (AtFault (fault.Line (n + 1) line_fault.Kind))
-head_elsewhere form limit n c line lines says none =
-    ap (λ r. go_on n c (after_line form limit (n + 1) c r) (λ d. lines_taken form limit (n + 1) d lines)) says
-    ∙ ap (λ b. go_on n c (cond b (on c) (no_head_at (n + 1))) (λ d. lines_taken form limit (n + 1) d lines)) none
+head_elsewhere form limit n c line lines says none = grind (arith)
 
 -- ---- as a log
 
--- a line is taken as one of a log where none may be a head, and so is one that says none
-none_may_be : (form : Form) (limit n : ℕ) (c : Content) (r : AnyReading) → may_be_head form n ≡ false → after_line form limit n c r ≡ after_line Log limit n c r
-none_may_be form limit n c (Ok (One op)) none = refl
-none_may_be form limit n c (Ok (Run r)) none = refl
-none_may_be form limit n c (Ok (Deletions r)) none = refl
-none_may_be form limit n c (Ok Head) none = ap (λ b. cond b (on c) (no_head_at n)) none
-none_may_be form limit n c (Ok (Last number)) none = refl
-none_may_be form limit n c (Err e) none = refl
-
-none_is : (form : Form) (limit n : ℕ) (c : Content) (r : AnyReading) → is_head r ≡ false → after_line form limit n c r ≡ after_line Log limit n c r
-none_is form limit n c (Ok (One op)) none = refl
-none_is form limit n c (Ok (Run r)) none = refl
-none_is form limit n c (Ok (Deletions r)) none = refl
-none_is form limit n c (Ok Head) none = absurd cc
-none_is form limit n c (Ok (Last number)) none = refl
-none_is form limit n c (Err e) none = refl
+-- a line is taken as one of a log, but for a head where one may be
+as_line : (form : Form) (limit n : ℕ) (c : Content) (r : AnyReading) → (is_head r ≡ true → may_be_head form n ≡ false) → after_line form limit n c r ≡ after_line Log limit n c r
+as_line form limit n c zp1 none = grind (arith)
 
 pub as_log : (form : Form) (limit n : ℕ) (c : Content) (lines : List (List ℕ)) → may_be_head form (n + 1) ≡ false → lines_taken form limit n c lines ≡ lines_taken Log limit n c lines
 as_log form limit n c [] none = refl
 as_log form limit n c (line ∷ lines) none =
-    λ k. go_on n c (none_may_be form limit (n + 1) c (any_line_at line) none k) (λ d. as_log form limit (n + 1) d lines (none_behind form (n + 1) (omega arith)) k)
+    λ k. go_on n c (as_line form limit (n + 1) c (any_line_at line) (λ _. none) k) (λ d. as_log form limit (n + 1) d lines (none_behind form (n + 1) (omega arith)) k)
+
+-- no lines have none
+pub body-nil : (form : Form) (n : ℕ) → body_behind form n [] ≡ []
+body-nil form n = grind (arith)
 
 -- what is taken of lines is what is taken of those that are to be operations, as lines of a log behind so many others
-pub record ThroughBody (form : Form) (limit n : ℕ) (c : Content) (lines : List (List ℕ)) : Type 0 where
+pub record ThroughBody (form : Form) (limit n : ℕ) (c : Content) (lines body : List (List ℕ)) : Type 0 where
   pub before : ℕ
-  pub behind : n ≤ before
-  pub count : before + length (body_behind form n lines) ≡ n + length lines
-  pub same : lines_taken form limit n c lines ≡ lines_taken Log limit before c (body_behind form n lines)
+  pub count : before + length body ≡ n + length lines
+  pub same : lines_taken form limit n c lines ≡ lines_taken Log limit before c body
 
-pub through_body : (form : Form) (limit n : ℕ) (c : Content) (lines : List (List ℕ)) → ThroughBody form limit n c lines
-through_body form limit n c lines = by_place (may_be_head form (n + 1)) refl lines
+pub through_body : (form : Form) (limit n : ℕ) (c : Content) (lines : List (List ℕ)) → ThroughBody form limit n c lines (body_behind form n lines)
+through_body form limit n c [] = subst (ThroughBody form limit n c []) (sym (body-nil form n)) (record { before = n; count = refl; same = refl })
+through_body form limit n c (line ∷ lines) = by_place (may_be_head form (n + 1)) (is_head (any_line_at line)) refl refl
   where
-    -- the body is these lines, which are taken so
-    through : (lines body : List (List ℕ)) (before : ℕ) → body_behind form n lines ≡ body → n ≤ before → before + length body ≡ n + length lines → lines_taken form limit n c lines ≡ lines_taken Log limit before c body → ThroughBody form limit n c lines
-    through lines body before is behind count same = record {
-      before = before;
-      behind = behind;
-      count = ap (λ ls. before + length ls) is ∙ count;
-      same = same ∙ ap (lines_taken Log limit before c) (sym is);
+    by_place : (may head : Bool) → may_be_head form (n + 1) ≡ may → is_head (any_line_at line) ≡ head → ThroughBody form limit n c (line ∷ lines) (cond may (cond head lines (line ∷ lines)) (line ∷ lines))
+    by_place true true may head = record {
+      before = n + 1;
+      count = omega arith;
+      same = ap (λ r. go_on n c (after_line form limit (n + 1) c r) (λ d. lines_taken form limit (n + 1) d lines)) (says_head (any_line_at line) head)
+          ∙ ap (λ b. go_on n c (cond b (on c) (no_head_at (n + 1))) (λ d. lines_taken form limit (n + 1) d lines)) may
+          ∙ as_log form limit (n + 1) c lines (none_behind form (n + 1) (omega arith));
     }
-
-    all : (lines : List (List ℕ)) → body_behind form n lines ≡ lines → lines_taken form limit n c lines ≡ lines_taken Log limit n c lines → ThroughBody form limit n c lines
-    all lines is same = through lines lines n is (omega arith) refl same
-
-    by_first : may_be_head form (n + 1) ≡ true → (line : List ℕ) (lines : List (List ℕ)) (head : Bool) → is_head (any_line_at line) ≡ head → ThroughBody form limit n c (line ∷ lines)
-    by_first may line lines true is =
-        through (line ∷ lines) lines (n + 1)
-        (λ k. cond (may k) (cond (is k) lines (line ∷ lines)) (line ∷ lines))
-        (omega arith)
-        (omega arith)
-        (ap (λ r. go_on n c (after_line form limit (n + 1) c r) (λ d. lines_taken form limit (n + 1) d lines)) (says_head (any_line_at line) is)
-        ∙ ap (λ b. go_on n c (cond b (on c) (no_head_at (n + 1))) (λ d. lines_taken form limit (n + 1) d lines)) may
-        ∙ as_log form limit (n + 1) c lines (none_behind form (n + 1) (omega arith)))
-    by_first may line lines false is =
-        all (line ∷ lines)
-        (λ k. cond (may k) (cond (is k) lines (line ∷ lines)) (line ∷ lines))
-        (λ k. go_on n c (none_is form limit (n + 1) c (any_line_at line) is k) (λ d. as_log form limit (n + 1) d lines (none_behind form (n + 1) (omega arith)) k))
-
-    by_place : (may : Bool) → may_be_head form (n + 1) ≡ may → (lines : List (List ℕ)) → ThroughBody form limit n c lines
-    by_place false none lines = all lines (ap (λ b. cond b (behind_head lines) lines) none) (as_log form limit n c lines none)
-    by_place true may [] = all [] (ap (λ b. cond b [] []) may) refl
-    by_place true may (line ∷ lines) = by_first may line lines (is_head (any_line_at line)) refl
+    by_place true false may head = record {
+      before = n;
+      count = refl;
+      same = λ k. go_on n c (as_line form limit (n + 1) c (any_line_at line) (λ is. absurd (true≢false (sym is ∙ head))) k) (λ d. as_log form limit (n + 1) d lines (none_behind form (n + 1) (omega arith)) k);
+    }
+    by_place false head none is = record { before = n; count = refl; same = as_log form limit n c (line ∷ lines) none }
 
 -- ---- lines that are to be operations
 
-pub body-nil : (form : Form) (n : ℕ) → body_behind form n [] ≡ []
-body-nil form n = by_place (may_be_head form (n + 1))
-  where
-    none : List (List ℕ)
-    none = []
-
-    by_place : (may : Bool) → cond may none none ≡ none
-    by_place true = refl
-    by_place false = refl
-
 pub body-append : (form : Form) (n : ℕ) (xs ys : List (List ℕ)) → body_behind form n (xs ++ ys) ≡ body_behind form n xs ++ body_behind form (n + length xs) ys
-body-append form n [] ys =
-    let here : n ≡ n + 0 = omega arith in
-    ap (λ i. body_behind form i ys) here ∙ ap (λ (ls : List (List ℕ)). ls ++ body_behind form (n + 0) ys) (sym (body-nil form n))
-body-append form n (x ∷ xs) ys =
-    by_place (may_be_head form (n + 1)) (is_head (any_line_at x))
-    ∙ ap (λ b. body_behind form n (x ∷ xs) ++ cond b (behind_head ys) ys) (sym (none_behind form (n + length (x ∷ xs)) (omega arith)))
-  where
-    by_place : (may head : Bool) → cond may (cond head (xs ++ ys) (x ∷ (xs ++ ys))) (x ∷ (xs ++ ys)) ≡ cond may (cond head xs (x ∷ xs)) (x ∷ xs) ++ ys
-    by_place true true = refl
-    by_place true false = refl
-    by_place false head = refl
+body-append form n zp1 ys = grind arith
 
 -- a head stands for no operations, be it taken or not
 pub body_alone : (form : Form) (n : ℕ) (line : List ℕ) → operations_of (body_behind form n (line ∷ [])) ≡ operations_of (line ∷ [])
-body_alone form n line = by_place (may_be_head form (n + 1)) (is_head (any_line_at line)) refl
-  where
-    by_place : (may head : Bool) → is_head (any_line_at line) ≡ head → operations_of (cond may (cond head [] (line ∷ [])) (line ∷ [])) ≡ operations_of (line ∷ [])
-    by_place true true is = sym (ap (λ r. then_operations r []) (stands line (Ok Head) (says_head (any_line_at line) is)))
-    by_place true false is = refl
-    by_place false head is = refl
+body_alone form n line = grind (arith, stands, says_head)
 
 -- ---- an exchange
 

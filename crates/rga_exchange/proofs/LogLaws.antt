@@ -1,25 +1,23 @@
 -- Logs that are read to their end, in words.
-use Rattle.std.proofs.Common.{◌≡◌, ℕ, ◌+◌, ◌≤◌, Bool, true, false, cond, nat_lt, List, [], ◌∷◌, ◌++◌, length, Result, Ok, Err, refl, sym, ap, subst, ◌∙◌, arith, append-nil, inl, inr, lit≤}
-use Rattle.std.specs.Prelude.{◌⊎◌, Contains}
+use Rattle.std.proofs.Common.{◌≡◌, ℕ, ◌+◌, ◌≤◌, cond, List, [], ◌∷◌, ◌++◌, length, Result, Ok, Err, refl, sym, ap, subst, ◌∙◌, arith, append-nil, inl, inr}
+use Rattle.std.specs.Prelude.{◌⊎◌}
 use Rattle.std.specs.List.{AllByRecursion}
 use Rattle.std.specs.FinSet as finite_set
-use Rattle.std.proofs.lemmas.Bool.{ltb-true, cases_lt}
+use Rattle.std.proofs.lemmas.Bool.{cases_lt, le-ltb}
+use Rattle.std.proofs.lemmas.List.Elements.{All-contains, All-from_recursion}
 use Rattle.rga_ops.specs.Operation.{checked}
 use Rattle.rga_ops.specs.Content.{Content, Agree, join, content_of, known_ids}
-use Rattle.rga_ops.specs.Answer.{taken, taken_one_by_one}
+use Rattle.rga_ops.specs.Answer.{taken_one_by_one}
 use Rattle.rga_ops.specs.ListAnswer.{IsJoinable}
 use Rattle.rga_ops.specs.declared.op.Op.{Op}
-use Rattle.rga_ops.specs.declared.refusal.Refusal.{Refusal}
-use Rattle.rga_ops.proofs.OperationLaws.{Contains-nil, Contains-cases, Contains-append}
-use Rattle.rga_ops.proofs.TakenLaws.{took, one_by_one-append}
+use Rattle.rga_ops.proofs.MemberLaws.{all_append}
+use Rattle.rga_ops.proofs.TakenLaws.{took}
 use Rattle.rga_ops.proofs.KnownLaws.{takeable_is_taken, taken_list_within}
 use Rattle.rga_ops.proofs.ListAnswerLaws.{one_by_one_list, list_taken-iff}
-use Rattle.rga_lines.specs.Runs.{stretch_operations, run_deletions}
-use Rattle.rga_lines.specs.declared.line.Line.TheVariants.{One, Run, Deletions, Head, Last}
-use Rattle.rga_lines.specs.Table.{AnyReading, any_line_at}
+use Rattle.rga_lines.specs.Table.{any_line_at}
 use Rattle.rga_lines.specs.declared.line.TheConstants.{MAX_LINE}
 use Rattle.rga_lines.specs.Stream.{lines_of, rest_of}
-use Rattle.rga_lines.specs.Log.{operations_of, operations_at, then_operations, log_operations, IsOperation, HasOnlyOperations}
+use Rattle.rga_lines.specs.Log.{operations_in, operations_of, operations_at, then_operations, log_operations, IsOperation, HasOnlyOperations}
 use Rattle.rga_lines.specs.declared.fault.LineFault.{LineFault}
 use Rattle.rga_lines.specs.declared.fault.LineFault.TheVariants as line_fault
 use Rattle.rga_lines.proofs.StandLemmas.{stands, stands_for, stands_for_none, stand_checked, AreChecked, long_stands, nothing_stands}
@@ -28,12 +26,12 @@ use Rattle.rga_exchange.specs.declared.log.LogEnd.{LogEnd}
 use Rattle.rga_exchange.specs.declared.log.LogEnd.TheVariants.{Whole, Bare, Torn}
 use Rattle.rga_exchange.specs.declared.log.LogRead.{LogRead}
 use Rattle.rga_exchange.specs.declared.taking.Form.TheVariants.{Log}
-use Rattle.rga_exchange.specs.Taking.{AllTaken, AtFault, progress, taken_whole, stop_at_rest}
-use Rattle.rga_exchange.specs.Log.{LogOutcome, end_outcome, after_bare_operation, after_bare_line, after_rest, after_stop, after_lines, log_outcome}
+use Rattle.rga_exchange.specs.Taking.{AllTaken, AtFault, progress, stop_at_rest}
+use Rattle.rga_exchange.specs.Log.{end_outcome, after_bare_operation, after_rest, after_stop, after_lines, log_outcome}
 use Rattle.rga_exchange.specs.Sending.{StandsFor}
 use Rattle.rga_exchange.specs.Stops.{HasNothingTorn}
-use Rattle.rga_exchange.proofs.TakingLaws.{are_taken, lines_counted, took_front, one_taken, one_by_one_taken_whole}
-use Rattle.rga_exchange.proofs.OperationLaws.{is_read_to_end, no_fault, is_read, log_taken}
+use Rattle.rga_exchange.proofs.TakingLaws.{some_or_none, are_taken, lines_counted, took_front, operations_of-append}
+use Rattle.rga_exchange.proofs.OperationLaws.{rest_taken, is_read, log_taken}
 use Rattle.rga_exchange.proofs.StopLaws.{operations_are_taken}
 use Rattle.rga_exchange.proofs.MeetingLaws.{first_fits}
 
@@ -46,41 +44,11 @@ log_joinable limit c d read bytes within h =
 
 -- ---- what a log that is read to its end is
 
--- what is told of an end behind n lines
-record Tells (n : ℕ) (read : LogRead) (rest : List ℕ) : Type 0 where
-  lines : read.lines ≡ n
-  operation : HasNothingTorn read.end → (rest ≡ []) ⊎ IsOperation rest
-
-tells : (n : ℕ) (c d : Content) (end : LogEnd) (read : LogRead) (rest : List ℕ) → end_outcome n c end ≡ (d, Ok read) → (HasNothingTorn end → (rest ≡ []) ⊎ IsOperation rest) → Tells n read rest
-tells n c d end read rest h one =
-    let same : is_read_to_end (record { lines = n; end = end }) ≡ is_read_to_end read = ap (λ (o : LogOutcome). o.1) h in
-    let is : record { lines = n; end = end } ≡ read = cc in
-    record {
-      lines = sym (ap (λ (r : LogRead). r.lines) is);
-      operation = λ whole. one (subst HasNothingTorn (sym (ap (λ (r : LogRead). r.end) is)) whole);
-    }
-
-rest_tells : (limit n : ℕ) (c d : Content) (read : LogRead) (rest : List ℕ) → after_rest limit n c rest ≡ (d, Ok read) → Tells n read rest
-rest_tells limit n c d read [] h = tells n c d Whole read [] h (λ _. inl refl)
-rest_tells limit n c d read (b ∷ bytes) h = by_reading (any_line_at (b ∷ bytes)) refl h
-  where
-    by_taken : (ops : List Op) (r : Result Content Refusal) → operations_at (b ∷ bytes) ≡ Ok ops → after_bare_operation n c r ≡ (d, Ok read) → Tells n read (b ∷ bytes)
-    by_taken ops (Ok e) reads g = tells n e d Bare read (b ∷ bytes) g (λ _. inr (ops, reads))
-    by_taken ops (Err x) reads g = absurd (no_fault (fault.Refused (n + 1) x) read g)
-
-    by_reading : (r : AnyReading) → any_line_at (b ∷ bytes) ≡ r → after_bare_line limit n c (length (b ∷ bytes)) r ≡ (d, Ok read) → Tells n read (b ∷ bytes)
-    by_reading (Ok (One op)) says g = by_taken (op ∷ []) (taken limit c op) (stands (b ∷ bytes) (Ok (One op)) says) g
-    by_reading (Ok (Run r)) says g = by_taken (stretch_operations r) (taken_whole limit c (stretch_operations r)) (stands (b ∷ bytes) (Ok (Run r)) says) g
-    by_reading (Ok (Deletions r)) says g = by_taken (run_deletions r) (taken_whole limit c (run_deletions r)) (stands (b ∷ bytes) (Ok (Deletions r)) says) g
-    by_reading (Ok Head) says g = tells n c d (Torn (length (b ∷ bytes))) read (b ∷ bytes) g (λ torn. absurd torn)
-    by_reading (Ok (Last number)) says g = tells n c d (Torn (length (b ∷ bytes))) read (b ∷ bytes) g (λ torn. absurd torn)
-    by_reading (Err e) says g = tells n c d (Torn (length (b ∷ bytes))) read (b ∷ bytes) g (λ torn. absurd torn)
-
 pub log_lines : (limit : ℕ) (c d : Content) (read : LogRead) (bytes : List ℕ) → log_outcome limit c bytes ≡ (d, Ok read) → read.lines ≡ length (lines_of bytes)
 log_lines limit c d read bytes h =
     let w = is_read limit c d read bytes h in
     let count = lines_counted Log limit 0 w.lines c w.content (lines_of bytes) w.taken in
-    let told = (rest_tells limit w.lines w.content d read (rest_of bytes) w.rest).lines in
+    let told = (rest_taken limit w.lines w.content d read (rest_of bytes) w.rest).lines in
     omega (arith, count, told)
 
 pub log_only_operations : (limit : ℕ) (c d : Content) (read : LogRead) (bytes : List ℕ) → log_outcome limit c bytes ≡ (d, Ok read) → HasNothingTorn read.end → HasOnlyOperations bytes
@@ -88,48 +56,23 @@ log_only_operations limit c d read bytes h whole =
     let w = is_read limit c d read bytes h in
     record {
       lines = (are_taken Log limit 0 w.lines c w.content (lines_of bytes) w.taken).operations;
-      rest = (rest_tells limit w.lines w.content d read (rest_of bytes) w.rest).operation whole;
+      rest = (rest_taken limit w.lines w.content d read (rest_of bytes) w.rest).operation whole;
     }
 
 -- ---- what is read to its end
 
-all_checked_hold : (ops : List Op) (op : Op) → AreChecked ops → Contains ops op → checked op ≡ Ok tt
-all_checked_hold [] op all m = absurd (Contains-nil op m)
-all_checked_hold (first ∷ ops) op all m = elim (Contains-cases first op ops m) [
-  | inl same ↦ subst (λ o. checked o ≡ Ok tt) same all.0
-  | inr later ↦ all_checked_hold ops op all.1 later
-]
-
-operations_well_formed : (lines : List (List ℕ)) (op : Op) → Contains (operations_of lines) op → checked op ≡ Ok tt
-operations_well_formed [] op m = absurd (Contains-nil op m)
-operations_well_formed (line ∷ lines) op m = by_line (operations_at line) refl m (λ later. operations_well_formed lines op later)
-  where
-    by_line : (r : Result (List Op) LineFault) → operations_at line ≡ r → Contains (then_operations r (operations_of lines)) op → (Contains (operations_of lines) op → checked op ≡ Ok tt) → checked op ≡ Ok tt
-    by_line (Ok ops) reads m others = elim (Contains-append ops (operations_of lines) op m) [
-      | inl here ↦ all_checked_hold ops op (stand_checked line ops reads) here
-      | inr later ↦ others later
-    ]
-    by_line (Err e) reads m others = absurd (Contains-nil op m)
+operations_checked : (lines : List (List ℕ)) → AreChecked (operations_of lines)
+operations_checked [] = tt
+operations_checked (line ∷ lines) = grind (arith, all_append, stand_checked, operations_checked lines)
 
 -- lines that are operations were taken one by one, and then others
 parts_taken : (limit : ℕ) (c d : Content) (lines others : List (List ℕ)) → AllByRecursion IsOperation lines → taken_one_by_one limit c (operations_of (lines ++ others)) ≡ Ok d → (e : Content) × (taken_one_by_one limit c (operations_of lines) ≡ Ok e) × (taken_one_by_one limit e (operations_of others) ≡ Ok d)
-parts_taken limit c d [] others all h = (c, refl, h)
-parts_taken limit c d (line ∷ lines) others all h =
-    let ops : List Op = all.0.0 in
-    let reads : operations_at line ≡ Ok ops = all.0.1 in
-    let first = took_front limit c d ops (operations_of (lines ++ others)) (sym (ap (λ r. taken_one_by_one limit c (then_operations r (operations_of (lines ++ others)))) reads) ∙ h) in
-    let later = parts_taken limit first.0 d lines others all.1 first.2 in (
-      later.0,
-      ap (λ r. taken_one_by_one limit c (then_operations r (operations_of lines))) reads ∙ one_by_one-append limit c first.0 ops (operations_of lines) first.1 ∙ later.1,
-      later.2,
-    )
+parts_taken limit c d lines others all h =
+    took_front limit c d (operations_of lines) (operations_of others) (sym (ap (taken_one_by_one limit c) (operations_of-append lines others all)) ∙ h)
 
 -- a rest that is not empty and no operation
 none_torn : (b : ℕ) (bytes : List ℕ) (e : LineFault) → operations_at (b ∷ bytes) ≡ Err e → (b ∷ bytes ≡ []) ⊎ IsOperation (b ∷ bytes) → ⊥
-none_torn b bytes e reads (inl none) = absurd cc
-none_torn b bytes e reads (inr (ops, says)) =
-    let clash : stands_for_none e ≡ stands_for ops = sym reads ∙ says in
-    absurd cc
+none_torn b bytes e reads zp1 = grind arith
 
 abbrev ReadTo : ℕ → ℕ → Content → Content → List ℕ → Type 0
 ReadTo limit n c d rest = (read : LogRead) × (after_rest limit n c rest ≡ (d, Ok read)) × ((rest ≡ []) ⊎ IsOperation rest → HasNothingTorn read.end)
@@ -140,65 +83,35 @@ rest_read limit n c d [] within h =
     let same : took c ≡ took d = sym (ap (λ r. taken_one_by_one limit c (then_operations r [])) nothing_stands) ∙ h in
     let is : c ≡ d = cc in
     (record { lines = n; end = Whole }, ap (λ e. end_outcome n e Whole) is, λ _. tt)
-rest_read limit n c d (b ∷ bytes) within h = by_reading (any_line_at (b ∷ bytes)) refl
+rest_read limit n c d (b ∷ bytes) within h = elim (some_or_none limit c (any_line_at (b ∷ bytes))) [
+  | inl w ↦
+      let all : taken_one_by_one limit c (w.ops ++ []) ≡ Ok d = sym (said (Ok w.ops) w.is) ∙ h in
+      (record { lines = n; end = Bare }, w.bare n (length (b ∷ bytes)) ∙ ap (after_bare_operation n c) (w.whole d within (ap (taken_one_by_one limit c) (sym (append-nil w.ops)) ∙ all)), λ _. tt)
+  | inr w ↦
+      let same : took c ≡ took d = sym (said (Err w.wrong) w.is) ∙ h in
+      let is : c ≡ d = cc in
+      let end : LogEnd = Torn (length (b ∷ bytes)) in
+      (record { lines = n; end = end }, w.bare n (length (b ∷ bytes)) ∙ ap (λ e. end_outcome n e end) is, λ one. absurd (none_torn b bytes w.wrong (stands (b ∷ bytes) (any_line_at (b ∷ bytes)) refl ∙ w.is) one))
+]
   where
-    -- all operations that it stands for
-    all : (ops : List Op) → operations_at (b ∷ bytes) ≡ Ok ops → taken_one_by_one limit c ops ≡ Ok d
-    all ops reads =
-        ap (taken_one_by_one limit c) (sym (append-nil ops)) ∙ sym (ap (λ r. taken_one_by_one limit c (then_operations r [])) reads) ∙ h
-
-    bare : (r : AnyReading) → any_line_at (b ∷ bytes) ≡ r → after_bare_line limit n c (length (b ∷ bytes)) r ≡ end_outcome n d Bare → ReadTo limit n c d (b ∷ bytes)
-    bare r says ends = (record { lines = n; end = Bare }, ap (after_bare_line limit n c (length (b ∷ bytes))) says ∙ ends, λ _. tt)
-
-    torn : (r : AnyReading) (e : LineFault) → any_line_at (b ∷ bytes) ≡ r → operations_at (b ∷ bytes) ≡ Err e → after_bare_line limit n c (length (b ∷ bytes)) r ≡ end_outcome n c (Torn (length (b ∷ bytes))) → ReadTo limit n c d (b ∷ bytes)
-    torn r e says reads ends =
-        let same : took c ≡ took d = sym (ap (λ r. taken_one_by_one limit c (then_operations r [])) reads) ∙ h in
-        let is : c ≡ d = cc in
-        let end : LogEnd = Torn (length (b ∷ bytes)) in (
-          record { lines = n; end = end },
-          ap (after_bare_line limit n c (length (b ∷ bytes))) says ∙ ends ∙ ap (λ e. end_outcome n e end) is,
-          λ one. absurd (none_torn b bytes e reads one),
-        )
-
-    by_reading : (r : AnyReading) → any_line_at (b ∷ bytes) ≡ r → ReadTo limit n c d (b ∷ bytes)
-    by_reading (Ok (One op)) says =
-        bare (Ok (One op)) says (ap (after_bare_operation n c) (one_taken limit c d op (all (op ∷ []) (stands (b ∷ bytes) (Ok (One op)) says))))
-    by_reading (Ok (Run r)) says =
-        bare (Ok (Run r)) says (ap (after_bare_operation n c) (one_by_one_taken_whole limit c d (stretch_operations r) within (all (stretch_operations r) (stands (b ∷ bytes) (Ok (Run r)) says))))
-    by_reading (Ok (Deletions r)) says =
-        bare (Ok (Deletions r)) says (ap (after_bare_operation n c) (one_by_one_taken_whole limit c d (run_deletions r) within (all (run_deletions r) (stands (b ∷ bytes) (Ok (Deletions r)) says))))
-    by_reading (Ok Head) says = torn (Ok Head) line_fault.Kind says (stands (b ∷ bytes) (Ok Head) says) refl
-    by_reading (Ok (Last number)) says = torn (Ok (Last number)) line_fault.Kind says (stands (b ∷ bytes) (Ok (Last number)) says) refl
-    by_reading (Err e) says = torn (Err e) e says (stands (b ∷ bytes) (Err e) says) refl
+    said : (r : Result (List Op) LineFault) → operations_in (any_line_at (b ∷ bytes)) ≡ r → taken_one_by_one limit c (operations_of ((b ∷ bytes) ∷ [])) ≡ taken_one_by_one limit c (then_operations r [])
+    said r is = ap (λ r. taken_one_by_one limit c (then_operations r [])) (stands (b ∷ bytes) (any_line_at (b ∷ bytes)) refl ∙ is)
 
 -- a rest that is an operation, or none, is not too long
 rest_is_short : (rest : List ℕ) → (rest ≡ []) ⊎ IsOperation rest → length rest ≤ MAX_LINE
-rest_is_short rest (inl none) = subst (λ (r : List ℕ). length r ≤ MAX_LINE) (sym none) (lit≤ tt)
-rest_is_short rest (inr (ops, says)) = elim (cases_lt MAX_LINE (length rest)) [
-  | inl long ↦
-      let clash : stands_for_none line_fault.Long ≡ stands_for ops = sym (long_stands rest long) ∙ says in
-      absurd cc
-  | inr short ↦ short
-]
-
-not_long : (rest : List ℕ) → length rest ≤ MAX_LINE → nat_lt MAX_LINE (length rest) ≡ false
-not_long rest short = by_size (nat_lt MAX_LINE (length rest)) refl
-  where
-    by_size : (long : Bool) → nat_lt MAX_LINE (length rest) ≡ long → long ≡ false
-    by_size false size = refl
-    by_size true size = absurd (omega (arith, short, ltb-true MAX_LINE (length rest) size))
+rest_is_short rest zp1 = grind (arith, cases_lt, stands_for_none, stands_for, long_stands)
 
 log_to_end : (limit : ℕ) (c : Content) (bytes : List ℕ) → AllByRecursion IsOperation (lines_of bytes) → length (rest_of bytes) ≤ MAX_LINE → IsJoinable c (log_operations bytes) → finite_set.len (known_ids (join c (content_of (log_operations bytes)))) ≤ limit → (read : LogRead) × (log_outcome limit c bytes ≡ (join c (content_of (log_operations bytes)), Ok read)) × ((rest_of bytes ≡ []) ⊎ IsOperation (rest_of bytes) → HasNothingTorn read.end)
 log_to_end limit c bytes operations short joinable fits =
     let rest : List ℕ = rest_of bytes in
     let lines : List (List ℕ) = lines_of bytes in
-    let all = takeable_is_taken limit c (log_operations bytes) (record { well_formed = operations_well_formed (lines ++ rest ∷ []); joinable = joinable; fits = fits }) in
+    let all = takeable_is_taken limit c (log_operations bytes) (record { well_formed = λ op. All-contains (λ op. checked op ≡ Ok tt) (log_operations bytes) op (All-from_recursion (λ op. checked op ≡ Ok tt) (log_operations bytes) (operations_checked (lines ++ rest ∷ []))); joinable = joinable; fits = fits }) in
     let parts = parts_taken limit c (join c (content_of (log_operations bytes))) lines (rest ∷ []) operations all in
     let within = first_fits limit c (content_of (log_operations bytes)) fits in
     let read = rest_read limit (0 + length lines) parts.0 (join c (content_of (log_operations bytes))) rest (taken_list_within limit c (operations_of lines) parts.0 within parts.1) parts.2 in (
       read.0,
       ap (λ t. after_lines limit rest (progress t.lines t.content (stop_at_rest t.lines rest t.stop))) (operations_are_taken Log limit 0 c parts.0 lines within operations parts.1)
-          ∙ ap (λ long. after_stop limit rest (0 + length lines) parts.0 (cond long (AtFault (fault.Line (0 + length lines + 1) line_fault.Long)) AllTaken)) (not_long rest short)
+          ∙ ap (λ long. after_stop limit rest (0 + length lines) parts.0 (cond long (AtFault (fault.Line (0 + length lines + 1) line_fault.Long)) AllTaken)) (le-ltb MAX_LINE (length rest) short)
           ∙ read.1,
       read.2,
     )

@@ -1,5 +1,5 @@
 -- The text of a log, operation by operation.
-use Rattle.std.proofs.Common.{◌≡◌, ℕ, ◌+◌, ◌<◌, List, [], ◌∷◌, ◌++◌, map, length, drop, get_or, Option, sym, ap, ◌∙◌, subst, append_assoc, append-nil}
+use Rattle.std.proofs.Common.{arith, ◌≡◌, ℕ, ◌+◌, ◌<◌, List, [], ◌∷◌, ◌++◌, length, drop, get_or, Option, sym, ap, ◌∙◌, subst, append_assoc, append-nil}
 use Rattle.std.proofs.lemmas.List.{drop_more}
 use Rattle.std.proofs.lemmas.List.Concat.{flat_map-append}
 use Rattle.rga_ops.specs.declared.op.Op.{Op}
@@ -19,10 +19,7 @@ ended l = l ++ newline ∷ []
 
 -- the head, the lines of the operations, and then the end
 exchange_text-is : (ops : List Op) → exchange_text ops ≡ (ended head_line ++ log_text ops) ++ ended (end_line (length ops))
-exchange_text-is ops =
-    let end : List ℕ = end_line (length ops) in
-    ap (λ (l : List ℕ). ended head_line ++ l) (flat_map-append ended (map line ops) (end ∷ []) ∙ ap (λ (l : List ℕ). log_text ops ++ l) (append-nil (ended end)))
-    ∙ sym (append_assoc (ended head_line) (log_text ops) (ended end))
+exchange_text-is ops = grind (arith, flat_map-append, append-nil, append_assoc)
 
 module _ {W : Type 0} (contents : W → Option (List ℕ)) where
   -- the line of the next operation was added to the block
@@ -45,13 +42,8 @@ module _ {W : Type 0} (contents : W → Option (List ℕ)) where
   -- Behind the head what was left of the operations was put before the end.
   pub exchange_begun : (a b : Calls W) (ops : List Op) (start left : List ℕ) (number : ℕ) (end last : List ℕ) → start ≡ ended head_line → number ≡ length ops → end ≡ end_line number → last ≡ left ++ ended end
       → WritesAllBut contents a b (start ++ log_text ops) left → WritesAllBut contents a b (exchange_text ops) last
-  exchange_begun a b ops start left number end last head count ends is h =
-      let whole : WritesAllBut contents a b ((start ++ log_text ops) ++ ended end) (left ++ ended end) = begun_longer contents a b (start ++ log_text ops) left (ended end) h in
-      let text : (start ++ log_text ops) ++ ended end ≡ exchange_text ops = (λ k. (head k ++ log_text ops) ++ ended ((ends ∙ ap end_line count) k)) ∙ sym (exchange_text-is ops) in
-      subst (WritesAllBut contents a b (exchange_text ops)) (sym is) (subst (λ (l : List ℕ). WritesAllBut contents a b l (left ++ ended end)) text whole)
+  exchange_begun a b ops start left number end last head count ends is h = grind (arith, begun_longer, exchange_text-is)
 
   -- a beginning of the head and of the lines of the operations is one of all
   pub exchange_front : (a b : Calls W) (ops : List Op) (start : List ℕ) → start ≡ ended head_line → WritesFront contents a b (start ++ log_text ops) → WritesFront contents a b (exchange_text ops)
-  exchange_front a b ops start head h =
-      subst (WritesFront contents a b) (sym (exchange_text-is ops)) (front_longer contents a b (ended head_line ++ log_text ops) (ended (end_line (length ops)))
-      (subst (λ (l : List ℕ). WritesFront contents a b (l ++ log_text ops)) head h))
+  exchange_front a b ops start head h = grind (arith, exchange_text-is, front_longer)

@@ -1,5 +1,5 @@
 -- What one replica sends and another receives.
-use Rattle.std.proofs.Common.{◌≡◌, ℕ, ◌+◌, ◌<◌, ◌≤◌, ◌^◌, cond, List, [], ◌∷◌, map, length, Result, Ok, Err, refl, sym, ap, subst, ◌∙◌, arith}
+use Rattle.std.proofs.Common.{◌≡◌, ℕ, ◌+◌, ◌<◌, ◌≤◌, ◌^◌, List, [], ◌∷◌, map, length, Result, Ok, Err, refl, sym, ap, subst, ◌∙◌, arith}
 use Rattle.std.proofs.lemmas.Bool.{eq-eqb}
 use Rattle.std.proofs.lemmas.List.{length-map}
 use Rattle.std.specs.FinSet as finite_set
@@ -11,11 +11,9 @@ use Rattle.rga_ops.specs.Operations.{operations}
 use Rattle.rga_ops.specs.declared.op.Op.{Op}
 use Rattle.rga_ops.proofs.KnownLaws.{IsTakeable, takeable_is_taken, len-le_union, known_join}
 use Rattle.rga_ops.proofs.OperationsLaws.{operations_agree, content_of-operations}
-use Rattle.rga_lines.specs.Log.{stream_operations}
 use Rattle.rga_lines.specs.Spelling.{line, end_line}
 use Rattle.rga_lines.proofs.ReadBack.{head_back, end_back}
 use Rattle.rga_exchange.specs.declared.fault.ReceiveFault.{ReceiveFault}
-use Rattle.rga_exchange.specs.declared.fault.ReceiveFault.TheVariants as fault
 use Rattle.rga_exchange.specs.declared.fault.SendFault.{SendFault}
 use Rattle.rga_exchange.specs.declared.taking.Form.TheVariants.{Log, Exchange}
 use Rattle.rga_exchange.specs.Taking.{AllTaken, AtEnd, Progress, progress, after_line, go_on, lines_taken, with_rest, stream_taken}
@@ -24,12 +22,12 @@ use Rattle.rga_exchange.specs.Sending.{exchange_text, stream_text, AreWritable}
 use Rattle.rga_exchange.proofs.HeadLaws.{as_log}
 use Rattle.rga_exchange.proofs.TakingLaws.{lines_taken-append}
 use Rattle.rga_exchange.proofs.StopLaws.{operations_are_taken}
-use Rattle.rga_exchange.proofs.AppendedLaws.{are_operations-written, operations_of-written, lines_and_end, exchange_lines-cut, exchange_rest, exchange_says, sound_list}
+use Rattle.rga_exchange.proofs.AppendedLaws.{written, lines_and_end, exchange_lines-cut, exchange_rest, exchange_says, sound_list}
 
 written_taken : (limit n : ℕ) (d e : Content) (ops : List Op) → finite_set.len (known_ids d) ≤ limit → AreWritable ops → AreWellFormed ops → taken_one_by_one limit d ops ≡ Ok e → lines_taken Log limit n d (map line ops) ≡ progress (n + length ops) e AllTaken
 written_taken limit n d e ops within writable well h =
     let count : n + length (map line ops) ≡ n + length ops = omega (arith, length-map ops line) in
-    operations_are_taken Log limit n d e (map line ops) within (are_operations-written ops writable well) (ap (taken_one_by_one limit d) (operations_of-written ops writable well) ∙ h)
+    operations_are_taken Log limit n d e (map line ops) within (written ops writable well).all (ap (taken_one_by_one limit d) (written ops writable well).operations ∙ h)
     ∙ ap (λ k. progress k e AllTaken) count
 
 -- what has room for a join has room for its first part
@@ -57,19 +55,12 @@ abbrev answer_of : ℕ → Progress → Content × Result ℕ ReceiveFault
 answer_of k t = outcome t.content (number_received k t.stop)
 
 taken_list_received : (limit : ℕ) (d : Content) (ops : List Op) → IsTakeable limit d ops → AreWritable ops → length ops < 2 ^ 64 → exchange_outcome limit d (exchange_text ops) ≡ (join d (content_of ops), Ok (length ops))
-taken_list_received limit d ops w writable few =
-    let number : ℕ = length ops in
-    let both : Content = join d (content_of ops) in
-    ap (answer_of (length (stream_operations (exchange_text ops)))) (list_is_taken limit d ops w writable few)
-    ∙ ap (λ (os : List Op). outcome both (number_received (length os) (AtEnd number))) (exchange_says ops w.well_formed writable few)
-    ∙ ap (λ b. outcome both (cond b (Ok number) (Err fault.Count))) (eq-eqb number number refl)
+taken_list_received limit d ops w writable few = grind (arith, list_is_taken, exchange_says, eq-eqb)
 
 -- a list that was written is received whole by what it can be joined to
 pub list_received : (limit : ℕ) (d : Content) (ops : List Op) (number : ℕ) → number ≡ length ops → number < 2 ^ 64 → (AreWellFormed ops → AreWritable ops)
     → AreWellFormed ops → IsJoinable d ops → finite_set.len (known_ids (join d (content_of ops))) ≤ limit → exchange_outcome limit d (exchange_text ops) ≡ (join d (content_of ops), Ok number)
-list_received limit d ops number count few writable well joinable fits =
-    taken_list_received limit d ops (record { well_formed = well; joinable = joinable; fits = fits }) (writable well) (omega (arith, count, few))
-    ∙ ap (λ n. outcome (join d (content_of ops)) (Ok n)) (sym count)
+list_received limit d ops number count few writable well joinable fits = grind (arith, taken_list_received)
 
 -- ---- the operations of a content
 
@@ -85,17 +76,11 @@ content_takeable limit c d sound agree fits =
 
 pub sent_is_received : (limit : ℕ) (c d : Content) → IsSound c → AreWritable (operations c) → length (operations c) < 2 ^ 64 → Agree d c → finite_set.len (known_ids (join d c)) ≤ limit
     → exchange_outcome limit d (stream_text c) ≡ (join d c, Ok (length (operations c)))
-sent_is_received limit c d sound writable few agree fits =
-    taken_list_received limit d (operations c) (content_takeable limit c d sound agree fits) writable few
-    ∙ ap (λ e. outcome (join d e) (Ok (length (operations c)))) (content_of-operations c)
+sent_is_received limit c d sound writable few agree fits = grind (arith, taken_list_received, content_takeable, content_of-operations)
 
 -- what is said of a list that was sent, where it is that of a content's operations
 pub content_received : (r : Result ℕ SendFault) (c : Content) (ops : List Op) → ops ≡ operations c
     → IfOk r (λ number. (limit : ℕ) (d : Content) → AreWellFormed ops → IsJoinable d ops → known_count (join d (content_of ops)) ≤ limit → exchange_outcome limit d (exchange_text ops) ≡ (join d (content_of ops), Ok number))
     → IfOk r (λ number. (limit : ℕ) (d : Content) → IsSound c → Agree d c → known_count (join d c) ≤ limit → exchange_outcome limit d (stream_text c) ≡ (join d c, Ok number))
 content_received (Err e) c ops are h = h
-content_received (Ok number) c ops are h = λ limit d sound agree fits.
-    let w = content_takeable limit c d sound agree fits in
-    subst (λ (os : List Op). (limit : ℕ) (e : Content) → AreWellFormed os → IsJoinable e os → known_count (join e (content_of os)) ≤ limit → exchange_outcome limit e (exchange_text os) ≡ (join e (content_of os), Ok number)) are h
-    limit d w.well_formed w.joinable w.fits
-    ∙ ap (λ e. outcome (join d e) (Ok number)) (content_of-operations c)
+content_received (Ok number) c ops are h = grind (arith, content_takeable, content_of-operations)

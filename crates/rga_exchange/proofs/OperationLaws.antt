@@ -1,19 +1,19 @@
 -- What was taken of a stream or a log, as operations.
-use Rattle.std.proofs.Common.{◌≡◌, ◌≢◌, ℕ, ◌+◌, ◌≤◌, Bool, true, false, cond, List, [], ◌∷◌, ◌++◌, length, Option, Some, None, Result, Ok, Err, refl, sym, ap, subst, ◌∙◌, arith, nat_lt, append-nil}
+use Rattle.std.proofs.Common.{◌≡◌, ◌≢◌, ℕ, ◌+◌, ◌≤◌, Bool, true, false, cond, List, [], ◌∷◌, ◌++◌, length, Option, Result, Ok, Err, refl, sym, ap, subst, ◌∙◌, arith, nat_lt, append-nil, inl, inr, ◌⊎◌}
 use Rattle.std.specs.Prelude.{IfSome}
-use Rattle.std.proofs.lemmas.Bool.{ltb-false, eq-eqb, ne_eqb}
+use Rattle.std.proofs.lemmas.Bool.{ltb-false}
 use Rattle.std.proofs.lemmas.List.{nil_from_length}
+use Rattle.std.proofs.lemmas.Option.{IfSome_then}
 use Rattle.rga_ops.specs.Content.{Content, join, content_of}
-use Rattle.rga_ops.specs.Answer.{taken, and_take, taken_one_by_one}
+use Rattle.rga_ops.specs.Answer.{taken, taken_one_by_one}
 use Rattle.rga_ops.specs.declared.op.Op.{Op}
 use Rattle.rga_ops.specs.declared.refusal.Refusal.{Refusal}
 use Rattle.rga_ops.proofs.TakenLaws.{taken_list_is, one_by_one-append}
-use Rattle.rga_lines.specs.Runs.{stretch_operations, run_deletions}
-use Rattle.rga_lines.specs.Table.{AnyReading, any_line_at}
+use Rattle.rga_lines.specs.Table.{any_line_at}
 use Rattle.rga_lines.specs.declared.line.TheConstants.{MAX_LINE}
 use Rattle.rga_lines.specs.Stream.{lines_of, rest_of}
-use Rattle.rga_lines.specs.Log.{operations_of, operations_at, stream_operations, log_operations, then_operations}
-use Rattle.rga_lines.specs.declared.line.Line.TheVariants.{One, Run, Deletions, Head, Last}
+use Rattle.rga_lines.specs.Log.{operations_of, operations_at, stream_operations, log_operations, then_operations, IsOperation}
+use Rattle.rga_lines.specs.declared.fault.LineFault.{LineFault}
 use Rattle.rga_lines.specs.declared.fault.LineFault.TheVariants as line_fault
 use Rattle.rga_lines.proofs.StandLemmas.{stands, nothing_stands}
 use Rattle.rga_store.specs.Taking.{TakesMore}
@@ -23,107 +23,48 @@ use Rattle.rga_exchange.specs.declared.fault.LogFault.TheVariants as fault
 use Rattle.rga_exchange.specs.declared.log.LogEnd.{LogEnd}
 use Rattle.rga_exchange.specs.declared.log.LogEnd.TheVariants.{Whole, Bare, Torn}
 use Rattle.rga_exchange.specs.declared.taking.LineTaken.{LineTaken}
-use Rattle.rga_exchange.specs.declared.taking.LineTaken.TheVariants.{Operations, EndLine}
 use Rattle.rga_exchange.specs.declared.log.LogRead.{LogRead}
 use Rattle.rga_exchange.specs.declared.taking.Form.{Form}
 use Rattle.rga_exchange.specs.declared.taking.Form.TheVariants.{Log, Exchange}
-use Rattle.rga_exchange.specs.Taking.{body_behind, Stop, AllTaken, AtEnd, AtFault, Progress, progress, after_line, taken_whole, refused_at, go_on, lines_taken, stop_at_rest, stream_taken, Intake, TakesNone}
+use Rattle.rga_exchange.specs.Taking.{body_behind, Stop, AllTaken, AtEnd, AtFault, Progress, progress, after_line, lines_taken, stop_at_rest, stream_taken, Intake, TakesNone}
 use Rattle.rga_exchange.specs.Parts.{TakesAs}
-use Rattle.rga_exchange.specs.Log.{LogOutcome, end_outcome, after_bare_operation, after_bare_line, after_rest, after_stop, after_lines, log_outcome, bare_answer, TakesRest}
-use Rattle.rga_exchange.specs.Receiving.{number_received, exchange_outcome}
-use Rattle.rga_exchange.specs.declared.fault.ReceiveFault.{ReceiveFault}
+use Rattle.rga_exchange.specs.Log.{LogOutcome, end_outcome, after_bare_operation, after_rest, after_stop, after_lines, log_outcome, bare_answer, TakesRest}
+use Rattle.rga_exchange.specs.Receiving.{exchange_outcome}
 use Rattle.rga_exchange.specs.declared.fault.ReceiveFault.TheVariants as exchange_fault
-use Rattle.rga_exchange.proofs.HeadLaws.{on, halt, through_body}
-use Rattle.rga_exchange.proofs.TakingLaws.{goes_on, line_taken, taken_whole_one_by_one}
+use Rattle.rga_exchange.specs.Stops.{StartsWithEnd, HasNothingTorn}
+use Rattle.rga_exchange.proofs.HeadLaws.{body-append}
+use Rattle.rga_exchange.proofs.TakingLaws.{StandsForSome, some_or_none, log_lines, lines_are_operations, operations_of-append}
+use Rattle.rga_exchange.proofs.StopLaws.{stopped}
 
 abbrev pub ran : Result LogRead LogFault → Content → LogOutcome
 ran r c = (c, r)
 
 -- ---- up to the end line
 
--- the line that ends an exchange stands for no operations
-end_line_stands : (limit n : ℕ) (c : Content) (line : List ℕ) (number : ℕ) → after_line Log limit n c (any_line_at line) ≡ Err (AtEnd number) → operations_at line ≡ Err line_fault.Kind
-end_line_stands limit n c line number h = by_reading (any_line_at line) refl h
-  where
-    not_refused : (r : Result Content Refusal) → refused_at n r ≡ Err (AtEnd number) → ⊥
-    not_refused (Ok e) h = let clash : on e ≡ halt (AtEnd number) = h in cc
-    not_refused (Err x) h = let clash : halt (AtFault (fault.Refused n x)) ≡ halt (AtEnd number) = h in cc
+-- nothing counts from an end line on
+nothing_behind : (form : Form) (n number : ℕ) (lines : List (List ℕ)) → StartsWithEnd lines number → operations_of (body_behind form n lines) ≡ []
+nothing_behind form n number lines w = grind (arith, stands)
 
-    by_reading : (r : AnyReading) → any_line_at line ≡ r → after_line Log limit n c r ≡ Err (AtEnd number) → operations_at line ≡ Err line_fault.Kind
-    by_reading (Ok (One op)) says g = absurd (not_refused (taken limit c op) g)
-    by_reading (Ok (Run r)) says g = absurd (not_refused (taken_whole limit c (stretch_operations r)) g)
-    by_reading (Ok (Deletions r)) says g = absurd (not_refused (taken_whole limit c (run_deletions r)) g)
-    by_reading (Ok Head) says g = let clash : halt (AtFault (fault.Line n line_fault.Kind)) ≡ halt (AtEnd number) = g in absurd cc
-    by_reading (Ok (Last k)) says g = stands line (Ok (Last k)) says
-    by_reading (Err e) says g = let clash : halt (AtFault (fault.Line n e)) ≡ halt (AtEnd number) = g in absurd cc
-
--- so nothing counts behind it
-ends_here : (limit n m : ℕ) (c d : Content) (number : ℕ) (line : List ℕ) (lines : List (List ℕ)) (stop : Stop) → after_line Log limit (n + 1) c (any_line_at line) ≡ Err stop → progress n c stop ≡ progress m d (AtEnd number) → operations_of (line ∷ lines) ≡ []
-ends_here limit n m c d number line lines stop first h =
-    let is : stop ≡ AtEnd number = ap (λ (t : Progress). t.stop) h in
-    ap (λ r. then_operations r (operations_of lines)) (end_line_stands limit (n + 1) c line number (first ∙ ap (λ (s : Stop). Err s) is))
-
--- the lines of a log before an end line are operations, which were taken
-log_lines_end : (limit n m : ℕ) (c d : Content) (number : ℕ) (lines : List (List ℕ)) → lines_taken Log limit n c lines ≡ progress m d (AtEnd number) → taken_one_by_one limit c (operations_of lines) ≡ Ok d
-log_lines_end limit n m c d number [] h = let clash : AllTaken ≡ AtEnd number = ap (λ (t : Progress). t.stop) h in absurd cc
-log_lines_end limit n m c d number (line ∷ lines) h = by_first (after_line Log limit (n + 1) c (any_line_at line)) refl h (λ e g. log_lines_end limit (n + 1) m e d number lines g)
-  where
-    by_first : (r : Result Content Stop) → after_line Log limit (n + 1) c (any_line_at line) ≡ r → go_on n c r (λ e. lines_taken Log limit (n + 1) e lines) ≡ progress m d (AtEnd number) → ((e : Content) → lines_taken Log limit (n + 1) e lines ≡ progress m d (AtEnd number) → taken_one_by_one limit e (operations_of lines) ≡ Ok d) → taken_one_by_one limit c (operations_of (line ∷ lines)) ≡ Ok d
-    by_first (Ok e) first g later =
-        let w = line_taken limit (n + 1) c e line first in
-        ap (λ r. taken_one_by_one limit c (then_operations r (operations_of lines))) w.1 ∙ one_by_one-append limit c e w.0 (operations_of lines) w.2 ∙ later e g
-    by_first (Err stop) first g later =
-        ap (taken_one_by_one limit c) (ends_here limit n m c d number line lines stop first g) ∙ ap Ok (ap (λ (t : Progress). t.content) g)
-
--- no line is taken back
-lines_up : (limit n m : ℕ) (c d : Content) (stop : Stop) (lines : List (List ℕ)) → lines_taken Log limit n c lines ≡ progress m d stop → n ≤ m
-lines_up limit n m c d stop [] h = let count : n ≡ m = ap (λ (t : Progress). t.lines) h in omega (arith, count)
-lines_up limit n m c d stop (line ∷ lines) h = by_first (after_line Log limit (n + 1) c (any_line_at line)) h (λ e g. lines_up limit (n + 1) m e d stop lines g)
-  where
-    by_first : (r : Result Content Stop) → go_on n c r (λ e. lines_taken Log limit (n + 1) e lines) ≡ progress m d stop → ((e : Content) → lines_taken Log limit (n + 1) e lines ≡ progress m d stop → n + 1 ≤ m) → n ≤ m
-    by_first (Ok e) g later = omega (arith, later e g)
-    by_first (Err s) g later = let count : n ≡ m = ap (λ (t : Progress). t.lines) g in omega (arith, count)
-
--- where no line of a log was taken before an end line, none counts
-log_ends_at_once : (limit n : ℕ) (c d : Content) (number : ℕ) (lines : List (List ℕ)) → lines_taken Log limit n c lines ≡ progress n d (AtEnd number) → operations_of lines ≡ []
-log_ends_at_once limit n c d number [] h = refl
-log_ends_at_once limit n c d number (line ∷ lines) h = by_first (after_line Log limit (n + 1) c (any_line_at line)) refl h
-  where
-    by_first : (r : Result Content Stop) → after_line Log limit (n + 1) c (any_line_at line) ≡ r → go_on n c r (λ e. lines_taken Log limit (n + 1) e lines) ≡ progress n d (AtEnd number) → operations_of (line ∷ lines) ≡ []
-    by_first (Ok e) first g = absurd (omega (arith, lines_up limit (n + 1) n e d (AtEnd number) lines g))
-    by_first (Err stop) first g = ends_here limit n n c d number line lines stop first g
-
--- the same of the lines of a stream behind its head
+-- the lines of a stream before an end line are operations behind its head, which were taken
 lines_end : (form : Form) (limit n m : ℕ) (c d : Content) (number : ℕ) (lines : List (List ℕ)) → lines_taken form limit n c lines ≡ progress m d (AtEnd number) → taken_one_by_one limit c (operations_of (body_behind form n lines)) ≡ Ok d
 lines_end form limit n m c d number lines h =
-    let w = through_body form limit n c lines in
-    log_lines_end limit w.before m c d number (body_behind form n lines) (sym w.same ∙ h)
+    let w = stopped form limit n m c d lines (AtEnd number) h in
+    let front = body_behind form n w.front in
+    let back = body_behind form (n + length w.front) w.later in
+    let first = lines_are_operations form limit n m c d w.front w.taken in
+    ap (λ ls. taken_one_by_one limit c (operations_of ls)) (ap (body_behind form n) w.split ∙ body-append form n w.front w.later)
+    ∙ ap (taken_one_by_one limit c) (operations_of-append front back first.0 ∙ ap (λ (ops : List Op). operations_of front ++ ops) (nothing_behind form (n + length w.front) number w.later w.reason) ∙ append-nil (operations_of front))
+    ∙ first.1
 
+-- where none was taken before it, none counts
 pub ends_at_once : (form : Form) (limit n : ℕ) (c d : Content) (number : ℕ) (lines : List (List ℕ)) → lines_taken form limit n c lines ≡ progress n d (AtEnd number) → operations_of (body_behind form n lines) ≡ []
 ends_at_once form limit n c d number lines h =
-    let w = through_body form limit n c lines in
-    let behind = body_behind form n lines in
-    let ends = sym w.same ∙ h in
-    let here : w.before ≡ n = omega (arith, w.behind, lines_up limit w.before n c d (AtEnd number) behind ends) in
-    log_ends_at_once limit n c d number behind (subst (λ k. lines_taken Log limit k c behind ≡ progress n d (AtEnd number)) here ends)
-
--- the rest of a stream changes nothing of an end that came before
-before_rest : (n : ℕ) (rest : List ℕ) (stop : Stop) (number : ℕ) → stop_at_rest n rest stop ≡ AtEnd number → stop ≡ AtEnd number
-before_rest n rest AllTaken number h = by_size (nat_lt MAX_LINE (length rest)) h
-  where
-    by_size : (b : Bool) → cond b (AtFault (fault.Line (n + 1) line_fault.Long)) AllTaken ≡ AtEnd number → AllTaken ≡ AtEnd number
-    by_size true h = absurd cc
-    by_size false h = h
-before_rest n rest (AtEnd k) number h = h
-before_rest n rest (AtFault e) number h = h
+    let w = stopped form limit n n c d lines (AtEnd number) h in
+    let none : w.front ≡ [] = nil_from_length w.front (omega (arith, w.count)) in
+    ap (λ ls. operations_of (body_behind form n ls)) (w.split ∙ ap (λ (ls : List (List ℕ)). ls ++ w.later) none) ∙ nothing_behind form n number w.later w.reason
 
 pub stream_lines_end : (form : Form) (limit n : ℕ) (c d : Content) (number : ℕ) (bytes : List ℕ) → stream_taken form limit c bytes ≡ progress n d (AtEnd number) → lines_taken form limit 0 c (lines_of bytes) ≡ progress n d (AtEnd number)
-stream_lines_end form limit n c d number bytes h =
-    let t = lines_taken form limit 0 c (lines_of bytes) in
-    let lines : t.lines ≡ n = ap (λ (u : Progress). u.lines) h in
-    let content : t.content ≡ d = ap (λ (u : Progress). u.content) h in
-    let stop : t.stop ≡ AtEnd number = before_rest t.lines (rest_of bytes) t.stop number (ap (λ (u : Progress). u.stop) h) in
-    λ k. progress (lines k) (content k) (stop k)
+stream_lines_end form limit n c d number bytes h = grind arith
 
 -- what is received up to the end was taken, operation by operation
 pub stream_is_taken : (limit n : ℕ) (c d : Content) (number : ℕ) (bytes : List ℕ) → stream_taken Exchange limit c bytes ≡ progress n d (AtEnd number) → taken_one_by_one limit c (stream_operations bytes) ≡ Ok d
@@ -141,100 +82,59 @@ is_read_to_end read = Ok read
 pub no_fault : {c d : Content} (e : LogFault) (read : LogRead) → ran (Err e) c ≡ ran (Ok read) d → ⊥
 no_fault e read h = let clash : Err e ≡ is_read_to_end read = ap (λ (o : LogOutcome). o.1) h in cc
 
--- what a rest that is not empty leads to, by what it leads to as a line
-abbrev after_bare : ℕ → Content → ℕ → Result Content Stop → LogOutcome
-after_bare n c bytes (Ok d) = end_outcome n d Bare
-after_bare n c bytes (Err AllTaken) = end_outcome n c (Torn bytes)
-after_bare n c bytes (Err (AtEnd number)) = end_outcome n c (Torn bytes)
-after_bare n c bytes (Err (AtFault (fault.Line k e))) = end_outcome n c (Torn bytes)
-after_bare n c bytes (Err (AtFault (fault.Refused k e))) = (c, Err (fault.Refused k e))
-after_bare n c bytes (Err (AtFault fault.Read)) = (c, Err fault.Read)
-after_bare n c bytes (Err (AtFault fault.Memory)) = (c, Err fault.Memory)
-
-bare_operation : (n : ℕ) (c : Content) (bytes : ℕ) (r : Result Content Refusal) → after_bare_operation n c r ≡ after_bare n c bytes (refused_at (n + 1) r)
-bare_operation n c bytes (Ok d) = refl
-bare_operation n c bytes (Err e) = refl
-
-bare_line : (limit n : ℕ) (c : Content) (bytes : ℕ) (r : AnyReading) → after_bare_line limit n c bytes r ≡ after_bare n c bytes (after_line Log limit (n + 1) c r)
-bare_line limit n c bytes (Ok (One op)) = bare_operation n c bytes (taken limit c op)
-bare_line limit n c bytes (Ok (Run r)) = bare_operation n c bytes (taken_whole limit c (stretch_operations r))
-bare_line limit n c bytes (Ok (Deletions r)) = bare_operation n c bytes (taken_whole limit c (run_deletions r))
-bare_line limit n c bytes (Ok Head) = refl
-bare_line limit n c bytes (Ok (Last number)) = refl
-bare_line limit n c bytes (Err e) = refl
-
-bare_rest : (limit n : ℕ) (c : Content) (rest : List ℕ) → length rest ≢ 0 → after_rest limit n c rest ≡ after_bare n c (length rest) (after_line Log limit (n + 1) c (any_line_at rest))
-bare_rest limit n c [] some = absurd (some refl)
-bare_rest limit n c (b ∷ bytes) some = bare_line limit n c (length (b ∷ bytes)) (any_line_at (b ∷ bytes))
-
 -- what becomes of the rest
 module _ (took : Intake) (n : ℕ) (rest : List ℕ) where
   pub rest_empty : length rest ≡ 0 → TakesNone took → TakesRest took n rest (Ok Whole)
-  rest_empty empty none =
-      let is = nil_from_length rest empty in (
-        ap (after_rest took.limit n took.old) is ∙ ap (λ (d : Content). end_outcome n d Whole) (sym none.same),
-        subst took.follows (sym (ap (λ (l : List ℕ). operations_of (l ∷ [])) is ∙ ap (λ r. then_operations r []) nothing_stands)) none.nothing,
-      )
+  rest_empty empty none = grind (arith, nil_from_length, nothing_stands)
 
   pub rest_takes : (r : Result LineTaken LogFault) → length rest ≢ 0 → TakesAs took (after_line Log took.limit (n + 1) took.old (any_line_at rest)) (operations_of (rest ∷ [])) r → TakesRest took n rest (bare_answer (length rest) r)
-  rest_takes r some h = by_answer r h
-    where
-      leads : (r : Result Content Stop) → after_line Log took.limit (n + 1) took.old (any_line_at rest) ≡ r → after_rest took.limit n took.old rest ≡ after_bare n took.old (length rest) r
-      leads r is = bare_rest took.limit n took.old rest some ∙ ap (after_bare n took.old (length rest)) is
-
-      torn : TakesNone took → operations_of (rest ∷ []) ≡ [] → after_rest took.limit n took.old rest ≡ end_outcome n took.old (Torn (length rest)) → TakesRest took n rest (Ok (Torn (length rest)))
-      torn none no_operation is = (is ∙ ap (λ (d : Content). end_outcome n d (Torn (length rest))) (sym none.same), subst took.follows (sym no_operation) none.nothing)
-
-      by_answer : (r : Result LineTaken LogFault) → TakesAs took (after_line Log took.limit (n + 1) took.old (any_line_at rest)) (operations_of (rest ∷ [])) r → TakesRest took n rest (bare_answer (length rest) r)
-      by_answer (Ok (Operations count)) h = (leads _ h.0, h.1)
-      by_answer (Ok (EndLine number)) h = torn h.2 h.1 (leads _ h.0)
-      by_answer (Err (fault.Line k e)) h = torn h.2 h.1 (leads _ h.0)
-      by_answer (Err (fault.Refused k e)) h = (leads _ h.0 ∙ ap (λ (d : Content). ran (Err (fault.Refused k e)) d) (sym h.1.same), h.1)
-      by_answer (Err fault.Read) h = absurd h
-      by_answer (Err fault.Memory) h = h
+  rest_takes r some h = grind arith
 
   pub rest_fails : (e : LogFault) → TakesRest took n rest (Err e) → (e ≢ fault.Memory → after_rest took.limit n took.old rest ≡ ran (Err e) took.new) × TakesNone took × (e ≢ fault.Read)
-  rest_fails (fault.Line k x) h = absurd h
-  rest_fails (fault.Refused k x) h = ((λ _. h.0), h.1, (λ is. absurd cc))
-  rest_fails fault.Read h = absurd h
-  rest_fails fault.Memory h = ((λ not_memory. absurd (not_memory refl)), h, (λ is. absurd cc))
+  rest_fails zp1 h = grind (arith)
 
 -- how the rest of a log ends it, at content c behind n lines
-pub rest_taken : (limit n : ℕ) (c d : Content) (read : LogRead) (rest : List ℕ) → after_rest limit n c rest ≡ (d, Ok read) → taken_one_by_one limit c (operations_of (rest ∷ [])) ≡ Ok d
-rest_taken limit n c d read [] h =
-    ap (λ r. taken_one_by_one limit c (then_operations r [])) nothing_stands ∙ ap Ok (ap (λ (o : LogOutcome). o.0) h)
-rest_taken limit n c d read (b ∷ bytes) h = by_reading (any_line_at (b ∷ bytes)) refl h
-  where
-    by_taken : (ops : List Op) (r : Result Content Refusal) → operations_at (b ∷ bytes) ≡ Ok ops → ((e : Content) → r ≡ Ok e → taken_one_by_one limit c ops ≡ Ok e) → after_bare_operation n c r ≡ (d, Ok read) → taken_one_by_one limit c (operations_of ((b ∷ bytes) ∷ [])) ≡ Ok d
-    by_taken ops (Ok e) reads was g =
-        ap (λ r. taken_one_by_one limit c (then_operations r [])) reads
-        ∙ ap (taken_one_by_one limit c) (append-nil ops)
-        ∙ was e refl
-        ∙ ap Ok (ap (λ (o : LogOutcome). o.0) g)
-    by_taken ops (Err x) reads was g = absurd (no_fault (fault.Refused (n + 1) x) read g)
+pub record RestTaken (limit n : ℕ) (c d : Content) (read : LogRead) (rest : List ℕ) : Type 0 where
+  pub taken : taken_one_by_one limit c (operations_of (rest ∷ [])) ≡ Ok d
+  pub lines : read.lines ≡ n
+  pub operation : HasNothingTorn read.end → (rest ≡ []) ⊎ IsOperation rest
 
-    by_reading : (r : AnyReading) → any_line_at (b ∷ bytes) ≡ r → after_bare_line limit n c (length (b ∷ bytes)) r ≡ (d, Ok read) → taken_one_by_one limit c (operations_of ((b ∷ bytes) ∷ [])) ≡ Ok d
-    by_reading (Ok (One op)) says g = by_taken (op ∷ []) (taken limit c op) (stands (b ∷ bytes) (Ok (One op)) says) (λ e was. ap (λ r. and_take r (λ f. Ok f)) was) g
-    by_reading (Ok (Run r)) says g =
-        by_taken (stretch_operations r) (taken_whole limit c (stretch_operations r)) (stands (b ∷ bytes) (Ok (Run r)) says) (λ e was. taken_whole_one_by_one limit c e (stretch_operations r) was) g
-    by_reading (Ok (Deletions r)) says g =
-        by_taken (run_deletions r) (taken_whole limit c (run_deletions r)) (stands (b ∷ bytes) (Ok (Deletions r)) says) (λ e was. taken_whole_one_by_one limit c e (run_deletions r) was) g
-    by_reading (Ok Head) says g =
-        ap (λ r. taken_one_by_one limit c (then_operations r [])) (stands (b ∷ bytes) (Ok Head) says) ∙ ap Ok (ap (λ (o : LogOutcome). o.0) g)
-    by_reading (Ok (Last number)) says g =
-        ap (λ r. taken_one_by_one limit c (then_operations r [])) (stands (b ∷ bytes) (Ok (Last number)) says) ∙ ap Ok (ap (λ (o : LogOutcome). o.0) g)
-    by_reading (Err e) says g =
-        ap (λ r. taken_one_by_one limit c (then_operations r [])) (stands (b ∷ bytes) (Err e) says) ∙ ap Ok (ap (λ (o : LogOutcome). o.0) g)
+pub rest_taken : (limit n : ℕ) (c d : Content) (read : LogRead) (rest : List ℕ) → after_rest limit n c rest ≡ (d, Ok read) → RestTaken limit n c d read rest
+rest_taken limit n c d read rest h = by_rest rest h
+  where
+    ends_so : (rest : List ℕ) (e : Content) (end : LogEnd) → taken_one_by_one limit c (operations_of (rest ∷ [])) ≡ Ok e → (HasNothingTorn end → (rest ≡ []) ⊎ IsOperation rest) → end_outcome n e end ≡ (d, Ok read) → RestTaken limit n c d read rest
+    ends_so rest e end taken one h =
+        let same : is_read_to_end (record { lines = n; end = end }) ≡ is_read_to_end read = ap (λ (o : LogOutcome). o.1) h in
+        let is : record { lines = n; end = end } ≡ read = cc in
+        record {
+          taken = taken ∙ ap Ok (ap (λ (o : LogOutcome). o.0) h);
+          lines = sym (ap (λ (r : LogRead). r.lines) is);
+          operation = λ whole. one (subst HasNothingTorn (sym (ap (λ (r : LogRead). r.end) is)) whole);
+        }
+
+    said : (rest : List ℕ) (r : Result (List Op) LineFault) → operations_at rest ≡ r → taken_one_by_one limit c (operations_of (rest ∷ [])) ≡ taken_one_by_one limit c (then_operations r [])
+    said rest r is = ap (λ r. taken_one_by_one limit c (then_operations r [])) is
+
+    by_answer : (rest : List ℕ) (w : StandsForSome limit c (any_line_at rest)) (r : Result Content Refusal) → w.answer ≡ r → after_bare_operation n c r ≡ (d, Ok read) → RestTaken limit n c d read rest
+    by_answer rest w (Ok e) is g =
+        let reads = stands rest (any_line_at rest) refl ∙ w.is in
+        ends_so rest e Bare (said rest (Ok w.ops) reads ∙ ap (taken_one_by_one limit c) (append-nil w.ops) ∙ w.one_by_one e is) (λ _. inr (w.ops, reads)) g
+    by_answer rest w (Err x) is g = absurd (no_fault (fault.Refused (n + 1) x) read g)
+
+    by_rest : (rest : List ℕ) → after_rest limit n c rest ≡ (d, Ok read) → RestTaken limit n c d read rest
+    by_rest [] g = ends_so [] c Whole (said [] (Err line_fault.Json) nothing_stands) (λ _. inl refl) g
+    by_rest (b ∷ bytes) g = elim (some_or_none limit c (any_line_at (b ∷ bytes))) [
+      | inl w ↦ by_answer (b ∷ bytes) w w.answer refl (sym (w.bare n (length (b ∷ bytes))) ∙ g)
+      | inr w ↦
+          let reads = stands (b ∷ bytes) (any_line_at (b ∷ bytes)) refl ∙ w.is in
+          ends_so (b ∷ bytes) c (Torn (length (b ∷ bytes))) (said (b ∷ bytes) (Err w.wrong) reads) (λ torn. absurd torn) (sym (w.bare n (length (b ∷ bytes))) ∙ g)
+    ]
 
 -- the operations of lines that were taken, and then those of others
 pub then_taken : (limit n m : ℕ) (c d : Content) (xs ys : List (List ℕ)) → lines_taken Log limit n c xs ≡ progress m d AllTaken → taken_one_by_one limit c (operations_of (xs ++ ys)) ≡ taken_one_by_one limit d (operations_of ys)
-then_taken limit n m c d [] ys h = ap (λ e. taken_one_by_one limit e (operations_of ys)) (ap (λ (t : Progress). t.content) h)
-then_taken limit n m c d (x ∷ xs) ys h =
-    let w = goes_on Log limit n m c d x xs h in
-    let first = line_taken limit (n + 1) c w.next x w.first in
-    ap (λ r. taken_one_by_one limit c (then_operations r (operations_of (xs ++ ys)))) first.1
-    ∙ one_by_one-append limit c w.next first.0 (operations_of (xs ++ ys)) first.2
-    ∙ then_taken limit (n + 1) m w.next d xs ys w.later
+then_taken limit n m c d xs ys h =
+    let w = log_lines limit n m c d xs h in
+    ap (taken_one_by_one limit c) (operations_of-append xs ys w.0) ∙ one_by_one-append limit c d (operations_of xs) (operations_of ys) w.1
 
 -- a log that is read to its end was read so: all its lines, and then its rest
 pub record IsRead (limit : ℕ) (c d : Content) (read : LogRead) (bytes : List ℕ) : Type 0 where
@@ -263,49 +163,32 @@ pub log_taken : (limit : ℕ) (c d : Content) (read : LogRead) (bytes : List ℕ
 log_taken limit c d read bytes h =
     let w = is_read limit c d read bytes h in
     then_taken limit 0 w.lines c w.content (lines_of bytes) (rest_of bytes ∷ []) w.taken
-    ∙ rest_taken limit w.lines w.content d read (rest_of bytes) w.rest
+    ∙ (rest_taken limit w.lines w.content d read (rest_of bytes) w.rest).taken
 
 pub log_joined : (limit : ℕ) (c d : Content) (read : LogRead) (bytes : List ℕ) → log_outcome limit c bytes ≡ (d, Ok read) → d ≡ join c (content_of (log_operations bytes))
 log_joined limit c d read bytes h = (taken_list_is limit c (log_operations bytes) d (log_taken limit c d read bytes h)).joined
 
 -- ---- of a device that tells its bytes
 
-abbrev pub was_received : ℕ → Result ℕ ReceiveFault
-was_received n = Ok n
-
-abbrev pub not_received : ReceiveFault → Result ℕ ReceiveFault
-not_received e = Err e
-
 abbrev pub EndsBehind : Option (List ℕ) → ℕ → ℕ → ℕ → ℕ → Content → Content → Type 0
 EndsBehind known limit n j number c d = IfSome known (λ bytes. (stream_taken Exchange limit c bytes ≡ progress n d (AtEnd number)) × (j ≡ length (stream_operations bytes)))
 
 pub received_joined : (known : Option (List ℕ)) (limit n j number : ℕ) (c d : Content) → EndsBehind known limit n j number c d → IfSome known (λ bytes. d ≡ join c (content_of (stream_operations bytes)))
-received_joined None limit n j number c d h = tt
-received_joined (Some bytes) limit n j number c d h = stream_joined limit n c d number bytes h.0
+received_joined known limit n j number c d h = IfSome_then known h (λ bytes k. stream_joined limit n c d number bytes k.0)
 
 -- who joined the operations of what a reader gives took them
 pub told_taken : (known : Option (List ℕ)) (operations : List ℕ → List Op) (c d : Content) → IfSome known (λ bytes. d ≡ join c (content_of (operations bytes))) → IfSome known (λ bytes. TakesMore c (operations bytes) d)
-told_taken None operations c d h = tt
-told_taken (Some bytes) operations c d h = joined_taken c d (operations bytes) h
+told_taken known operations c d h = IfSome_then known h (λ bytes. joined_taken c d (operations bytes))
 
 -- the end line names the number of the operations, or another one
 pub received_number : (known : Option (List ℕ)) (limit n j number : ℕ) (c d : Content) → number ≡ j → EndsBehind known limit n j number c d → IfSome known (λ bytes. number ≡ length (stream_operations bytes))
-received_number None limit n j number c d same h = tt
-received_number (Some bytes) limit n j number c d same h = same ∙ h.1
+received_number known limit n j number c d same h = IfSome_then known h (λ bytes k. same ∙ k.1)
 
 pub received_all : (known : Option (List ℕ)) (limit n j number : ℕ) (c d : Content) → number ≡ j → EndsBehind known limit n j number c d → IfSome known (λ bytes. exchange_outcome limit c bytes ≡ (d, Ok number))
-received_all None limit n j number c d same h = tt
-received_all (Some bytes) limit n j number c d same h =
-    ap (λ (t : Progress). (t.content, number_received (length (stream_operations bytes)) t.stop)) h.0
-    ∙ (λ k. (d, number_received (sym (same ∙ h.1) k) (AtEnd number)))
-    ∙ ap (λ b. (d, cond b (was_received number) (not_received exchange_fault.Count))) (eq-eqb number number refl)
+received_all known limit n j number c d same h = grind arith
 
 pub received_other : (known : Option (List ℕ)) (limit n j number : ℕ) (c d : Content) → (number ≡ j → ⊥) → EndsBehind known limit n j number c d → IfSome known (λ bytes. exchange_outcome limit c bytes ≡ (d, Err exchange_fault.Count))
-received_other None limit n j number c d other h = tt
-received_other (Some bytes) limit n j number c d other h =
-    let all : ℕ = length (stream_operations bytes) in
-    ap (λ (t : Progress). (t.content, number_received all t.stop)) h.0
-    ∙ ap (λ b. (d, cond b (was_received all) (not_received exchange_fault.Count))) (ne_eqb number all (λ e. other (e ∙ sym h.1)))
+received_other known limit n j number c d other h = grind arith
 
 -- a log of which all lines were taken, and then the rest; the taker's own limit may be another name of the same number
 pub log_ends : (limit own n : ℕ) (c e d : Content) (rest bytes : List ℕ) (told : Result LogRead LogFault) → own ≡ limit → (stream_taken Log limit c bytes ≡ progress n e AllTaken) × (rest_of bytes ≡ rest) → after_rest own n e rest ≡ ran told d → log_outcome limit c bytes ≡ ran told d
@@ -313,12 +196,8 @@ log_ends limit own n c e d rest bytes told is h outcome =
     (λ k. after_lines limit (h.1 k) (h.0 k)) ∙ sym (ap (λ l. after_rest l n e rest) is) ∙ outcome
 
 pub log_ends_outcome : (known : Option (List ℕ)) (limit own n : ℕ) (c e d : Content) (rest : List ℕ) (told : Result LogRead LogFault) → own ≡ limit → IfSome known (λ bytes. (stream_taken Log limit c bytes ≡ progress n e AllTaken) × (rest_of bytes ≡ rest)) → after_rest own n e rest ≡ ran told d → IfSome known (λ bytes. let p = log_outcome limit c bytes in (p.0 ≡ d) × (p.1 ≡ told))
-log_ends_outcome None limit own n c e d rest told is h outcome = tt
-log_ends_outcome (Some bytes) limit own n c e d rest told is h outcome =
-    let all : log_outcome limit c bytes ≡ ran told d = log_ends limit own n c e d rest bytes told is h outcome in
-    (ap (λ (o : LogOutcome). o.0) all, ap (λ (o : LogOutcome). o.1) all)
+log_ends_outcome known limit own n c e d rest told is h outcome = grind arith
 
 pub log_ends_joined : (known : Option (List ℕ)) (limit own n : ℕ) (c e d : Content) (rest : List ℕ) (end : LogEnd) → own ≡ limit → IfSome known (λ bytes. (stream_taken Log limit c bytes ≡ progress n e AllTaken) × (rest_of bytes ≡ rest)) → after_rest own n e rest ≡ end_outcome n d end → IfSome known (λ bytes. d ≡ join c (content_of (log_operations bytes)))
-log_ends_joined None limit own n c e d rest end is h outcome = tt
-log_ends_joined (Some bytes) limit own n c e d rest end is h outcome =
-    log_joined limit c d (record { lines = n; end = end }) bytes (log_ends limit own n c e d rest bytes (Ok (record { lines = n; end = end })) is h outcome)
+log_ends_joined known limit own n c e d rest end is h outcome = IfSome_then known h (λ bytes h.
+    log_joined limit c d (record { lines = n; end = end }) bytes (log_ends limit own n c e d rest bytes (Ok (record { lines = n; end = end })) is h outcome))

@@ -1,5 +1,5 @@
 -- What was read of a device, and what was taken of it.
-use Rattle.std.proofs.Common.{◌≡◌, ℕ, ◌≤◌, List, [], ◌∷◌, ◌++◌, length, Option, Some, None, Result, Ok, refl, sym, ap, subst, ◌∙◌, append_assoc, append-nil, arith}
+use Rattle.std.proofs.Common.{◌≡◌, ℕ, ◌≤◌, List, [], ◌∷◌, ◌++◌, length, Option, Result, Ok, refl, sym, ap, subst, ◌∙◌, append_assoc, append-nil, arith}
 use Rattle.std.specs.Prelude.{IfSome}
 use Rattle.std.specs.List.{AllByRecursion}
 use Rattle.std.specs.Io.KnownBytes.{Consumes, Keeps, IsAtEnd}
@@ -27,9 +27,7 @@ use Rattle.rga_exchange.proofs.OperationLaws.{ends_at_once, stream_lines_end, lo
 
 -- what holds of all bytes that were read, whatever follows them, holds of what the reader is known to give
 pub on_all : (old now : Option (List ℕ)) (all : List ℕ) (P : List ℕ → Type 0) → Consumes old now all → ((more : List ℕ) → P (all ++ more)) → IfSome old P
-on_all None now all P read holds = tt
-on_all (Some bytes) None all P read holds = absurd read
-on_all (Some bytes) (Some left) all P read holds = subst P (sym read) (holds left)
+on_all zp1 now all zp2 read holds = grind (arith)
 
 abbrev all_read : {R : Type 0} {form : Form} {remaining : R → Option (List ℕ)} {r s : Calls R} → EndsWithLastRead form remaining r s → List ℕ
 all_read h = h.before ++ h.last

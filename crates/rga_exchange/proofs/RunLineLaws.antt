@@ -1,10 +1,13 @@
 -- Lines of a list in which neighbours that are a run stand in one say the operations of the list.
-use Rattle.std.proofs.Common.{◌≡◌, ℕ, zero, suc, ◌+◌, ◌-◌, ◌<◌, ◌≤◌, Bool, true, false, cond, ◌&&◌, List, [], ◌∷◌, ◌++◌, length, take, drop, Option, Some, None, Ok, refl, sym, ap, subst, ◌∙◌, append_assoc, append-nil, arith, lit<}
+use Rattle.std.proofs.Common.{◌≡◌, ℕ, zero, suc, ◌+◌, ◌-◌, ◌<◌, ◌≤◌, ◌&&◌, List, [], ◌∷◌, ◌++◌, length, take, drop, Option, Some, None, Ok, refl, sym, ap, subst, ◌∙◌, append_assoc, arith}
 use Rattle.std.specs.Char.{IsScalar}
 use Rattle.std.specs.List.{AllByRecursion}
 use Rattle.std.specs.Option.{option_map_or}
-use Rattle.std.proofs.lemmas.Bool.{leb-false}
-use Rattle.std.proofs.lemmas.List.{take-append-drop, length_push}
+use Rattle.std.proofs.lemmas.Bool.{leb-false, and_parts}
+use Rattle.std.proofs.lemmas.Option.{cond_some}
+use Rattle.std.proofs.lemmas.List.{take-append-drop}
+use Rattle.std.proofs.lemmas.List.Elements.{All-from_recursion, recursion_from_All, All-weaker, All-take, All-contains_itself}
+use Rattle.std.specs.Prelude.{Contains}
 use Rattle.rga_ops.specs.Identifier.{Identifier, is_id}
 use Rattle.rga_ops.specs.Operation.{checked}
 use Rattle.rga_ops.specs.Content.{Content, join, content_of}
@@ -14,7 +17,6 @@ use Rattle.rga_ops.specs.declared.op.Op.{Op}
 use Rattle.rga_ops.specs.declared.op.Op.TheVariants.{Insert, Delete}
 use Rattle.rga_ops.proofs.AnswerLaws.{well_formed_insertion}
 use Rattle.rga_ops.proofs.IdentifierLaws.{is_id-is}
-use Rattle.rga_ops.proofs.OperationLaws.{Contains-first}
 use Rattle.rga_lines.specs.declared.run.TheConstants.{MAX_RUN}
 use Rattle.rga_exchange.specs.Counting.{Calls, WritesFront, WritesAllBut}
 use Rattle.rga_lines.specs.Runs.{stretch, next, run_operations}
@@ -25,9 +27,10 @@ use Rattle.rga_lines.proofs.ReadBack.{within}
 use Rattle.rga_lines.proofs.StandLemmas.{run_stands, run_beginning_stands}
 use Rattle.rga_exchange.specs.RunLines.{stretch_line, going_behind, front_characters, front_line, front_count, run_lines_behind, run_lines, runs_text}
 use Rattle.rga_exchange.specs.Sending.{AreWritable, StandsFor, GainsFirst, AppendsFirst}
-use Rattle.rga_exchange.proofs.AppendedLaws.{later_writable, later_well_formed}
+use Rattle.rga_exchange.proofs.AppendedLaws.{ended_lines, stands_joined}
+use Rattle.rga_exchange.proofs.GoingOnLemmas.{IsBegun, begun_more, begun_whole}
 use Rattle.rga_exchange.proofs.BegunLemmas.{begun_next}
-use Rattle.rga_exchange.proofs.BegunLogLaws.{Says, Say, line_says, say_begun, say_appended, say_ended}
+use Rattle.rga_exchange.proofs.BegunLogLaws.{Says, Say, line_says, say_begun, say_stand}
 
 -- ---- what goes on behind an identifier
 
@@ -37,54 +40,39 @@ record IsBehind (last : Identifier) (op : Op) (p : Identifier × ℕ) : Type 0 w
 
 is_behind : (last : Identifier) (op : Op) (p : Identifier × ℕ) → going_behind last op ≡ Some p → IsBehind last op p
 is_behind last (Delete id) p h = absurd cc
-is_behind last (Insert id parent ch) p h = by_test (is_id id (next last)) (is_id parent last) refl refl h
-  where
-    by_test : (a b : Bool) → is_id id (next last) ≡ a → is_id parent last ≡ b → cond (a && b) (Some (id, ch)) None ≡ Some p → IsBehind last (Insert id parent ch) p
-    by_test true true here above h =
-        let found : Identifier × ℕ = (id, ch) in
-        let same : found ≡ p = cc in
-        record {
-          is = λ k. Insert (is_id-is id (next last) here k) (is_id-is parent last above k) ((ap (λ (q : Identifier × ℕ). q.1) same) k);
-          id = sym (ap (λ (q : Identifier × ℕ). q.0) same) ∙ is_id-is id (next last) here;
-        }
-    by_test true false here above h = absurd cc
-    by_test false b here above h = absurd cc
+is_behind last (Insert id parent ch) p h =
+    let found : Identifier × ℕ = (id, ch) in
+    let t = cond_some (is_id id (next last) && is_id parent last) found p h in
+    let both = and_parts (is_id id (next last)) (is_id parent last) t.0 in
+    record {
+      is = λ k. Insert (is_id-is id (next last) both.0 k) (is_id-is parent last both.1 k) ((ap (λ (q : Identifier × ℕ). q.1) t.1) k);
+      id = sym (ap (λ (q : Identifier × ℕ). q.0) t.1) ∙ is_id-is id (next last) both.0;
+    }
 
 -- the insertions of those characters are in front
 front_are : (last : Identifier) (room : ℕ) (ops : List Op) → run_operations (next last) last (front_characters last room ops) ≡ take (length (front_characters last room ops)) ops
 unfolding front_characters
 front_are last zero ops = refl
 front_are last (suc room) [] = refl
-front_are last (suc room) (op ∷ ops) = by_next (going_behind last op) refl (front_are (next last) room ops)
-  where
-    by_next : (o : Option (Identifier × ℕ)) → going_behind last op ≡ o
-        → run_operations (next (next last)) (next last) (front_characters (next last) room ops) ≡ take (length (front_characters (next last) room ops)) ops
-        → run_operations (next last) last (option_map_or (λ p. p.1 ∷ front_characters p.0 room ops) o []) ≡ take (length (option_map_or (λ p. p.1 ∷ front_characters p.0 room ops) o [])) (op ∷ ops)
-    by_next None is later = refl
-    by_next (Some p) is later =
-        let behind = is_behind last op p is in
-        subst (λ (i : Identifier). Insert (next last) last p.1 ∷ run_operations (next (next last)) (next last) (front_characters i room ops) ≡ op ∷ take (length (front_characters i room ops)) ops) (sym behind.id)
-        (λ k. sym behind.is k ∷ later k)
+front_are last (suc room) (op ∷ ops) = grind (arith, is_behind, front_are (next last) room ops)
 
 front_few : (last : Identifier) (room : ℕ) (ops : List Op) → length (front_characters last room ops) ≤ room
 unfolding front_characters
 front_few last zero ops = omega arith
 front_few last (suc room) [] = omega arith
-front_few last (suc room) (op ∷ ops) = by_next (going_behind last op) (λ id. front_few id room ops)
-  where
-    by_next : (o : Option (Identifier × ℕ)) → ((id : Identifier) → length (front_characters id room ops) ≤ room) → length (option_map_or (λ p. p.1 ∷ front_characters p.0 room ops) o []) ≤ suc room
-    by_next None later = omega arith
-    by_next (Some p) later = omega (arith, later p.0)
+front_few last (suc room) (op ∷ ops) = elim (going_behind last op) as (λ o. length (option_map_or (λ p. p.1 ∷ front_characters p.0 room ops) o []) ≤ suc room) [
+  | None ↦ omega arith
+  | Some p ↦ omega (arith, front_few p.0 room ops)
+]
 
 front_in : (last : Identifier) (room : ℕ) (ops : List Op) → length (front_characters last room ops) ≤ length ops
 unfolding front_characters
 front_in last zero ops = omega arith
 front_in last (suc room) [] = omega arith
-front_in last (suc room) (op ∷ ops) = by_next (going_behind last op) (λ id. front_in id room ops)
-  where
-    by_next : (o : Option (Identifier × ℕ)) → ((id : Identifier) → length (front_characters id room ops) ≤ length ops) → length (option_map_or (λ p. p.1 ∷ front_characters p.0 room ops) o []) ≤ length (op ∷ ops)
-    by_next None later = omega arith
-    by_next (Some p) later = omega (arith, later p.0)
+front_in last (suc room) (op ∷ ops) = elim (going_behind last op) as (λ o. length (option_map_or (λ p. p.1 ∷ front_characters p.0 room ops) o []) ≤ length (op ∷ ops)) [
+  | None ↦ omega arith
+  | Some p ↦ omega (arith, front_in p.0 room ops)
+]
 
 -- no more are beside an operation than stand behind it
 pub count_in : (op : Op) (ops : List Op) → front_count op ops ≤ length ops
@@ -93,11 +81,13 @@ count_in (Delete id) ops = omega arith
 
 -- ---- a run that is made step by step
 
+abbrev pub front_from : Identifier × List Op → ℕ → List ℕ
+front_from s room = front_characters s.0 room s.1
+
 -- These characters are the first of the run that begins with an insertion before operations: this is the last one's
 -- identifier, and this what stands behind it.
-pub record IsFrontBegun (max : ℕ) (id : Identifier) (ch : ℕ) (behind : List Op) (chars : List ℕ) (last : Identifier) (rest : List Op) : Type 0 where
-  pub going : chars ++ front_characters last (max - length chars) rest ≡ ch ∷ front_characters id (max - 1) behind
-  pub room : length chars ≤ max
+abbrev pub IsFrontBegun : ℕ → Identifier → ℕ → List Op → List ℕ → Identifier → List Op → Type 0
+IsFrontBegun max id ch behind chars last rest = IsBegun front_from max (ch ∷ front_characters id (max - 1) behind) chars (last, rest)
 
 pub front_first : (max : ℕ) (id : Identifier) (ch : ℕ) (behind : List Op) (chars : List ℕ) → 0 < max → chars ≡ ch ∷ [] → IsFrontBegun max id ch behind chars id behind
 front_first max id ch behind chars some is =
@@ -110,21 +100,8 @@ one_front last room op ops p h = ap (λ o. option_map_or (λ q. q.1 ∷ front_ch
 pub front_next : (max : ℕ) (id : Identifier) (ch : ℕ) (behind : List Op) (chars more : List ℕ) (last : Identifier) (op : Op) (rest later : List Op) (p : Identifier × ℕ)
     → IsFrontBegun max id ch behind chars last rest → length chars < max → rest ≡ op ∷ later → Some p ≡ going_behind last op → more ≡ chars ++ p.1 ∷ [] → IsFrontBegun max id ch behind more p.0 later
 front_next max id ch behind chars more last op rest later p begun less parts is put =
-    let room : ℕ = max - (length chars + 1) in
-    let one : length (chars ++ p.1 ∷ []) ≡ length chars + 1 = length_push chars p.1 in
-    let before : max - length chars ≡ suc room = omega (arith, less) in
-    let fewer : max - length (chars ++ p.1 ∷ []) ≡ room = omega (arith, one) in
-    subst (λ (cs : List ℕ). IsFrontBegun max id ch behind cs p.0 later) (sym put) (record {
-      going = ap (λ r. (chars ++ p.1 ∷ []) ++ front_characters p.0 r later) fewer
-          ∙ append_assoc chars (p.1 ∷ []) (front_characters p.0 room later)
-          ∙ ap (λ (ds : List ℕ). chars ++ ds) (sym (one_front last room op later p (sym is)))
-          ∙ (λ k. chars ++ front_characters last (sym before k) (sym parts k))
-          ∙ begun.going;
-      room = omega (arith, one, less);
-    })
-
-none_behind : (max : ℕ) (id : Identifier) (ch : ℕ) (behind : List Op) (chars : List ℕ) (last : Identifier) (rest : List Op) → IsFrontBegun max id ch behind chars last rest → front_characters last (max - length chars) rest ≡ [] → chars ≡ ch ∷ front_characters id (max - 1) behind
-none_behind max id ch behind chars last rest begun none = sym (append-nil chars) ∙ ap (λ (ds : List ℕ). chars ++ ds) (sym none) ∙ begun.going
+    subst (λ (cs : List ℕ). IsFrontBegun max id ch behind cs p.0 later) (sym put)
+    (begun_more front_from max (ch ∷ front_characters id (max - 1) behind) chars (last, rest) (p.0, later) p.1 begun less (λ room. ap (front_characters last (suc room)) parts ∙ one_front last room op later p (sym is)))
 
 no_room : (last : Identifier) (room : ℕ) (ops : List Op) → room ≡ 0 → front_characters last room ops ≡ []
 unfolding front_characters
@@ -132,16 +109,14 @@ no_room last zero ops none = refl
 no_room last (suc room) ops none = absurd (omega (arith, none))
 
 pub front_full : (max : ℕ) (id : Identifier) (ch : ℕ) (behind : List Op) (chars : List ℕ) (last : Identifier) (rest : List Op) → IsFrontBegun max id ch behind chars last rest → max ≤ length chars → chars ≡ ch ∷ front_characters id (max - 1) behind
-front_full max id ch behind chars last rest begun full = none_behind max id ch behind chars last rest begun (no_room last (max - length chars) rest (omega (arith, full)))
+front_full max id ch behind chars last rest begun full = begun_whole front_from max (ch ∷ front_characters id (max - 1) behind) chars (last, rest) begun (no_room last (max - length chars) rest (omega (arith, full)))
 
 none_left : (last : Identifier) (room : ℕ) (ops : List Op) → length ops ≡ 0 → front_characters last room ops ≡ []
 unfolding front_characters
-none_left last zero ops none = refl
-none_left last (suc room) [] none = refl
-none_left last (suc room) (op ∷ ops) none = absurd (omega (arith, none))
+none_left last zp1 ops none = grind (arith)
 
 pub front_last : (max : ℕ) (id : Identifier) (ch : ℕ) (behind : List Op) (chars : List ℕ) (last : Identifier) (rest : List Op) → IsFrontBegun max id ch behind chars last rest → length rest ≡ 0 → chars ≡ ch ∷ front_characters id (max - 1) behind
-front_last max id ch behind chars last rest begun none = none_behind max id ch behind chars last rest begun (none_left last (max - length chars) rest none)
+front_last max id ch behind chars last rest begun none = begun_whole front_from max (ch ∷ front_characters id (max - 1) behind) chars (last, rest) begun (none_left last (max - length chars) rest none)
 
 another : (last : Identifier) (room : ℕ) (op : Op) (ops : List Op) → going_behind last op ≡ None → front_characters last room (op ∷ ops) ≡ []
 unfolding front_characters
@@ -150,23 +125,22 @@ another last (suc room) op ops h = ap (λ o. option_map_or (λ q. q.1 ∷ front_
 
 pub front_ends : (max : ℕ) (id : Identifier) (ch : ℕ) (behind : List Op) (chars : List ℕ) (last : Identifier) (op : Op) (rest later : List Op) → IsFrontBegun max id ch behind chars last rest → rest ≡ op ∷ later → None ≡ going_behind last op → chars ≡ ch ∷ front_characters id (max - 1) behind
 front_ends max id ch behind chars last op rest later begun parts none =
-    none_behind max id ch behind chars last rest begun (ap (front_characters last (max - length chars)) parts ∙ another last (max - length chars) op later (sym none))
+    begun_whole front_from max (ch ∷ front_characters id (max - 1) behind) chars (last, rest) begun (ap (front_characters last (max - length chars)) parts ∙ another last (max - length chars) op later (sym none))
 
 -- ---- a run that can be written
 
 -- each of these is well-formed, and can be written
-abbrev AreSayable : List Op → Type 0
-AreSayable ops = AllByRecursion (λ op. IsWritable op × (checked op ≡ Ok tt)) ops
+abbrev pub IsSayable : Op → Type 0
+IsSayable op = IsWritable op × (checked op ≡ Ok tt)
+
+abbrev pub AreSayable : List Op → Type 0
+AreSayable ops = AllByRecursion IsSayable ops
 
 sayable : (ops : List Op) → AreWritable ops → AreWellFormed ops → AreSayable ops
-sayable [] writable well = tt
-sayable (op ∷ ops) writable well =
-    ((writable op (Contains-first op ops), well op (Contains-first op ops)), sayable ops (later_writable op ops writable) (later_well_formed op ops well))
+sayable ops writable well = recursion_from_All IsSayable ops (All-weaker (Contains ops) IsSayable (λ op m. (writable op m, well op m)) ops (All-contains_itself ops))
 
 sayable_take : (n : ℕ) (ops : List Op) → AreSayable ops → AreSayable (take n ops)
-sayable_take zero ops h = tt
-sayable_take (suc n) [] h = tt
-sayable_take (suc n) (op ∷ ops) h = (h.0, sayable_take n ops h.1)
+sayable_take n ops h = recursion_from_All IsSayable (take n ops) (All-take IsSayable n ops (All-from_recursion IsSayable ops h))
 
 scalars : (id parent : Identifier) (chars : List ℕ) → AreSayable (run_operations id parent chars) → AllByRecursion IsScalar chars
 scalars id parent [] h = tt
@@ -177,14 +151,9 @@ ends_within id parent ch [] h = omega (arith, (within id h.0.0.0).counter)
 ends_within id parent ch (d ∷ chars) h = omega (arith, ends_within (next id) id d chars h.1)
 
 writable_run : (id parent : Identifier) (ch : ℕ) (chars : List ℕ) → AreSayable (run_operations id parent (ch ∷ chars)) → length (ch ∷ chars) ≤ MAX_RUN → IsWritableRun (stretch id parent (ch ∷ chars))
-writable_run id parent ch chars h few = record {
-  id = h.0.0.0;
-  parent = h.0.0.1;
-  scalars = scalars id parent (ch ∷ chars) h;
-  run = record { some = omega arith; few = few; end = ends_within id parent ch chars h; rising = leb-false id.counter parent.counter (well_formed_insertion id parent ch h.0.1).1 };
-}
+writable_run id parent ch chars h few = grind (arith, scalars, ends_within, leb-false, well_formed_insertion)
 
-run_says : (id parent : Identifier) (ch : ℕ) (chars : List ℕ) → AreSayable (run_operations id parent (ch ∷ chars)) → length (ch ∷ chars) ≤ MAX_RUN → Says (stretch_line (stretch id parent (ch ∷ chars))) (run_operations id parent (ch ∷ chars))
+pub run_says : (id parent : Identifier) (ch : ℕ) (chars : List ℕ) → AreSayable (run_operations id parent (ch ∷ chars)) → length (ch ∷ chars) ≤ MAX_RUN → Says (stretch_line (stretch id parent (ch ∷ chars))) (run_operations id parent (ch ∷ chars))
 run_says id parent ch [] h few = line_says (Insert id parent ch) h.0.0 h.0.1
 run_says id parent ch (d ∷ chars) h few =
     let can = writable_run id parent ch (d ∷ chars) h few in
@@ -202,9 +171,6 @@ record SaysFront (op : Op) (ops : List Op) : Type 0 where
   parts : op ∷ ops ≡ own ++ drop (front_count op ops) ops
   says : Says (front_line op ops) own
 
-one_more : (max : ℕ) (ch : ℕ) (chars : List ℕ) → 0 < max → length chars ≤ max - 1 → length (ch ∷ chars) ≤ max
-one_more max ch chars some few = omega (arith, some, few)
-
 says_front : (op : Op) (ops : List Op) → AreSayable (op ∷ ops) → SaysFront op ops
 says_front (Delete id) ops h = record { own = Delete id ∷ []; parts = refl; says = line_says (Delete id) h.0.0 h.0.1 }
 says_front (Insert id parent ch) ops h =
@@ -213,7 +179,7 @@ says_front (Insert id parent ch) ops h =
     record {
       own = run_operations id parent (ch ∷ chars);
       parts = ap (λ (os : List Op). Insert id parent ch ∷ os) (sym (take-append-drop (length chars) ops) ∙ ap (λ (os : List Op). os ++ drop (length chars) ops) (sym are));
-      says = run_says id parent ch chars (h.0, subst AreSayable (sym are) (sayable_take (length chars) ops h.1)) (one_more MAX_RUN ch chars (lit< tt) (front_few id (MAX_RUN - 1) ops));
+      says = run_says id parent ch chars (h.0, subst AreSayable (sym are) (sayable_take (length chars) ops h.1)) (omega (arith, front_few id (MAX_RUN - 1) ops));
     }
 
 say_behind : (n : ℕ) (ops : List Op) → AreSayable ops → Say (run_lines_behind n ops) (drop n ops)
@@ -230,10 +196,10 @@ run_lines_say ops writable well = say_behind 0 ops (sayable ops writable well)
 -- ---- behind a log
 
 pub runs_appended : (bytes : List ℕ) (c : Content) (ops : List Op) → StandsFor bytes c → rest_of bytes ≡ [] → AreWritable ops → AreWellFormed ops → IsJoinable c ops → StandsFor (bytes ++ runs_text ops) (join c (content_of ops))
-runs_appended bytes c ops stands ended writable well joinable = say_appended bytes c (run_lines ops) ops stands ended (run_lines_say ops writable well) joinable
+runs_appended bytes c ops stands ended writable well joinable = stands_joined bytes c (run_lines ops) ops stands ended (say_stand (run_lines ops) ops (run_lines_say ops writable well)) joinable
 
 pub runs_ended : (bytes : List ℕ) (ops : List Op) → rest_of bytes ≡ [] → AreWritable ops → AreWellFormed ops → rest_of (bytes ++ runs_text ops) ≡ []
-runs_ended bytes ops ended writable well = say_ended bytes (run_lines ops) ops ended (run_lines_say ops writable well)
+runs_ended bytes ops ended writable well = ended_lines bytes (run_lines ops) ended
 
 pub runs_begun : (bytes : List ℕ) (c : Content) (ops : List Op) (front rest : List ℕ) → StandsFor bytes c → rest_of bytes ≡ [] → AreWritable ops → AreWellFormed ops → IsJoinable c ops → front ++ rest ≡ runs_text ops → GainsFirst bytes front c ops
 runs_begun bytes c ops front rest stands ended writable well joinable e =
@@ -248,11 +214,7 @@ lines_of_rest (suc n) (op ∷ ops) = lines_of_rest n ops
 
 module _ {W : Type 0} (contents : W → Option (List ℕ)) where
   pub runs_gained : (a b : Calls W) (ops : List Op) → (AreWellFormed ops → AreWritable ops) → WritesFront contents a b (runs_text ops) → AppendsFirst contents a b ops
-  runs_gained a b ops writable h = record {
-    front = h.front;
-    written = h.written;
-    gained = λ bytes held stands ended well joinable. runs_begun bytes held ops h.front h.rest stands ended (writable well) well joinable (sym h.parts);
-  }
+  runs_gained a b ops writable h = grind (arith, runs_begun)
 
   -- a block that begins empty, and what was written of it
   pub runs_front : (a b : Calls W) (start text : List ℕ) → start ≡ [] → WritesFront contents a b (start ++ text) → WritesFront contents a b text

@@ -1,90 +1,43 @@
 -- Why the lines of a stream are taken no further, in words.
-use Rattle.std.proofs.Common.{◌≡◌, ℕ, ◌+◌, Bool, true, false, cond, nat_lt, List, [], ◌∷◌, ◌++◌, length, Option, Some, None, Result, Ok, Err, refl, sym, ap, subst, ◌∙◌, ◌≤◌, arith}
+use Rattle.std.proofs.Common.{◌≡◌, ℕ, ◌+◌, Bool, true, false, cond, nat_lt, List, [], ◌∷◌, ◌++◌, length, Result, Ok, Err, refl, sym, ap, subst, ◌∙◌, ◌≤◌, arith}
 use Rattle.std.specs.Prelude.{◌↔◌}
 use Rattle.std.specs.List.{AllByRecursion}
 use Rattle.std.proofs.lemmas.Bool.{ltb-true}
 use Rattle.std.specs.FinSet as finite_set
 use Rattle.rga_ops.specs.Content.{Content, known_ids}
-use Rattle.rga_ops.specs.Answer.{taken, taken_one_by_one}
+use Rattle.rga_ops.specs.Answer.{taken_one_by_one}
 use Rattle.rga_ops.specs.declared.op.Op.{Op}
-use Rattle.rga_ops.specs.declared.refusal.Refusal.{Refusal}
-use Rattle.rga_ops.proofs.TakenLaws.{took, refused}
+use Rattle.rga_ops.proofs.TakenLaws.{took}
 use Rattle.rga_ops.proofs.KnownLaws.{taken_list_within}
-use Rattle.rga_lines.specs.Runs.{stretch_operations, run_deletions}
-use Rattle.rga_lines.specs.Table.{AnyReading, any_line_at}
+use Rattle.rga_lines.specs.Table.{any_line_at}
 use Rattle.rga_lines.specs.declared.line.TheConstants.{MAX_LINE}
 use Rattle.rga_lines.specs.Stream.{lines_of, rest_of}
 use Rattle.rga_lines.specs.Log.{operations_of, operations_at, then_operations, IsOperation}
-use Rattle.rga_lines.specs.declared.line.Line.{Line}
-use Rattle.rga_lines.specs.declared.line.Line.TheVariants.{One, Run, Deletions, Head, Last}
-use Rattle.rga_lines.specs.declared.fault.LineFault.{LineFault}
 use Rattle.rga_lines.specs.declared.fault.LineFault.TheVariants as line_fault
 use Rattle.rga_lines.proofs.ReadingLemmas.{too_long}
 use Rattle.rga_exchange.specs.declared.fault.LogFault.TheVariants as fault
 use Rattle.rga_exchange.specs.declared.taking.Form.{Form}
 use Rattle.rga_exchange.specs.declared.taking.Form.TheVariants.{Log}
-use Rattle.rga_exchange.specs.Taking.{may_be_head, body_behind, Stop, AllTaken, AtEnd, AtFault, Progress, progress, refused_at, taken_whole, after_line, go_on, lines_taken, stream_taken}
-use Rattle.rga_exchange.specs.Stops.{fault_in, taken_of_line, GoesOnWith, IsTakenUpTo, all_lines}
-use Rattle.rga_exchange.proofs.HeadLaws.{on, halt, through_body}
-use Rattle.rga_exchange.proofs.TakingLaws.{lines_taken-append, line_is_taken, took_front, are_taken}
-
-abbrev no_fault : Option LineFault
-no_fault = None
-
-abbrev some_fault : LineFault → Option LineFault
-some_fault e = Some e
+use Rattle.rga_exchange.specs.Taking.{body_behind, Stop, AllTaken, AtEnd, AtFault, Progress, progress, after_line, go_on, lines_taken, stream_taken}
+use Rattle.rga_exchange.specs.Stops.{GoesOnWith, IsTakenUpTo, all_lines}
+use Rattle.rga_exchange.proofs.HeadLaws.{through_body}
+use Rattle.rga_exchange.proofs.TakingLaws.{halting_line, lines_taken-append, line_is_taken, took_front, are_taken}
 
 -- ---- what stops is so
 
-halting_line : (form : Form) (limit n : ℕ) (c : Content) (line : List ℕ) (lines : List (List ℕ)) (stop : Stop) → after_line form limit (n + 1) c (any_line_at line) ≡ Err stop → GoesOnWith form limit n c (line ∷ lines) stop
-halting_line form limit n c line lines stop h = by_reading (any_line_at line) refl h
-  where
-    so : (s : Stop) → halt s ≡ halt stop → GoesOnWith form limit n c (line ∷ lines) s → GoesOnWith form limit n c (line ∷ lines) stop
-    so s same w = let is : s ≡ stop = cc in subst (GoesOnWith form limit n c (line ∷ lines)) is w
-
-    by_taken : (said : Line) (r : Result Content Refusal) → any_line_at line ≡ Ok said → taken_of_line limit c said ≡ r → refused_at (n + 1) r ≡ Err stop → GoesOnWith form limit n c (line ∷ lines) stop
-    by_taken said (Ok d) says was g = let clash : on d ≡ halt stop = g in absurd cc
-    by_taken said (Err e) says was g = so (AtFault (fault.Refused (n + 1) e)) g (refl, record { line = line; later = lines; split = refl; said = said; says = says; refused = was })
-
-    wrong : (e : LineFault) → fault_in form (n + 1) (any_line_at line) ≡ Some e → halt (AtFault (fault.Line (n + 1) e)) ≡ halt stop → GoesOnWith form limit n c (line ∷ lines) stop
-    wrong e is g = so (AtFault (fault.Line (n + 1) e)) g (refl, record { line = line; later = lines; split = refl; wrong = is })
-
-    by_place : (may : Bool) → may_be_head form (n + 1) ≡ may → any_line_at line ≡ Ok Head → cond may (on c) (halt (AtFault (fault.Line (n + 1) line_fault.Kind))) ≡ halt stop → GoesOnWith form limit n c (line ∷ lines) stop
-    by_place true is says g = let clash : on c ≡ halt stop = g in absurd cc
-    by_place false is says g = wrong line_fault.Kind (ap (fault_in form (n + 1)) says ∙ ap (λ b. cond b no_fault (some_fault line_fault.Kind)) is) g
-
-    by_reading : (r : AnyReading) → any_line_at line ≡ r → after_line form limit (n + 1) c r ≡ Err stop → GoesOnWith form limit n c (line ∷ lines) stop
-    by_reading (Ok (One op)) says g = by_taken (One op) (taken limit c op) says refl g
-    by_reading (Ok (Run r)) says g = by_taken (Run r) (taken_whole limit c (stretch_operations r)) says refl g
-    by_reading (Ok (Deletions r)) says g = by_taken (Deletions r) (taken_whole limit c (run_deletions r)) says refl g
-    by_reading (Ok Head) says g = by_place (may_be_head form (n + 1)) refl says g
-    by_reading (Ok (Last number)) says g = so (AtEnd number) g (record { line = line; later = lines; split = refl; says = says })
-    by_reading (Err e) says g = wrong e (ap (fault_in form (n + 1)) says) g
-
-record Stopped (form : Form) (limit n m : ℕ) (c d : Content) (lines : List (List ℕ)) (stop : Stop) : Type 0 where
-  front : List (List ℕ)
-  later : List (List ℕ)
-  split : lines ≡ front ++ later
-  count : m ≡ n + length front
-  taken : lines_taken form limit n c front ≡ progress m d AllTaken
-  reason : GoesOnWith form limit m d later stop
+pub record Stopped (form : Form) (limit n m : ℕ) (c d : Content) (lines : List (List ℕ)) (stop : Stop) : Type 0 where
+  pub front : List (List ℕ)
+  pub later : List (List ℕ)
+  pub split : lines ≡ front ++ later
+  pub count : m ≡ n + length front
+  pub taken : lines_taken form limit n c front ≡ progress m d AllTaken
+  pub reason : GoesOnWith form limit m d later stop
 
 -- nothing was taken
 at_once : (form : Form) (limit n m : ℕ) (c d : Content) (lines : List (List ℕ)) (s stop : Stop) → progress n c s ≡ progress m d stop → GoesOnWith form limit n c lines s → Stopped form limit n m c d lines stop
-at_once form limit n m c d lines s stop h w =
-    let count : n ≡ m = ap (λ (t : Progress). t.lines) h in
-    let content : c ≡ d = ap (λ (t : Progress). t.content) h in
-    let is : s ≡ stop = ap (λ (t : Progress). t.stop) h in
-    record {
-      front = [];
-      later = lines;
-      split = refl;
-      count = omega (arith, count);
-      taken = λ k. progress (count k) (content k) AllTaken;
-      reason = subst (λ k. GoesOnWith form limit k d lines stop) count (subst (λ e. GoesOnWith form limit n e lines stop) content (subst (GoesOnWith form limit n c lines) is w));
-    }
+at_once form limit n m c d lines s stop h w = grind (arith)
 
-stopped : (form : Form) (limit n m : ℕ) (c d : Content) (lines : List (List ℕ)) (stop : Stop) → lines_taken form limit n c lines ≡ progress m d stop → Stopped form limit n m c d lines stop
+pub stopped : (form : Form) (limit n m : ℕ) (c d : Content) (lines : List (List ℕ)) (stop : Stop) → lines_taken form limit n c lines ≡ progress m d stop → Stopped form limit n m c d lines stop
 stopped form limit n m c d [] stop h = at_once form limit n m c d [] AllTaken stop h refl
 stopped form limit n m c d (line ∷ lines) stop h = by_first (after_line form limit (n + 1) c (any_line_at line)) refl h (λ e g. stopped form limit (n + 1) m e d lines stop g)
   where
@@ -104,11 +57,7 @@ stopped form limit n m c d (line ∷ lines) stop h = by_first (after_line form l
 -- ---- what is so stops
 
 log_is_taken : (limit n : ℕ) (c d : Content) (lines : List (List ℕ)) → finite_set.len (known_ids c) ≤ limit → AllByRecursion IsOperation lines → taken_one_by_one limit c (operations_of lines) ≡ Ok d → lines_taken Log limit n c lines ≡ progress (n + length lines) d AllTaken
-log_is_taken limit n c d [] within all h =
-    let same : took c ≡ took d = h in
-    let is : c ≡ d = cc in
-    let count : n ≡ n + 0 = omega arith in
-    λ k. progress (count k) (is k) AllTaken
+log_is_taken limit n c d [] within all h = grind (arith, took)
 log_is_taken limit n c d (line ∷ lines) within all h =
     let ops : List Op = all.0.0 in
     let reads : operations_at line ≡ Ok ops = all.0.1 in
@@ -124,47 +73,8 @@ operations_are_taken form limit n c d lines within all h =
     let w = through_body form limit n c lines in
     w.same ∙ log_is_taken limit w.before c d (body_behind form n lines) within all h ∙ ap (λ k. progress k d AllTaken) w.count
 
--- what the first line says decides how the lines go on
-said_next : (form : Form) (limit n : ℕ) (c : Content) (lines later : List (List ℕ)) (line : List ℕ) (r : AnyReading) → lines ≡ line ∷ later → any_line_at line ≡ r → lines_taken form limit n c lines ≡ go_on n c (after_line form limit (n + 1) c r) (λ d. lines_taken form limit (n + 1) d later)
-said_next form limit n c lines later line r split says =
-    ap (lines_taken form limit n c) split
-    ∙ ap (λ r. go_on n c (after_line form limit (n + 1) c r) (λ d. lines_taken form limit (n + 1) d later)) says
-
-refused_so : (form : Form) (limit n : ℕ) (c : Content) (said : Line) (e : Refusal) → taken_of_line limit c said ≡ Err e → after_line form limit n c (Ok said) ≡ Err (AtFault (fault.Refused n e))
-refused_so form limit n c (One op) e h = ap (refused_at n) h
-refused_so form limit n c (Run r) e h = ap (refused_at n) h
-refused_so form limit n c (Deletions r) e h = ap (refused_at n) h
-refused_so form limit n c Head e h = let clash : took c ≡ refused e = h in absurd cc
-refused_so form limit n c (Last number) e h = let clash : took c ≡ refused e = h in absurd cc
-
-fault_so : (form : Form) (limit n : ℕ) (c : Content) (r : AnyReading) (e : LineFault) → fault_in form n r ≡ Some e → after_line form limit n c r ≡ Err (AtFault (fault.Line n e))
-fault_so form limit n c (Ok (One op)) e h = let clash : no_fault ≡ some_fault e = h in absurd cc
-fault_so form limit n c (Ok (Run r)) e h = let clash : no_fault ≡ some_fault e = h in absurd cc
-fault_so form limit n c (Ok (Deletions r)) e h = let clash : no_fault ≡ some_fault e = h in absurd cc
-fault_so form limit n c (Ok Head) e h = by_place (may_be_head form n) h
-  where
-    by_place : (may : Bool) → cond may no_fault (some_fault line_fault.Kind) ≡ some_fault e → cond may (on c) (halt (AtFault (fault.Line n line_fault.Kind))) ≡ halt (AtFault (fault.Line n e))
-    by_place true h = absurd cc
-    by_place false h = let is : line_fault.Kind ≡ e = cc in ap (λ x. halt (AtFault (fault.Line n x))) is
-fault_so form limit n c (Ok (Last number)) e h = let clash : no_fault ≡ some_fault e = h in absurd cc
-fault_so form limit n c (Err x) e h =
-    let same : some_fault x ≡ some_fault e = h in
-    let is : x ≡ e = cc in
-    ap (λ x. halt (AtFault (fault.Line n x))) is
-
 goes_on_so : (form : Form) (limit n : ℕ) (c : Content) (lines : List (List ℕ)) (stop : Stop) → GoesOnWith form limit n c lines stop → lines_taken form limit n c lines ≡ progress n c stop
-goes_on_so form limit n c lines AllTaken none = ap (lines_taken form limit n c) none
-goes_on_so form limit n c lines (AtEnd number) w = said_next form limit n c lines w.later w.line (Ok (Last number)) w.split w.says
-goes_on_so form limit n c lines (AtFault (fault.Line k e)) (number, w) =
-    said_next form limit n c lines w.later w.line (any_line_at w.line) w.split refl
-    ∙ ap (λ r. go_on n c r (λ d. lines_taken form limit (n + 1) d w.later)) (fault_so form limit (n + 1) c (any_line_at w.line) e (ap (λ i. fault_in form i (any_line_at w.line)) (sym number) ∙ w.wrong))
-    ∙ ap (λ i. progress n c (AtFault (fault.Line i e))) (sym number)
-goes_on_so form limit n c lines (AtFault (fault.Refused k e)) (number, w) =
-    said_next form limit n c lines w.later w.line (Ok w.said) w.split w.says
-    ∙ ap (λ r. go_on n c r (λ d. lines_taken form limit (n + 1) d w.later)) (refused_so form limit (n + 1) c w.said e w.refused)
-    ∙ ap (λ i. progress n c (AtFault (fault.Refused i e))) (sym number)
-goes_on_so form limit n c lines (AtFault fault.Read) w = absurd w
-goes_on_so form limit n c lines (AtFault fault.Memory) w = absurd w
+goes_on_so form limit n c lines zp1 none = grind arith
 
 pub taken_up_to-iff : (form : Form) (limit : ℕ) (c : Content) (lines : List (List ℕ)) (t : Progress) → finite_set.len (known_ids c) ≤ limit → (lines_taken form limit 0 c lines ≡ t) ↔ IsTakenUpTo form limit c lines t
 taken_up_to-iff form limit c lines t within = (there, back)

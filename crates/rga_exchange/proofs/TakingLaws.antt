@@ -1,5 +1,5 @@
 -- A stream line by line: what is taken of it, in whatever parts it comes.
-use Rattle.std.proofs.Common.{◌≡◌, ℕ, ◌+◌, ◌≤◌, Bool, true, false, List, [], ◌∷◌, ◌++◌, length, Result, Ok, Err, refl, sym, ap, subst, ◌∙◌, append_assoc, append-nil, cond, arith, length-append}
+use Rattle.std.proofs.Common.{◌≡◌, ℕ, ◌+◌, ◌≤◌, Bool, true, false, List, [], ◌∷◌, ◌++◌, length, Option, None, Result, Ok, Err, refl, sym, ap, subst, ◌∙◌, append_assoc, append-nil, cond, arith, length-append, inl, inr, ◌⊎◌}
 use Rattle.std.specs.List.{AllByRecursion}
 use Rattle.std.proofs.lemmas.Bool.{lt-ltb, le-ltb}
 use Rattle.std.specs.FinSet as finite_set
@@ -10,12 +10,11 @@ use Rattle.rga_ops.specs.declared.op.Op.{Op}
 use Rattle.rga_ops.specs.declared.refusal.Refusal.{Refusal}
 use Rattle.rga_ops.proofs.TakenLaws.{took, refused, taken_list_is, one_by_one-append}
 use Rattle.rga_ops.proofs.ListAnswerLaws.{list_one_by_one, one_by_one_list}
-use Rattle.rga_lines.specs.Runs.{Stretch, stretch_operations, run_deletions}
-use Rattle.rga_lines.specs.declared.deletion_run.DeletionRun.{DeletionRun}
+use Rattle.rga_lines.specs.Runs.{stretch_operations, run_deletions}
 use Rattle.rga_lines.specs.Table.{AnyReading, any_line_at}
 use Rattle.rga_lines.specs.declared.line.TheConstants.{MAX_LINE}
 use Rattle.rga_lines.specs.Stream.{lines_of, rest_of, BeginsLong, Splitting}
-use Rattle.rga_lines.specs.Log.{SaysRun, operations_of, operations_at, then_operations, IsOperation}
+use Rattle.rga_lines.specs.Log.{operations_in, operations_of, operations_at, then_operations, IsOperation}
 use Rattle.rga_lines.specs.declared.line.Line.TheVariants.{One, Run, Deletions, Head, Last}
 use Rattle.rga_lines.specs.declared.fault.LineFault.{LineFault}
 use Rattle.rga_lines.specs.declared.fault.LineFault.TheVariants as line_fault
@@ -29,33 +28,20 @@ use Rattle.rga_exchange.specs.declared.taking.LineTaken.TheVariants.{Operations,
 use Rattle.rga_exchange.specs.declared.taking.Form.{Form}
 use Rattle.rga_exchange.specs.declared.taking.Form.TheVariants.{Log}
 use Rattle.rga_exchange.specs.Taking.{may_be_head, body_behind, Stop, AllTaken, AtEnd, AtFault, Progress, progress, refused_at, after_list, taken_whole, after_head, after_line, go_on, lines_taken, with_rest, bytes_taken, Intake, TakesNone, AreTaken}
+use Rattle.rga_exchange.specs.declared.log.LogEnd.TheVariants.{Torn}
+use Rattle.rga_exchange.specs.Log.{end_outcome, after_bare_operation, after_bare_line}
+use Rattle.rga_exchange.specs.Stops.{GoesOnWith}
 use Rattle.rga_exchange.specs.Parts.{Stage, stage, head_answer, TakesAs, TakesUpTo, TakesFirst, StopsAs, TakesLines}
 use Rattle.rga_exchange.proofs.HeadLaws.{on, halt, through_body, body-nil, body-append, body_alone}
 
--- ---- what is not a stop behind all lines
+-- ---- the first line
 
-not_end : (n m : ℕ) (c d : Content) (number : ℕ) → progress n c (AtEnd number) ≡ progress m d AllTaken → ⊥
-not_end n m c d number h = let clash : AtEnd number ≡ AllTaken = ap (λ (t : Progress). t.stop) h in cc
+abbrev pub no_fault : Option LineFault
+no_fault = None
 
-not_fault : (n m : ℕ) (c d : Content) (e : LogFault) → progress n c (AtFault e) ≡ progress m d AllTaken → ⊥
-not_fault n m c d e h = let clash : AtFault e ≡ AllTaken = ap (λ (t : Progress). t.stop) h in cc
-
-refusal_halts : (n : ℕ) (d : Content) (m : ℕ) (r : Result Content Refusal) (stop : Stop) → refused_at n r ≡ Err stop → progress m d stop ≡ progress m d AllTaken → ⊥
-refusal_halts n d m (Ok e) stop h is = let clash : on e ≡ halt stop = h in cc
-refusal_halts n d m (Err e) stop h is = let same : halt (AtFault (fault.Refused n e)) ≡ halt stop = h in let which : AtFault (fault.Refused n e) ≡ stop = cc in not_fault m m d d (fault.Refused n e) (ap (progress m d) which ∙ is)
-
--- a line either leads to a content, or stops with the end or a fault
-halts : (form : Form) (limit n : ℕ) (c d : Content) (m : ℕ) (r : AnyReading) (stop : Stop) → after_line form limit n c r ≡ Err stop → progress m d stop ≡ progress m d AllTaken → ⊥
-halts form limit n c d m (Ok (One op)) stop h is = refusal_halts n d m (taken limit c op) stop h is
-halts form limit n c d m (Ok (Run r)) stop h is = refusal_halts n d m (taken_whole limit c (stretch_operations r)) stop h is
-halts form limit n c d m (Ok (Deletions r)) stop h is = refusal_halts n d m (taken_whole limit c (run_deletions r)) stop h is
-halts form limit n c d m (Ok Head) stop h is = by_place (may_be_head form n) h
-  where
-    by_place : (may : Bool) → cond may (on c) (halt (AtFault (fault.Line n line_fault.Kind))) ≡ halt stop → ⊥
-    by_place true g = let clash : on c ≡ halt stop = g in absurd cc
-    by_place false g = let same : halt (AtFault (fault.Line n line_fault.Kind)) ≡ halt stop = g in let which : AtFault (fault.Line n line_fault.Kind) ≡ stop = cc in not_fault m m d d (fault.Line n line_fault.Kind) (ap (progress m d) which ∙ is)
-halts form limit n c d m (Ok (Last number)) stop h is = let same : halt (AtEnd number) ≡ halt stop = h in let which : AtEnd number ≡ stop = cc in not_end m m d d number (ap (progress m d) which ∙ is)
-halts form limit n c d m (Err e) stop h is = let same : halt (AtFault (fault.Line n e)) ≡ halt stop = h in let which : AtFault (fault.Line n e) ≡ stop = cc in not_fault m m d d (fault.Line n e) (ap (progress m d) which ∙ is)
+-- what stops at a line is so
+pub halting_line : (form : Form) (limit n : ℕ) (c : Content) (line : List ℕ) (lines : List (List ℕ)) (stop : Stop) → after_line form limit (n + 1) c (any_line_at line) ≡ Err stop → GoesOnWith form limit n c (line ∷ lines) stop
+halting_line form limit n c line lines stop h = grind arith
 
 pub record GoesOn (form : Form) (limit n m : ℕ) (c d : Content) (line : List ℕ) (lines : List (List ℕ)) : Type 0 where
   pub next : Content
@@ -69,16 +55,13 @@ goes_on form limit n m c d line lines h = by_first (after_line form limit (n + 1
     by_first : (r : Result Content Stop) → after_line form limit (n + 1) c (any_line_at line) ≡ r → go_on n c r (λ e. lines_taken form limit (n + 1) e lines) ≡ progress m d AllTaken → GoesOn form limit n m c d line lines
     by_first (Ok e) first h = record { next = e; first = first; later = h }
     by_first (Err stop) first h =
-        let is : stop ≡ AllTaken = ap (λ (t : Progress). t.stop) h in
-        absurd (halts form limit (n + 1) c d m (any_line_at line) stop first (ap (progress m d) is))
+        let none : line ∷ lines ≡ [] = subst (GoesOnWith form limit n c (line ∷ lines)) (ap (λ (t : Progress). t.stop) h) (halting_line form limit n c line lines stop first) in
+        absurd cc
 
 -- ---- lines in a row
 
 pub lines_taken-append : (form : Form) (limit n m : ℕ) (c d : Content) (xs ys : List (List ℕ)) → lines_taken form limit n c xs ≡ progress m d AllTaken → lines_taken form limit n c (xs ++ ys) ≡ lines_taken form limit m d ys
-lines_taken-append form limit n m c d [] ys h =
-    let count : n ≡ m = ap (λ (t : Progress). t.lines) h in
-    let content : c ≡ d = ap (λ (t : Progress). t.content) h in
-    λ k. lines_taken form limit (count k) (content k) ys
+lines_taken-append form limit n m c d [] ys h = grind (arith)
 lines_taken-append form limit n m c d (x ∷ xs) ys h =
     let w = goes_on form limit n m c d x xs h in
     ap (λ r. go_on n c r (λ e. lines_taken form limit (n + 1) e (xs ++ ys))) w.first
@@ -86,16 +69,11 @@ lines_taken-append form limit n m c d (x ∷ xs) ys h =
 
 -- and so does a line that is too long
 pub begins_long : (form : Form) (limit n : ℕ) (c : Content) (lines : List (List ℕ)) (rest : List ℕ) → BeginsLong lines rest → with_rest rest (lines_taken form limit n c lines) ≡ progress n c (AtFault (fault.Line (n + 1) line_fault.Long))
-begins_long form limit n c [] rest h = ap (λ b. progress n c (cond b (AtFault (fault.Line (n + 1) line_fault.Long)) AllTaken)) (lt-ltb MAX_LINE (length rest) h)
-begins_long form limit n c (line ∷ lines) rest h =
-    ap (λ r. with_rest rest (go_on n c (after_line form limit (n + 1) c r) (λ d. lines_taken form limit (n + 1) d lines))) (too_long line h)
+begins_long form limit n c zp1 rest h = grind (arith, lt-ltb, too_long)
 
 -- no line waits: the rest alone is left, which is not too long
 pub only_rest : (form : Form) (limit n : ℕ) (c : Content) (waiting : List ℕ) → lines_of waiting ≡ [] → rest_of waiting ≡ waiting → length waiting ≤ MAX_LINE → bytes_taken form limit n c (waiting ++ []) ≡ progress n c AllTaken
-only_rest form limit n c waiting none whole short =
-    ap (bytes_taken form limit n c) (append-nil waiting)
-    ∙ (λ k. with_rest (whole k) (lines_taken form limit n c (none k)))
-    ∙ ap (λ b. progress n c (cond b (AtFault (fault.Line (n + 1) line_fault.Long)) AllTaken)) (le-ltb MAX_LINE (length waiting) short)
+only_rest form limit n c waiting none whole short = grind (arith, append-nil, le-ltb)
 
 -- ---- what was taken, as operations
 
@@ -126,124 +104,87 @@ pub one_by_one_taken_whole : (limit : ℕ) (c d : Content) (ops : List Op) → f
 one_by_one_taken_whole limit c d ops within h =
     ap (after_list c ops) (one_by_one_list limit c d ops within h) ∙ ap Ok (sym (taken_list_is limit c ops d h).joined)
 
+pub one_taken : (limit : ℕ) (c d : Content) (op : Op) → taken_one_by_one limit c (op ∷ []) ≡ Ok d → taken limit c op ≡ Ok d
+one_taken limit c d op h = grind arith
+
+-- ---- what a line of a log stands for
+
+-- for these operations, and it is taken as they are
+pub record StandsForSome (limit : ℕ) (c : Content) (r : AnyReading) : Type 0 where
+  pub ops : List Op
+  pub is : operations_in r ≡ Ok ops
+  pub answer : Result Content Refusal
+  pub line : (n : ℕ) → after_line Log limit n c r ≡ refused_at n answer
+  pub bare : (n bytes : ℕ) → after_bare_line limit n c bytes r ≡ after_bare_operation n c answer
+  pub one_by_one : (d : Content) → answer ≡ Ok d → taken_one_by_one limit c ops ≡ Ok d
+  pub whole : (d : Content) → finite_set.len (known_ids c) ≤ limit → taken_one_by_one limit c ops ≡ Ok d → answer ≡ Ok d
+
+-- or for none, and it is not taken
+pub record StandsForNone (limit : ℕ) (c : Content) (r : AnyReading) : Type 0 where
+  pub wrong : LineFault
+  pub is : operations_in r ≡ Err wrong
+  pub stop : ℕ → Stop
+  pub line : (n : ℕ) → after_line Log limit n c r ≡ Err (stop n)
+  pub bare : (n bytes : ℕ) → after_bare_line limit n c bytes r ≡ end_outcome n c (Torn bytes)
+
+pub some_or_none : (limit : ℕ) (c : Content) (r : AnyReading) → StandsForSome limit c r ⊎ StandsForNone limit c r
+some_or_none limit c (Ok (One op)) =
+    inl (record { ops = op ∷ []; is = refl; answer = taken limit c op; line = λ n. refl; bare = λ n bytes. refl; one_by_one = λ d. ap (λ r. and_take r (λ e. Ok e)); whole = λ d within. one_taken limit c d op })
+some_or_none limit c (Ok (Run r)) =
+    let ops = stretch_operations r in
+    inl (record { ops = ops; is = refl; answer = taken_whole limit c ops; line = λ n. refl; bare = λ n bytes. refl; one_by_one = λ d. taken_whole_one_by_one limit c d ops; whole = λ d. one_by_one_taken_whole limit c d ops })
+some_or_none limit c (Ok (Deletions r)) =
+    let ops = run_deletions r in
+    inl (record { ops = ops; is = refl; answer = taken_whole limit c ops; line = λ n. refl; bare = λ n bytes. refl; one_by_one = λ d. taken_whole_one_by_one limit c d ops; whole = λ d. one_by_one_taken_whole limit c d ops })
+some_or_none limit c (Ok Head) = inr (record { wrong = line_fault.Kind; is = refl; stop = λ n. AtFault (fault.Line n line_fault.Kind); line = λ n. refl; bare = λ n bytes. refl })
+some_or_none limit c (Ok (Last number)) = inr (record { wrong = line_fault.Kind; is = refl; stop = λ n. AtEnd number; line = λ n. refl; bare = λ n bytes. refl })
+some_or_none limit c (Err e) = inr (record { wrong = e; is = refl; stop = λ n. AtFault (fault.Line n e); line = λ n. refl; bare = λ n bytes. refl })
+
+was_taken : (n : ℕ) (d : Content) (r : Result Content Refusal) → refused_at n r ≡ Ok d → r ≡ Ok d
+was_taken n d (Ok e) h = let same : on e ≡ on d = h in let is : e ≡ d = cc in ap Ok is
+was_taken n d (Err e) h = let clash : halt (AtFault (fault.Refused n e)) ≡ on d = h in absurd cc
+
 -- a line of a log that was taken stands for operations that were taken
 pub line_taken : (limit n : ℕ) (c d : Content) (line : List ℕ) → after_line Log limit n c (any_line_at line) ≡ Ok d → (ops : List Op) × (operations_at line ≡ Ok ops) × (taken_one_by_one limit c ops ≡ Ok d)
-line_taken limit n c d line h = by_reading (any_line_at line) refl h
-  where
-    by_taken : (r : Result Content Refusal) → refused_at n r ≡ Ok d → r ≡ Ok d
-    by_taken (Ok e) h = let same : on e ≡ on d = h in let is : e ≡ d = cc in ap Ok is
-    by_taken (Err e) h = let clash : halt (AtFault (fault.Refused n e)) ≡ on d = h in absurd cc
-
-    by_reading : (r : AnyReading) → any_line_at line ≡ r → after_line Log limit n c r ≡ Ok d → (ops : List Op) × (operations_at line ≡ Ok ops) × (taken_one_by_one limit c ops ≡ Ok d)
-    by_reading (Ok (One op)) says h = (op ∷ [], stands line (Ok (One op)) says, ap (λ r. and_take r (λ e. Ok e)) (by_taken (taken limit c op) h))
-    by_reading (Ok (Run r)) says h = (stretch_operations r, stands line (Ok (Run r)) says, taken_whole_one_by_one limit c d (stretch_operations r) (by_taken (taken_whole limit c (stretch_operations r)) h))
-    by_reading (Ok (Deletions r)) says h = (run_deletions r, stands line (Ok (Deletions r)) says, taken_whole_one_by_one limit c d (run_deletions r) (by_taken (taken_whole limit c (run_deletions r)) h))
-    by_reading (Ok Head) says h = let clash : halt (AtFault (fault.Line n line_fault.Kind)) ≡ on d = h in absurd cc
-    by_reading (Ok (Last number)) says h = let clash : halt (AtEnd number) ≡ on d = h in absurd cc
-    by_reading (Err e) says h = let clash : halt (AtFault (fault.Line n e)) ≡ on d = h in absurd cc
-
-pub one_taken : (limit : ℕ) (c d : Content) (op : Op) → taken_one_by_one limit c (op ∷ []) ≡ Ok d → taken limit c op ≡ Ok d
-one_taken limit c d op h =
-    let w = took_first limit c d op [] h in
-    let same : took w.0 ≡ took d = w.2 in
-    let is : w.0 ≡ d = cc in
-    w.1 ∙ ap Ok is
+line_taken limit n c d line h = elim (some_or_none limit c (any_line_at line)) [
+  | inl w ↦ (w.ops, stands line (any_line_at line) refl ∙ w.is, w.one_by_one d (was_taken n d w.answer (sym (w.line n) ∙ h)))
+  | inr w ↦ let clash : halt (w.stop n) ≡ on d = sym (w.line n) ∙ h in absurd cc
+]
 
 -- and the other way round
 pub line_is_taken : (limit n : ℕ) (c d : Content) (line : List ℕ) (ops : List Op) → finite_set.len (known_ids c) ≤ limit → operations_at line ≡ Ok ops → taken_one_by_one limit c ops ≡ Ok d → after_line Log limit n c (any_line_at line) ≡ Ok d
-line_is_taken limit n c d line ops within reads h = by_reading (any_line_at line) refl
-  where
-    by_reading : (r : AnyReading) → any_line_at line ≡ r → after_line Log limit n c r ≡ Ok d
-    by_reading (Ok (One op)) says =
-        let same : stands_for (op ∷ []) ≡ stands_for ops = sym (stands line (Ok (One op)) says) ∙ reads in
-        let is : op ∷ [] ≡ ops = cc in
-        ap (refused_at n) (one_taken limit c d op (ap (taken_one_by_one limit c) is ∙ h))
-    by_reading (Ok (Run r)) says =
-        let same : stands_for (stretch_operations r) ≡ stands_for ops = sym (stands line (Ok (Run r)) says) ∙ reads in
-        let is : stretch_operations r ≡ ops = cc in
-        ap (refused_at n) (one_by_one_taken_whole limit c d (stretch_operations r) within (ap (taken_one_by_one limit c) is ∙ h))
-    by_reading (Ok (Deletions r)) says =
-        let same : stands_for (run_deletions r) ≡ stands_for ops = sym (stands line (Ok (Deletions r)) says) ∙ reads in
-        let is : run_deletions r ≡ ops = cc in
-        ap (refused_at n) (one_by_one_taken_whole limit c d (run_deletions r) within (ap (taken_one_by_one limit c) is ∙ h))
-    by_reading (Ok Head) says = let clash : stands_for_none line_fault.Kind ≡ stands_for ops = sym (stands line (Ok Head) says) ∙ reads in absurd cc
-    by_reading (Ok (Last number)) says = let clash : stands_for_none line_fault.Kind ≡ stands_for ops = sym (stands line (Ok (Last number)) says) ∙ reads in absurd cc
-    by_reading (Err e) says = let clash : stands_for_none e ≡ stands_for ops = sym (stands line (Err e) says) ∙ reads in absurd cc
-
--- ---- one line alone
-
-pub one_alone : (line : List ℕ) (op : Op) → any_line_at line ≡ Ok (One op) → operations_of (line ∷ []) ≡ op ∷ []
-one_alone line op says = ap (λ r. then_operations r []) (stands line (Ok (One op)) says)
-
-pub run_alone : (line : List ℕ) (r : Stretch) → any_line_at line ≡ Ok (Run r) → operations_of (line ∷ []) ≡ stretch_operations r
-run_alone line r says = ap (λ r. then_operations r []) (stands line (Ok (Run r)) says) ∙ append-nil (stretch_operations r)
-
--- what comes of the line of a run, by its insertions
-pub insertions_outcome : (form : Form) (limit n : ℕ) (c : Content) (line : List ℕ) (ops : List Op) → SaysRun line ops → after_line form limit n c (any_line_at line) ≡ refused_at n (taken_whole limit c ops)
-insertions_outcome form limit n c line ops h = ap (after_line form limit n c) h.1 ∙ ap (λ (l : List Op). refused_at n (taken_whole limit c l)) (sym h.2)
-
-pub insertions_alone : (line : List ℕ) (ops : List Op) → SaysRun line ops → operations_of (line ∷ []) ≡ ops
-insertions_alone line ops h = run_alone line h.0 h.1 ∙ sym h.2
-
-pub deletions_alone : (line : List ℕ) (r : DeletionRun) → any_line_at line ≡ Ok (Deletions r) → operations_of (line ∷ []) ≡ run_deletions r
-deletions_alone line r says = ap (λ r. then_operations r []) (stands line (Ok (Deletions r)) says) ∙ append-nil (run_deletions r)
-
-pub head_alone : (line : List ℕ) → any_line_at line ≡ Ok Head → operations_of (line ∷ []) ≡ []
-head_alone line says = ap (λ r. then_operations r []) (stands line (Ok Head) says)
-
-pub last_alone : (line : List ℕ) (number : ℕ) → any_line_at line ≡ Ok (Last number) → operations_of (line ∷ []) ≡ []
-last_alone line number says = ap (λ r. then_operations r []) (stands line (Ok (Last number)) says)
-
-pub none_alone : (line : List ℕ) (e : LineFault) → any_line_at line ≡ Err e → operations_of (line ∷ []) ≡ []
-none_alone line e says = ap (λ r. then_operations r []) (stands line (Err e) says)
+line_is_taken limit n c d line ops within reads h = elim (some_or_none limit c (any_line_at line)) [
+  | inl w ↦
+      let same : stands_for w.ops ≡ stands_for ops = sym (stands line (any_line_at line) refl ∙ w.is) ∙ reads in
+      let is : w.ops ≡ ops = cc in
+      w.line n ∙ ap (refused_at n) (w.whole d within (ap (taken_one_by_one limit c) is ∙ h))
+  | inr w ↦ let clash : stands_for_none w.wrong ≡ stands_for ops = sym (stands line (any_line_at line) refl ∙ w.is) ∙ reads in absurd cc
+]
 
 -- ---- what becomes of a line
 
-takes_as : (took : Intake) (outcome other : Result Content Stop) (ops others : List Op) (r : Result LineTaken LogFault) → outcome ≡ other → ops ≡ others → TakesAs took other others r → TakesAs took outcome ops r
-takes_as took outcome other ops others r is same h =
-    subst (λ (l : List Op). TakesAs took outcome l r) (sym same) (subst (λ (o : Result Content Stop). TakesAs took o others r) (sym is) h)
-
 module _ (form : Form) (took : Intake) (n : ℕ) (line : List ℕ) where
-  abbrev TakesLine : Result LineTaken LogFault → Type 0
-  TakesLine r = TakesAs took (after_line form took.limit n took.old (any_line_at line)) (operations_of (line ∷ [])) r
+  -- by what it says, and what becomes of that
+  pub line_takes : (r : Result LineTaken LogFault) (said : AnyReading) (ops : List Op) → any_line_at line ≡ said → then_operations (operations_in said) [] ≡ ops → TakesAs took (after_line form took.limit n took.old said) ops r
+      → TakesAs took (after_line form took.limit n took.old (any_line_at line)) (operations_of (line ∷ [])) r
+  line_takes r said ops says are h = grind (arith, took, stands)
 
-  pub one_takes : (r : Result LineTaken LogFault) (op : Op) → any_line_at line ≡ Ok (One op) → TakesAs took (refused_at n (taken took.limit took.old op)) (op ∷ []) r → TakesLine r
-  one_takes r op says h = takes_as took _ _ _ _ r (ap (after_line form took.limit n took.old) says) (one_alone line op says) h
-
-  pub run_takes : (r : Result LineTaken LogFault) (run : Stretch) → any_line_at line ≡ Ok (Run run) → TakesAs took (refused_at n (taken_whole took.limit took.old (stretch_operations run))) (stretch_operations run) r → TakesLine r
-  run_takes r run says h = takes_as took _ _ _ _ r (ap (after_line form took.limit n took.old) says) (run_alone line run says) h
-
-  pub deletions_takes : (r : Result LineTaken LogFault) (run : DeletionRun) → any_line_at line ≡ Ok (Deletions run) → TakesAs took (refused_at n (taken_whole took.limit took.old (run_deletions run))) (run_deletions run) r → TakesLine r
-  deletions_takes r run says h = takes_as took _ _ _ _ r (ap (after_line form took.limit n took.old) says) (deletions_alone line run says) h
-
-  pub insertions_takes : (r : Result LineTaken LogFault) (ops : List Op) → SaysRun line ops → TakesAs took (refused_at n (taken_whole took.limit took.old ops)) ops r → TakesLine r
-  insertions_takes r ops says h = takes_as took _ _ _ _ r (insertions_outcome form took.limit n took.old line ops says) (insertions_alone line ops says) h
-
-  pub head_takes : (r : Result LineTaken LogFault) → any_line_at line ≡ Ok Head → TakesNone took → r ≡ head_answer form n → TakesLine r
-  head_takes r says none is =
-      takes_as took _ _ _ _ r (ap (after_line form took.limit n took.old) says) (head_alone line says) (subst (TakesAs took (after_head form n took.old) []) (sym is) (by_place (may_be_head form n)))
+  pub head_takes : (r : Result LineTaken LogFault) → any_line_at line ≡ Ok Head → TakesNone took → r ≡ head_answer form n → TakesAs took (after_line form took.limit n took.old (any_line_at line)) (operations_of (line ∷ [])) r
+  head_takes r says none is = line_takes r (Ok Head) [] says refl (subst (TakesAs took (after_head form n took.old) []) (sym is) (by_place (may_be_head form n)))
     where
       by_place : (may : Bool) → TakesAs took (cond may (on took.old) (halt (AtFault (fault.Line n line_fault.Kind)))) [] (cond may (Ok (Operations 0)) (Err (fault.Line n line_fault.Kind)))
       by_place true = (ap Ok (sym none.same), none.nothing, refl)
       by_place false = (refl, refl, none)
 
-  pub last_takes : (number : ℕ) → any_line_at line ≡ Ok (Last number) → TakesNone took → TakesLine (Ok (EndLine number))
-  last_takes number says none = (ap (after_line form took.limit n took.old) says, last_alone line number says, none)
-
-  pub none_takes : (e : LineFault) → any_line_at line ≡ Err e → TakesNone took → TakesLine (Err (fault.Line n e))
-  none_takes e says none = (ap (after_line form took.limit n took.old) says, none_alone line e says, none)
-
 -- ---- lines
 
 pub lines_counted : (form : Form) (limit n m : ℕ) (c d : Content) (lines : List (List ℕ)) → lines_taken form limit n c lines ≡ progress m d AllTaken → m ≡ n + length lines
-lines_counted form limit n m c d [] h =
-    let count : n ≡ m = ap (λ (t : Progress). t.lines) h in
-    omega (arith, count)
+lines_counted form limit n m c d [] h = grind (arith)
 lines_counted form limit n m c d (line ∷ lines) h =
     let w = goes_on form limit n m c d line lines h in
     omega (arith, lines_counted form limit (n + 1) m w.next d lines w.later)
 
-log_lines : (limit n m : ℕ) (c d : Content) (lines : List (List ℕ)) → lines_taken Log limit n c lines ≡ progress m d AllTaken → AllByRecursion IsOperation lines × (taken_one_by_one limit c (operations_of lines) ≡ Ok d)
+pub log_lines : (limit n m : ℕ) (c d : Content) (lines : List (List ℕ)) → lines_taken Log limit n c lines ≡ progress m d AllTaken → AllByRecursion IsOperation lines × (taken_one_by_one limit c (operations_of lines) ≡ Ok d)
 log_lines limit n m c d [] h = (tt, ap Ok (ap (λ (t : Progress). t.content) h))
 log_lines limit n m c d (line ∷ lines) h =
     let w = goes_on Log limit n m c d line lines h in
@@ -269,11 +210,7 @@ are_taken form limit n m c d lines h =
 
 pub operations_of-append : (xs ys : List (List ℕ)) → AllByRecursion IsOperation xs → operations_of (xs ++ ys) ≡ operations_of xs ++ operations_of ys
 operations_of-append [] ys all = refl
-operations_of-append (x ∷ xs) ys all =
-    ap (λ r. then_operations r (operations_of (xs ++ ys))) (all.0).1
-    ∙ ap (λ (os : List Op). (all.0).0 ++ os) (operations_of-append xs ys all.1)
-    ∙ sym (append_assoc (all.0).0 (operations_of xs) (operations_of ys))
-    ∙ sym (ap (λ r. then_operations r (operations_of xs) ++ operations_of ys) (all.0).1)
+operations_of-append (x ∷ xs) ys all = grind (arith, append_assoc, operations_of-append xs ys all.1)
 
 -- ---- what was taken of a stream in parts
 
@@ -282,9 +219,7 @@ between limit c d follows = record { limit = limit; old = c; new = d; follows = 
 
 -- whatever bytes follow, what waits leads to what all bytes lead to
 pub takes_after : {form : Form} {took : Intake} {p q : Stage} → TakesUpTo form took p q → (more : List ℕ) → bytes_taken form took.limit p.lines took.old (p.waiting ++ more) ≡ bytes_taken form took.limit q.lines took.new (q.waiting ++ more)
-takes_after {form} {took} {p} {q} s more =
-    (λ k. with_rest (s.rest more k) (lines_taken form took.limit p.lines took.old (s.cut more k)))
-    ∙ ap (with_rest (rest_of (q.waiting ++ more))) (lines_taken-append form took.limit p.lines q.lines took.old took.new s.lines (lines_of (q.waiting ++ more)) s.taken)
+takes_after {form} {took} {p} {q} s more = grind (arith, took, lines_taken-append)
 
 -- no line, by a taker that holds the same
 abbrev pub up_to_nothing : {form : Form} {limit : ℕ} {c d : Content} {follows : List Op → Type 0} {n k j : ℕ} {bytes : List ℕ} → d ≡ c → follows [] → j ≡ k → TakesUpTo form (between limit c d follows) (stage n k bytes) (stage n j bytes)
@@ -367,15 +302,6 @@ module _ {form : Form} {limit own : ℕ} {c d : Content} {first : List Op → Ty
   fault_stops y fault.Read h = absurd h
   fault_stops y fault.Memory h = first_taken h
 
-module _ (form : Form) (took : Intake) (p : Stage) (n j : ℕ) (s : Splitting) where
-  pub fault_first : (e : LogFault) → TakesLines form took p n j s (Err e) → TakesFirst form took p n j
-  fault_first (fault.Line k x) h = h.0
-  fault_first (fault.Refused k x) h = h.0
-  fault_first fault.Read h = absurd h
-  fault_first fault.Memory h = h
-
-  pub fault_stands : (e : LogFault) → TakesLines form took p n j s (Err e) → (e ≡ fault.Memory → ⊥) → StopsAs form took p n (AtFault e)
-  fault_stands (fault.Line k x) h not_memory = h.1
-  fault_stands (fault.Refused k x) h not_memory = h.1
-  fault_stands fault.Read h not_memory = absurd h
-  fault_stands fault.Memory h not_memory = absurd (not_memory refl)
+-- at a fault the first of them were taken, and but for want of memory the stream stops there
+pub faulted : (form : Form) (took : Intake) (p : Stage) (n j : ℕ) (s : Splitting) (e : LogFault) → TakesLines form took p n j s (Err e) → TakesFirst form took p n j × ((e ≡ fault.Memory → ⊥) → StopsAs form took p n (AtFault e))
+faulted form took p n j s zp1 h = grind arith

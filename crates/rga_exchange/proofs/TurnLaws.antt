@@ -1,15 +1,12 @@
 -- Operation by operation come the compacted lines.
-use Rattle.std.proofs.Common.{◌≡◌, ℕ, ◌+◌, ◌<◌, ◌≤◌, Bool, true, false, cond, ◌&&◌, ◌||◌, ◌==◌, nat_le, nat_lt, List, [], ◌∷◌, ◌++◌, map, length, drop, get_or, Option, Ok, append_assoc, append-nil, refl, sym, ap, ◌∙◌, subst, T, le-leb, le-ltb, arith}
+use Rattle.std.proofs.Common.{◌≡◌, ℕ, ◌+◌, ◌<◌, ◌≤◌, Bool, true, false, cond, List, [], ◌∷◌, ◌++◌, map, length, drop, get_or, Option, Ok, append_assoc, append-nil, refl, sym, ap, ◌∙◌, subst, T, le-ltb, arith}
 use Rattle.std.specs.Prelude.{Contains}
 use Rattle.std.specs.List.{AllByRecursion}
-use Rattle.std.specs.Ordering.{nat_cmp, is_lt, ordering_then}
-use Rattle.std.specs.declared.cmp.Ordering.TheVariants.{Less, Equal, Greater}
+use Rattle.std.specs.Ordering.{is_lt}
 use Rattle.std.specs.FinMap as finite_map
 use Rattle.std.specs.FinSet as finite_set
 use Rattle.std.specs.FinMap.{FinMap, is_sorted}
 use Rattle.std.specs.FinMap.Entries.{below_all}
-use Rattle.std.proofs.Math.Bool.{or-false}
-use Rattle.std.proofs.lemmas.Bool.{eqb-true, ltb-true, ltb-false}
 use Rattle.std.proofs.lemmas.List.{drop_all, drop_more, length-append}
 use Rattle.std.proofs.lemmas.List.Concat.{flat_map-append}
 use Rattle.rga_ops.specs.Identifier.{Identifier, id_cmp}
@@ -20,33 +17,17 @@ use Rattle.rga_ops.specs.declared.op.Op.TheVariants.{Insert, Delete}
 use Rattle.rga_ops.specs.Operation.{checked}
 use Rattle.rga_ops.specs.ListAnswer.{AreWellFormed}
 use Rattle.rga_ops.proofs.OperationsLaws.{operations_hold}
-use Rattle.rga_ops.proofs.SortedLaws.{both_so}
 use Rattle.rga_exchange.specs.Counting.{Calls, WritesAllBut}
 use Rattle.rga_lines.specs.Stream.{newline, bytes_of_lines}
 use Rattle.rga_exchange.proofs.BegunLemmas.{begun_next}
+use Rattle.rga_exchange.proofs.FindingLaws.{later_above, later_sorted}
 use Rattle.rga_exchange.specs.RunLines.{stretch_line}
-use Rattle.rga_exchange.specs.Compacting.{is_in_some, beginnings, run_of, run_size, deletion_run_of, deletion_size, most_deletions, deletion_line, compact_lines}
+use Rattle.rga_exchange.specs.Compacting.{is_in_some, beginnings, run_of, run_size, deletion_run_of, deletion_size, deletion_runs, most_deletions, deletion_line, compact_lines}
 use Rattle.rga_exchange.specs.Turns.{covers, ends_with, ends_behind, deleted_behind, lines_at, lines_from}
 
 -- a larger identifier of the same replica has a larger counter
 pub larger_counter : (a b : Identifier) → T (is_lt (id_cmp a b)) → b.replica ≡ a.replica → a.counter < b.counter
-larger_counter a b h same = by_counter (nat_lt a.counter b.counter) refl h
-  where
-    not_below : (t : Bool) → nat_lt a.replica b.replica ≡ t → T (is_lt (cond t Less (cond (a.replica == b.replica) Equal Greater))) → a.counter < b.counter
-    not_below true is h = absurd (omega (arith, ltb-true a.replica b.replica is, same))
-    not_below false is h = by_replica (a.replica == b.replica) h
-      where
-        by_replica : (t : Bool) → T (is_lt (cond t Equal Greater)) → a.counter < b.counter
-        by_replica true h = absurd h
-        by_replica false h = absurd h
-
-    by_tie : (t : Bool) → T (is_lt (ordering_then (cond t Equal Greater) (nat_cmp a.replica b.replica))) → a.counter < b.counter
-    by_tie true h = not_below (nat_lt a.replica b.replica) refl h
-    by_tie false h = absurd h
-
-    by_counter : (t : Bool) → nat_lt a.counter b.counter ≡ t → T (is_lt (ordering_then (cond t Less (cond (a.counter == b.counter) Equal Greater)) (nat_cmp a.replica b.replica))) → a.counter < b.counter
-    by_counter true is h = ltb-true a.counter b.counter is
-    by_counter false is h = by_tie (a.counter == b.counter) h
+larger_counter a b h same = grind arith
 
 -- ---- those that begin a run
 
@@ -67,18 +48,7 @@ module _ {A : Type 0} (name : A → Identifier) (size : A → ℕ) where
   module _ (b : A) (begun : List A) (ends : ℕ → ℕ) (new : covers ends (name b) ≡ false) where
     -- what is behind one that begins a run is in this run, or as before
     matches : (id : Identifier) → T (is_lt (id_cmp (name b) id)) → is_in_some name size begun id ≡ covers ends id → is_in_some name size (b ∷ begun) id ≡ covers (ends_with ends (name b) (size b)) id
-    matches id behind before = by_replica (id.replica == (name b).replica) refl
-      where
-        by_replica : (t : Bool) → (id.replica == (name b).replica) ≡ t → ((t && (nat_le (name b).counter id.counter && nat_lt id.counter ((name b).counter + size b))) || is_in_some name size begun id) ≡ nat_lt id.counter (cond t ((name b).counter + size b) (ends id.replica))
-        by_replica true is =
-            let same : id.replica ≡ (name b).replica = eqb-true id.replica (name b).replica is in
-            let above : (name b).counter < id.counter = larger_counter (name b) id behind same in
-            let past : ends (name b).replica ≤ (name b).counter = ltb-false (name b).counter (ends (name b).replica) new in
-            let last : ends id.replica ≤ id.counter = subst (λ q. ends q ≤ id.counter) (sym same) (omega (arith, above, past)) in
-            let out : is_in_some name size begun id ≡ false = before ∙ le-ltb id.counter (ends id.replica) last in
-            let from : nat_le (name b).counter id.counter ≡ true = le-leb (name b).counter id.counter (omega (arith, above)) in
-            (λ k. (from k && nat_lt id.counter ((name b).counter + size b)) || out k) ∙ or-false (nat_lt id.counter ((name b).counter + size b))
-        by_replica false is = before
+    matches id behind before = grind arith
 
     matches_all : (xs : List A) → AreAbove name (name b) xs → Match begun ends xs → Match (b ∷ begun) (ends_with ends (name b) (size b)) xs
     matches_all [] above h = tt
@@ -88,17 +58,34 @@ module _ {A : Type 0} (name : A → Identifier) (size : A → ℕ) where
   none_matches [] = tt
   none_matches (x ∷ xs) = (sym (le-ltb (name x).counter 0 (omega arith)), none_matches xs)
 
+  -- in turn, those that no run covers are spelled: these begin the runs
+  module _ {R : Type 0} (make : A → R) (spell : R → List ℕ) where
+    abbrev turned : (ℕ → ℕ) → List A → List (List ℕ)
+    turned ends [] = []
+    turned ends (x ∷ xs) = cond (covers ends (name x)) [] (spell (make x) ∷ []) ++ turned (cond (covers ends (name x)) ends (ends_with ends (name x) (size x))) xs
+
+    turned_is : (begun : List A) (ends : ℕ → ℕ) (xs : List A) → Rise name xs → Match begun ends xs → turned ends xs ≡ map spell (map make (beginnings name size begun xs))
+    turned_is begun ends [] rise h = refl
+    turned_is begun ends (x ∷ xs) rise h =
+        by_choice (covers ends (name x)) refl (turned_is begun ends xs rise.1 h.1) (λ new. turned_is (x ∷ begun) (ends_with ends (name x) (size x)) xs rise.1 (matches_all x begun ends new xs rise.0 h.1))
+        ∙ ap (λ b. map spell (map make (cond b (beginnings name size begun xs) (x ∷ beginnings name size (x ∷ begun) xs)))) (sym h.0)
+      where
+        by_choice : (b : Bool) → covers ends (name x) ≡ b → turned ends xs ≡ map spell (map make (beginnings name size begun xs)) → (covers ends (name x) ≡ false → turned (ends_with ends (name x) (size x)) xs ≡ map spell (map make (beginnings name size (x ∷ begun) xs)))
+            → cond b [] (spell (make x) ∷ []) ++ turned (cond b ends (ends_with ends (name x) (size x))) xs ≡ map spell (map make (cond b (beginnings name size begun xs) (x ∷ beginnings name size (x ∷ begun) xs)))
+        by_choice true is with_it without = with_it
+        by_choice false is with_it without = ap (λ (ls : List (List ℕ)). spell (make x) ∷ ls) (without is)
+
 module _ {B : Type 0} where
   abbrev key : Identifier × B → Identifier
   key e = e.0
 
   above_key : (id : Identifier) (es : List (Identifier × B)) → T (below_all id_cmp id es) → AreAbove key id es
   above_key id [] h = tt
-  above_key id (e ∷ es) h = let s : T (is_lt (id_cmp id e.0)) × T (below_all id_cmp id es) = both_so (is_lt (id_cmp id e.0)) (below_all id_cmp id es) h in (s.0, above_key id es s.1)
+  above_key id (e ∷ es) h = ((later_above id e es h).0, above_key id es (later_above id e es h).1)
 
   pub entries_rise : (es : List (Identifier × B)) → T (is_sorted id_cmp es) → Rise key es
   entries_rise [] h = tt
-  entries_rise (e ∷ es) h = let s : T (below_all id_cmp e.0 es) × T (is_sorted id_cmp es) = both_so (below_all id_cmp e.0 es) (is_sorted id_cmp es) h in (above_key e.0 es s.0, entries_rise es s.1)
+  entries_rise (e ∷ es) h = (above_key e.0 es (later_sorted e es h).0, entries_rise es (later_sorted e es h).1)
 
   keys_above : (id : Identifier) (es : List (Identifier × B)) → AreAbove key id es → AreAbove (λ (i : Identifier). i) id (map key es)
   keys_above id [] h = tt
@@ -116,69 +103,41 @@ rising_rise ids =
 
 -- ---- the lines in turn
 
+abbrev itself : Identifier → Identifier
+itself id = id
+
 module _ (c : Content) (most : ℕ) where
-  deletions_in_turn : (ends : ℕ → ℕ) (begun : List Identifier) (deleted : ℕ → ℕ) (ids : List Identifier) → Rise (λ (i : Identifier). i) ids → Match (λ (i : Identifier). i) (deletion_size c most) begun deleted ids
-      → lines_from c most ends deleted (map Delete ids) ≡ map deletion_line (map (deletion_run_of c most) (beginnings (λ (i : Identifier). i) (deletion_size c most) begun ids))
-  deletions_in_turn ends begun deleted [] rise h = refl
-  deletions_in_turn ends begun deleted (id ∷ ids) rise h =
-      by_choice (covers deleted id) refl (is_in_some (λ (i : Identifier). i) (deletion_size c most) begun id) h.0
-      (deletions_in_turn ends begun deleted ids rise.1 h.1)
-      (λ new. deletions_in_turn ends (id ∷ begun) (ends_with deleted id (deletion_size c most id)) ids rise.1 (matches_all (λ (i : Identifier). i) (deletion_size c most) id begun deleted new ids rise.0 h.1))
-    where
-      written : List Identifier → List (List ℕ)
-      written bs = map deletion_line (map (deletion_run_of c most) bs)
+  deletions_turned : (ends deleted : ℕ → ℕ) (ids : List Identifier) → lines_from c most ends deleted (map Delete ids) ≡ turned itself (deletion_size c most) (deletion_run_of c most) deletion_line deleted ids
+  deletions_turned ends deleted [] = refl
+  deletions_turned ends deleted (id ∷ ids) = ap (λ (ls : List (List ℕ)). lines_at c most ends deleted (Delete id) ++ ls) (deletions_turned ends (deleted_behind c most deleted (Delete id)) ids)
 
-      by_choice : (b : Bool) → covers deleted id ≡ b → (t : Bool) → t ≡ covers deleted id
-          → lines_from c most ends deleted (map Delete ids) ≡ map deletion_line (map (deletion_run_of c most) (beginnings (λ (i : Identifier). i) (deletion_size c most) begun ids))
-          → (covers deleted id ≡ false → lines_from c most ends (ends_with deleted id (deletion_size c most id)) (map Delete ids) ≡ map deletion_line (map (deletion_run_of c most) (beginnings (λ (i : Identifier). i) (deletion_size c most) (id ∷ begun) ids)))
-          → cond b [] (deletion_line (deletion_run_of c most id) ∷ []) ++ lines_from c most ends (cond b deleted (ends_with deleted id (deletion_size c most id))) (map Delete ids)
-          ≡ map deletion_line (map (deletion_run_of c most) (cond t (beginnings (λ (i : Identifier). i) (deletion_size c most) begun ids) (id ∷ beginnings (λ (i : Identifier). i) (deletion_size c most) (id ∷ begun) ids)))
-      by_choice true is true same with_it without = with_it
-      by_choice true is false same with_it without = absurd (let clash : false ≡ true = same ∙ is in cc)
-      by_choice false is true same with_it without = absurd (let clash : true ≡ false = same ∙ is in cc)
-      by_choice false is false same with_it without = ap (λ (ls : List (List ℕ)). deletion_line (deletion_run_of c most id) ∷ ls) (without is)
-
-  in_turn : (begun : List (Identifier × Element)) (ends deleted : ℕ → ℕ) (es : List (Identifier × Element)) (ids : List Identifier) (more : List (List ℕ)) → ((f : ℕ → ℕ) → lines_from c most f deleted (map Delete ids) ≡ more) → Rise key es → Match key (run_size c) begun ends es
-      → lines_from c most ends deleted (map insertion_of es ++ map Delete ids) ≡ map stretch_line (map (run_of c) (beginnings key (run_size c) begun es)) ++ more
-  in_turn begun ends deleted [] ids more last rise h = last ends
-  in_turn begun ends deleted (e ∷ es) ids more last rise h =
-      by_choice (covers ends e.0) refl (is_in_some key (run_size c) begun e.0) h.0
-      (in_turn begun ends deleted es ids more last rise.1 h.1)
-      (λ new. in_turn (e ∷ begun) (ends_with ends e.0 (run_size c e)) deleted es ids more last rise.1 (matches_all key (run_size c) e begun ends new es rise.0 h.1))
-    where
-      later : List Op
-      later = map insertion_of es ++ map Delete ids
-
-      by_choice : (b : Bool) → covers ends e.0 ≡ b → (t : Bool) → t ≡ covers ends e.0
-          → lines_from c most ends deleted later ≡ map stretch_line (map (run_of c) (beginnings key (run_size c) begun es)) ++ more
-          → (covers ends e.0 ≡ false → lines_from c most (ends_with ends e.0 (run_size c e)) deleted later ≡ map stretch_line (map (run_of c) (beginnings key (run_size c) (e ∷ begun) es)) ++ more)
-          → cond b [] (stretch_line (run_of c e) ∷ []) ++ lines_from c most (cond b ends (ends_with ends e.0 (run_size c e))) deleted later
-          ≡ map stretch_line (map (run_of c) (cond t (beginnings key (run_size c) begun es) (e ∷ beginnings key (run_size c) (e ∷ begun) es))) ++ more
-      by_choice true is true same with_it without = with_it
-      by_choice true is false same with_it without = absurd (let clash : false ≡ true = same ∙ is in cc)
-      by_choice false is true same with_it without = absurd (let clash : true ≡ false = same ∙ is in cc)
-      by_choice false is false same with_it without = ap (λ (ls : List (List ℕ)). stretch_line (run_of c e) ∷ ls) (without is)
+  insertions_turned : (ends deleted : ℕ → ℕ) (es : List (Identifier × Element)) (ops : List Op) (more : List (List ℕ)) → ((f : ℕ → ℕ) → lines_from c most f deleted ops ≡ more) → lines_from c most ends deleted (map insertion_of es ++ ops) ≡ turned key (run_size c) (run_of c) stretch_line ends es ++ more
+  insertions_turned ends deleted [] ops more last = last ends
+  insertions_turned ends deleted (e ∷ es) ops more last =
+      let next = ends_behind c ends (insertion_of e) in
+      ap (λ (ls : List (List ℕ)). lines_at c most ends deleted (insertion_of e) ++ ls) (insertions_turned next deleted es ops more last)
+      ∙ sym (append_assoc (lines_at c most ends deleted (insertion_of e)) (turned key (run_size c) (run_of c) stretch_line next es) more)
 
 -- where no run is noted yet
 pub all_in_turn : (c : Content) (dels : Bool) (ends deleted : ℕ → ℕ) → ((replica : ℕ) → ends replica ≡ 0) → ((replica : ℕ) → deleted replica ≡ 0) → lines_from c (most_deletions dels) ends deleted (operations c) ≡ compact_lines dels c
 all_in_turn c dels ends deleted none none_deleted =
     let most = most_deletions dels in
     let ids = rising (finite_set.items c.deleted) in
+    let es = finite_map.entries c.inserted in
+    let deletions = map deletion_line (deletion_runs c most) in
     (λ k. lines_from c most (λ replica. none replica k) (λ replica. none_deleted replica k) (operations c))
-    ∙ in_turn c most [] (λ _. 0) (λ _. 0) (finite_map.entries c.inserted) ids _ (λ f. deletions_in_turn c most f [] (λ _. 0) ids (rising_rise (finite_set.items c.deleted)) (none_matches (λ (i : Identifier). i) (deletion_size c most) ids))
-    (entries_rise (finite_map.entries c.inserted) (finite_map.entries_sorted c.inserted)) (none_matches key (run_size c) (finite_map.entries c.inserted))
+    ∙ insertions_turned c most (λ _. 0) (λ _. 0) es (map Delete ids) deletions (λ f. deletions_turned c most f (λ _. 0) ids
+    ∙ turned_is itself (deletion_size c most) (deletion_run_of c most) deletion_line [] (λ _. 0) ids (rising_rise (finite_set.items c.deleted)) (none_matches itself (deletion_size c most) ids))
+    ∙ ap (λ (ls : List (List ℕ)). ls ++ deletions) (turned_is key (run_size c) (run_of c) stretch_line [] (λ _. 0) es (entries_rise es (finite_map.entries_sorted c.inserted)) (none_matches key (run_size c) es))
 
 -- one line at most comes for an operation
-pub one_at_most : (c : Content) (most : ℕ) (ends deleted : ℕ → ℕ) (op : Op) → length (lines_at c most ends deleted op) ≤ 1
-one_at_most c most ends deleted op = by_op op
-  where
-    by_choice : (l : List ℕ) (b : Bool) → length (cond b [] (l ∷ [])) ≤ 1
-    by_choice l true = omega arith
-    by_choice l false = omega arith
+at_most_one : (l : List ℕ) (b : Bool) → length (cond b [] (l ∷ [])) ≤ 1
+at_most_one l true = omega arith
+at_most_one l false = omega arith
 
-    by_op : (op : Op) → length (lines_at c most ends deleted op) ≤ 1
-    by_op (Insert id parent ch) = by_choice (stretch_line (run_of c (id, element parent ch))) (covers ends id)
-    by_op (Delete id) = by_choice (deletion_line (deletion_run_of c most id)) (covers deleted id)
+pub one_at_most : (c : Content) (most : ℕ) (ends deleted : ℕ → ℕ) (op : Op) → length (lines_at c most ends deleted op) ≤ 1
+one_at_most c most ends deleted (Insert id parent ch) = at_most_one (stretch_line (run_of c (id, element parent ch))) (covers ends id)
+one_at_most c most ends deleted (Delete id) = at_most_one (deletion_line (deletion_run_of c most id)) (covers deleted id)
 
 -- ---- from an operation on
 
@@ -189,10 +148,7 @@ pub record Leaves (c : Content) (most : ℕ) (ends next deleted later : ℕ → 
 
 pub lines_next : (c : Content) (most : ℕ) (ends next deleted later : ℕ → ℕ) (ops : List Op) (i : ℕ) (op : Op) → i < length ops → op ≡ get_or ops i op → Leaves c most ends next deleted later op
     → lines_from c most ends deleted (drop i ops) ≡ lines_at c most ends deleted op ++ lines_from c most next later (drop (i + 1) ops)
-lines_next c most ends next deleted later ops i op within at behind =
-    ap (λ (os : List Op). lines_from c most ends deleted os) (drop_more ops i op within)
-    ∙ ap (λ (o : Op). lines_at c most ends deleted o ++ lines_from c most (ends_behind c ends o) (deleted_behind c most deleted o) (drop (i + 1) ops)) (sym at)
-    ∙ (λ k. lines_at c most ends deleted op ++ lines_from c most (λ replica. sym (behind.next_is replica) k) (λ replica. sym (behind.later_is replica) k) (drop (i + 1) ops))
+lines_next c most ends next deleted later ops i op within at behind = grind (arith, drop_more)
 
 module _ {W : Type 0} (contents : W → Option (List ℕ)) where
   -- the lines that come for the next operation were added to the block
@@ -223,9 +179,7 @@ fewer_left c most ends next deleted later ops i op lines number all within at be
     omega (arith, both, count, h)
 
 pub none_left : (c : Content) (most : ℕ) (ends deleted : ℕ → ℕ) (ops : List Op) (i lines all : ℕ) → length ops ≤ i → lines + length (lines_from c most ends deleted (drop i ops)) ≡ all → lines ≡ all
-none_left c most ends deleted ops i lines all past h =
-    let only : length (lines_from c most ends deleted (drop i ops)) ≡ 0 = ap (λ (os : List Op). length (lines_from c most ends deleted os)) (drop_all i ops past) in
-    omega (arith, only, h)
+none_left c most ends deleted ops i lines all past h = grind (arith, drop_all)
 
 -- what stands in a sound content is well-formed
 pub operation_well_formed : (c : Content) (ops : List Op) (i : ℕ) (op : Op) → IsSound c → ops ≡ operations c → i < length ops → op ≡ get_or ops i op → checked op ≡ Ok tt

@@ -8,14 +8,14 @@ ghost use Rattle.rga_ops.specs.declared.op.Op.TheVariants.{Insert, Delete};
 ghost use Rattle.rga_exchange.specs.Counting.{CountsAs, Writes, WritesFront, WritesAllBut};
 ghost use Rattle.rga_lines.specs.declared.run.TheConstants.{MAX_RUN};
 ghost use Rattle.rga_lines.specs.Runs.{IsRun, next};
-ghost use Rattle.rga_lines.specs.Spelling.{IsWritable};
 ghost use Rattle.rga_lines.specs.Stream.{bytes_of_lines, rest_of};
-ghost use Rattle.rga_exchange.specs.Sending.{AreWritable, StandsFor};
+ghost use Rattle.rga_exchange.specs.Sending.{StandsFor};
 ghost use Rattle.rga_exchange.specs.Compacting.{compact_lines, compact_text, next_character, run_of};
 ghost use Rattle.rga_exchange.specs.Compacting.{is_next_deleted, most_deletions, deletion_size, deletion_line};
 ghost use Rattle.rga_exchange.specs.Turns.{ends_behind, deleted_behind, lines_at};
 
 use crate::finding::{element_in, is_deleted_in};
+use crate::runs::may_be_written;
 use crate::{Block, Counted, SendFault, shortest_line};
 use rga_lines::{DeletionRun, LineFault, MAX_RUN, Run, write_deletion_run, write_line};
 use rga_ops::{Id, Op};
@@ -80,6 +80,7 @@ pub fn compact_ops<W: Write>(
     ensures flushed { OnOk result (writer.new.flushed ≡ true) }
     ensures device { CountsAs SendFault.Write result writer.old writer.new }
 {
+    may_be_written(ops);
     let mut block = Block::new(alloc)?;
     let lines = push_compacted(alloc, ops, dels, &mut block, writer)?;
     block.finish(writer)?;
@@ -100,7 +101,6 @@ fn push_compacted<W: Write>(
     ensures number { IfOk result (λ n. n ≡ length (compact_lines dels (content_of ops.now))) }
     ensures ok { OnOk result (WritesAllBut W.contents writer.old writer.new
         (block.old ++ compact_text dels (content_of ops.now)) block.new) }
-    ensures writable { OnOk result (AreWritable ops.now) }
     ensures begun { WritesFront W.contents writer.old writer.new
         (block.old ++ compact_text dels (content_of ops.now)) }
     ensures device { CountsAs SendFault.Write result writer.old writer.new }
@@ -159,7 +159,6 @@ fn push_operation<W: Write>(
         ≡ ends_behind (content_of ops.now) (slice_index ends.old) op.now replica) }
     ensures deleted { OnOk result ((replica : ℕ) → slice_index deleted.new replica
         ≡ deleted_behind (content_of ops.now) most (slice_index deleted.old) op.now replica) }
-    ensures writable { OnOk result (IsWritable op.now) }
     ensures begun { WritesFront W.contents writer.old writer.new block.old }
     ensures device { CountsAs SendFault.Write result writer.old writer.new }
 {
@@ -192,7 +191,6 @@ fn next_line(
         ≡ ends_behind (content_of ops.now) (slice_index ends.old) op.now replica) }
     ensures deleted { OnOk result ((replica : ℕ) → slice_index deleted.new replica
         ≡ deleted_behind (content_of ops.now) most (slice_index deleted.old) op.now replica) }
-    ensures writable { OnOk result (IsWritable op.now) }
     ensures memory { IfErr result (λ e. e ≡ SendFault.Memory) }
 {
     match op {
@@ -220,7 +218,6 @@ fn deletion_run_line(
         (Delete id)) }
     ensures deleted { OnOk result ((replica : ℕ) → slice_index deleted.new replica
         ≡ deleted_behind (content_of ops.now) most (slice_index deleted.old) (Delete id) replica) }
-    ensures writable { OnOk result (IsWritable (Delete id)) }
     ensures memory { IfErr result (λ e. e ≡ SendFault.Memory) }
 {
     // What an identifier may be is told with its counter.
@@ -303,7 +300,6 @@ fn run_line(
         (Insert id parent ch)) }
     ensures ends { OnOk result ((replica : ℕ) → slice_index ends.new replica
         ≡ ends_behind (content_of ops.now) (slice_index ends.old) (Insert id parent ch) replica) }
-    ensures writable { OnOk result (IsWritable (Insert id parent ch)) }
     ensures memory { IfErr result (λ e. e ≡ SendFault.Memory) }
 {
     let rises = parent.counter() < id.counter();

@@ -51,7 +51,7 @@ pub fn append_runs<W: Write>(
 }
 
 /// What each operation has is within the ranges of its types.
-fn may_be_written(ops: &[Op])
+pub(crate) fn may_be_written(ops: &[Op])
     ensures { AreWellFormed ops.now → AreWritable ops.now }
 {
     for op in ops {
@@ -59,28 +59,19 @@ fn may_be_written(ops: &[Op])
     }
 }
 
+#[tactic(auto, using(rga_lines::proofs::WritableLemmas::insertion_writable, rga_lines::proofs::WritableLemmas::deletion_writable))]
 fn one_may_be_written(op: &Op)
     ensures { checked op.now ≡ Ok tt → IsWritable op.now }
 {
-    match op {
-        Op::Insert { id, parent, ch } => insertion_may_be_written(*id, *parent, *ch),
-        Op::Delete { id } => deletion_may_be_written(*id),
-    }
-}
-
-#[tactic(auto, using(rga_lines::proofs::WritableLemmas::insertion_writable))]
-fn insertion_may_be_written(id: Id, parent: Id, ch: char)
-    ensures { checked (Insert id parent ch) ≡ Ok tt → IsWritable (Insert id parent ch) }
-{
     // What an identifier may be is told with its counter.
-    let _counters = (id.counter(), parent.counter(), ch);
-}
-
-#[tactic(auto, using(rga_lines::proofs::WritableLemmas::deletion_writable))]
-fn deletion_may_be_written(id: Id)
-    ensures { checked (Delete id) ≡ Ok tt → IsWritable (Delete id) }
-{
-    let _counter = id.counter();
+    match op {
+        Op::Insert { id, parent, ch } => {
+            let _counters = (id.counter(), parent.counter(), *ch);
+        }
+        Op::Delete { id } => {
+            let _counter = id.counter();
+        }
+    }
 }
 
 /// Adds the lines of the operations to the block, which is written whenever it is full.
@@ -216,18 +207,8 @@ fn next_in_list(last: Id, op: &Op) -> Option<(Id, char)>
     ensures { result ≡ going_behind last op.now }
 {
     match op {
-        Op::Insert { id, parent, ch } => next_insertion(last, *id, *parent, *ch),
-        Op::Delete { .. } => None,
-    }
-}
-
-fn next_insertion(last: Id, id: Id, parent: Id, ch: char) -> Option<(Id, char)>
-    ensures { result ≡ going_behind last (Insert id parent ch) }
-{
-    if is_next(id, last) && parent == last {
-        Some((id, ch))
-    } else {
-        None
+        Op::Insert { id, parent, ch } if is_next(*id, last) && *parent == last => Some((*id, *ch)),
+        _ => None,
     }
 }
 

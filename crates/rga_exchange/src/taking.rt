@@ -3,7 +3,6 @@ ghost use Rattle.std.specs.Prelude.{◌≡◌, ◌≢◌, ◌+◌, ◌*◌, ◌^
 ghost use Rattle.rga_ops.specs.Prelude.{taken};
 ghost use Rattle.rga_exchange.specs.Counting.{CountsAs, OnBytes};
 ghost use Rattle.rga_lines.specs.Log.{operations_of};
-ghost use Rattle.rga_lines.specs.Runs.{stretch_operations, run_deletions, IsRun, IsDeletionRun};
 ghost use Rattle.rga_lines.specs.Table.{any_line_at};
 ghost use Rattle.rga_exchange.specs.DeletionRuns.{is_deletion_run, has_deletion_runs};
 ghost use Rattle.rga_exchange.specs.Taking.{AtFault, refused_at, taken_whole};
@@ -15,9 +14,7 @@ ghost use Rattle.rga_exchange.specs.declared.fault.LogFault.TheVariants.{Memory,
 use crate::Counted;
 use crate::block::BLOCK;
 use crate::fault::LogFault;
-use rga_lines::{
-    DeletionRun, Line, LineFault, Run, Splitter, read_any, read_deletion, read_insertions,
-};
+use rga_lines::{Line, LineFault, Splitter, read_any, read_deletion, read_insertions};
 use rga_ops::{Op, Refusal};
 use rga_store::Taker;
 use std::alloc::Global;
@@ -226,10 +223,18 @@ pub(crate) fn take_other<T: Taker>(
 {
     match read_any(alloc, line) {
         Ok(Line::One(op)) => take(taker, number, op),
-        Ok(Line::Run(run)) => take_run(alloc, taker, number, &run),
+        Ok(Line::Run(run)) => {
+            let Ok(ops) = run.ops(alloc) else {
+                return Err(LogFault::Memory);
+            };
+            take_all(taker, number, &ops)
+        }
         Ok(Line::Deletions(run)) => {
             *deletion_runs = true;
-            take_deletions(alloc, taker, number, &run)
+            let Ok(ops) = run.ops(alloc) else {
+                return Err(LogFault::Memory);
+            };
+            take_all(taker, number, &ops)
         }
         Ok(Line::Head) => pass_head(form, number),
         Ok(Line::Last(count)) => Ok(LineTaken::EndLine(count)),
@@ -259,44 +264,6 @@ pub(crate) fn take<T: Taker>(taker: &mut T, number: u64, op: Op) -> Result<LineT
         Err(Refusal::Memory) => Err(LogFault::Memory),
         Err(refusal) => Err(LogFault::Refused(number, refusal)),
     }
-}
-
-/// Takes the insertions of the run of the line with this number, all or none.
-fn take_run<T: Taker>(
-    alloc: Global,
-    taker: &mut T,
-    number: u64,
-    run: &Run,
-) -> Result<LineTaken, LogFault>
-    requires { IsRun run.now }
-    ensures taken { TakesAs (intake T.limit T.content T.follows taker.old taker.new)
-        (refused_at number (taken_whole (T.limit taker.old) (T.content taker.old)
-        (stretch_operations run.now))) (stretch_operations run.now) result }
-    ensures limit { T.limit taker.new ≡ T.limit taker.old }
-{
-    let Ok(ops) = run.ops(alloc) else {
-        return Err(LogFault::Memory);
-    };
-    take_all(taker, number, &ops)
-}
-
-/// Takes the deletions of the run of the line with this number, all or none.
-fn take_deletions<T: Taker>(
-    alloc: Global,
-    taker: &mut T,
-    number: u64,
-    run: &DeletionRun,
-) -> Result<LineTaken, LogFault>
-    requires { IsDeletionRun run.now }
-    ensures taken { TakesAs (intake T.limit T.content T.follows taker.old taker.new)
-        (refused_at number (taken_whole (T.limit taker.old) (T.content taker.old)
-        (run_deletions run.now))) (run_deletions run.now) result }
-    ensures limit { T.limit taker.new ≡ T.limit taker.old }
-{
-    let Ok(ops) = run.ops(alloc) else {
-        return Err(LogFault::Memory);
-    };
-    take_all(taker, number, &ops)
 }
 
 /// Takes the operations that the line with this number stands for, all or none.

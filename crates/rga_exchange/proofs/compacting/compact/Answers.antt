@@ -1,45 +1,25 @@
-use Rattle.std.proofs.Common.{◌≡◌, ◌∙◌, [], length, sym, ap, subst}
-use Rattle.std.specs.Prelude.{IfOk, OnOk}
-use Rattle.rga_ops.specs.Content.{IsSound}
+use Rattle.std.proofs.Common.{◌∙◌, sym, ap}
 use Rattle.rga_ops.specs.Operations.{operations}
-use Rattle.rga_exchange.specs.Counting.{Writes, WritesFront}
-use Rattle.rga_lines.specs.Stream.{rest_of}
-use Rattle.rga_exchange.specs.Sending.{StandsFor}
-use Rattle.rga_exchange.specs.Compacting.{compact_lines, compact_text}
 use Rattle.rga_exchange.proofs.FindingLaws.{content_of_listed}
 use Rattle.rga_exchange.proofs.compacting.compact.Goals as goal
 
 pub compact_ops-requires-clause-all : goal.compact_ops-requires-clause-all
-compact_ops-requires-clause-all g c =
-    let are = c.deref.ensures.value ∙ c.in-Ok.ensures.ok in
-    are ∙ ap operations (sym (content_of_listed (g.S.Taker.content c.args.store.now) c.deref.result.now are))
+compact_ops-requires-clause-all g c = (c.deref.ensures.value ∙ c.in-Ok.ensures.ok) ∙ ap operations (sym (content_of_listed (g.S.Taker.content c.args.store.now) c.deref.result.now (c.deref.ensures.value ∙ c.in-Ok.ensures.ok)))
 
 pub compact_ops-requires-clause-sound : goal.compact_ops-requires-clause-sound
-compact_ops-requires-clause-sound g c =
-    let are = c.deref.ensures.value ∙ c.in-Ok.ensures.ok in
-    subst IsSound (sym (content_of_listed (g.S.Taker.content c.args.store.now) c.deref.result.now are)) c.known-known.ensures.sound
+compact_ops-requires-clause-sound g c = rw (content_of_listed (g.S.Taker.content c.args.store.now) c.deref.result.now (c.deref.ensures.value ∙ c.in-Ok.ensures.ok)) c.known-known.ensures.sound
 
 pub returns-clause-number : goal.returns-clause-number
-returns-clause-number g c =
-    let own = content_of_listed (g.S.Taker.content c.args.store.now) c.deref.result.now (c.deref.ensures.value ∙ c.in-Ok.ensures.ok) in
-    subst (λ d. IfOk c.compact_ops.result (λ n. n ≡ length (compact_lines c.args.dels d))) own c.compact_ops.ensures.number
+returns-clause-number g c = rw (← content_of_listed (g.S.Taker.content c.args.store.now) c.deref.result.now (c.deref.ensures.value ∙ c.in-Ok.ensures.ok)) c.compact_ops.ensures.number
 
 pub returns-clause-written : goal.returns-clause-written
-returns-clause-written g c =
-    let own = content_of_listed (g.S.Taker.content c.args.store.now) c.deref.result.now (c.deref.ensures.value ∙ c.in-Ok.ensures.ok) in
-    subst (λ d. OnOk c.compact_ops.result (Writes g.W.Write.contents c.args.writer.now c.compact_ops.new.writer (compact_text c.args.dels d))) own c.compact_ops.ensures.written
+returns-clause-written g c = rw (← content_of_listed (g.S.Taker.content c.args.store.now) c.deref.result.now (c.deref.ensures.value ∙ c.in-Ok.ensures.ok)) c.compact_ops.ensures.written
 
 pub returns-clause-stands : goal.returns-clause-stands
-returns-clause-stands g c =
-    let own = content_of_listed (g.S.Taker.content c.args.store.now) c.deref.result.now (c.deref.ensures.value ∙ c.in-Ok.ensures.ok) in
-    subst (λ d. OnOk c.compact_ops.result (StandsFor (compact_text c.args.dels d) d)) own c.compact_ops.ensures.stands
+returns-clause-stands g c = rw (← content_of_listed (g.S.Taker.content c.args.store.now) c.deref.result.now (c.deref.ensures.value ∙ c.in-Ok.ensures.ok)) c.compact_ops.ensures.stands
 
 pub returns-clause-ended : goal.returns-clause-ended
-returns-clause-ended g c =
-    let own = content_of_listed (g.S.Taker.content c.args.store.now) c.deref.result.now (c.deref.ensures.value ∙ c.in-Ok.ensures.ok) in
-    subst (λ d. OnOk c.compact_ops.result (rest_of (compact_text c.args.dels d) ≡ [])) own c.compact_ops.ensures.ended
+returns-clause-ended g c = rw (← content_of_listed (g.S.Taker.content c.args.store.now) c.deref.result.now (c.deref.ensures.value ∙ c.in-Ok.ensures.ok)) c.compact_ops.ensures.ended
 
 pub returns-clause-begun : goal.returns-clause-begun
-returns-clause-begun g c =
-    let own = content_of_listed (g.S.Taker.content c.args.store.now) c.deref.result.now (c.deref.ensures.value ∙ c.in-Ok.ensures.ok) in
-    subst (λ d. WritesFront g.W.Write.contents c.args.writer.now c.compact_ops.new.writer (compact_text c.args.dels d)) own c.compact_ops.ensures.begun
+returns-clause-begun g c = rw (← content_of_listed (g.S.Taker.content c.args.store.now) c.deref.result.now (c.deref.ensures.value ∙ c.in-Ok.ensures.ok)) c.compact_ops.ensures.begun

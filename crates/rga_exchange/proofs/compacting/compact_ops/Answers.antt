@@ -5,6 +5,7 @@ use Rattle.rga_exchange.specs.Sending.{AreWritable}
 use Rattle.rga_exchange.proofs.BegunLemmas.{begun_left, begun_whole}
 use Rattle.rga_exchange.proofs.LogTextLemmas.{log_begun}
 use Rattle.rga_exchange.proofs.CompactLaws.{compact_stands}
+use Rattle.rga_exchange.proofs.TurnLaws.{operations_well_formed}
 use Rattle.rga_exchange.proofs.compacting.compact_ops.Goals as goal
 
 pub returns-in_err-finish-clause-begun : goal.returns-in_err-finish-clause-begun
@@ -13,7 +14,7 @@ returns-in_err-finish-clause-begun g c =
 
 -- each operation of the content can be written
 writable : (g : _) (c : goal.In_ok-finish g) → AreWritable (operations (content_of c.args.ops.now))
-writable g c = subst AreWritable c.requires.all c.in_ok-lines.ensures.writable
+writable g c = subst AreWritable c.requires.all (c.may_be_written.ensures (operations_well_formed (content_of c.args.ops.now) c.args.ops.now c.requires.sound c.requires.all))
 
 pub returns-clause-stands : goal.returns-clause-stands
 returns-clause-stands g c = (compact_stands (content_of c.args.ops.now) c.requires.sound (writable g c) c.args.dels).0

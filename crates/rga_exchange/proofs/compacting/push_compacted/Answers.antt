@@ -7,10 +7,9 @@ use Rattle.rga_exchange.specs.Counting.{WritesAllBut}
 use Rattle.rga_lines.specs.Stream.{bytes_of_lines}
 use Rattle.rga_exchange.proofs.WrittenLemmas.{begun_start}
 use Rattle.rga_exchange.proofs.BegunLemmas.{begun_part}
-use Rattle.rga_exchange.proofs.WritableLaws.{writable_next, writable_all}
 use Rattle.rga_exchange.specs.Turns.{lines_from}
 use Rattle.rga_exchange.specs.Compacting.{compact_lines, compact_text}
-use Rattle.rga_exchange.proofs.TurnLaws.{all_in_turn, one_at_most, Leaves, begun_turn, begun_last, fewer_left, none_left, operation_well_formed, operations_well_formed}
+use Rattle.rga_exchange.proofs.TurnLaws.{all_in_turn, one_at_most, Leaves, begun_turn, begun_last, fewer_left, none_left, operation_well_formed}
 use Rattle.rga_exchange.proofs.compacting.push_compacted.Goals as goal
 
 pub loop-index-init : goal.loop-index-init
@@ -27,7 +26,6 @@ loop-index-init g c =
           (begun_start g.W.Write.contents c.args.writer.now (c.args.block.now ++ compact_text c.args.dels content));
       number = omega (arith, ap length turns);
       few = omega arith;
-      writable = λ j op below. absurd (omega (arith, below));
       unfailed = refl;
     }
 
@@ -48,15 +46,11 @@ loop-index-preserved g c =
       begun = begun_turn _ _ _ _ _ _ _ content most ends (slice_index c.push_operation.new.ends) deleted (slice_index c.push_operation.new.deleted) c.args.ops.now c.loop-index.index op c.loop-index-test.true c.index-ops-index.is leaves c.loop-index.invariant.begun c.in_ok-lines.ensures.ok;
       number = fewer_left content most ends (slice_index c.push_operation.new.ends) deleted (slice_index c.push_operation.new.deleted) c.args.ops.now c.loop-index.index op c.loop-index.lines c.in_ok-lines.field-0 _ c.loop-index-test.true c.index-ops-index.is leaves c.in_ok-lines.ensures.number c.loop-index.invariant.number;
       few = omega (arith, one, c.in_ok-lines.ensures.number, c.loop-index.invariant.few);
-      writable = writable_next c.args.ops.now c.loop-index.index op c.loop-index-test.true c.index-ops-index.is c.loop-index.invariant.writable (λ _. c.in_ok-lines.ensures.writable);
       unfailed = c.in_ok-lines.ensures.device.unfailed (λ e. true≢false (ap is_ok e)) ∙ c.loop-index.invariant.unfailed;
     }
 
 pub returns-in_err-lines-clause-begun : goal.returns-in_err-lines-clause-begun
 returns-in_err-lines-clause-begun g c = begun_part _ _ _ _ _ _ _ c.loop-index.invariant.begun c.in_err-lines.ensures.begun
-
-pub returns-clause-writable : goal.returns-clause-writable
-returns-clause-writable g c = writable_all c.args.ops.now c.loop-index.index (omega arith) c.loop-index.invariant.writable (operations_well_formed (content_of c.args.ops.now) c.args.ops.now c.requires.sound c.requires.all)
 
 pub returns-clause-ok : goal.returns-clause-ok
 returns-clause-ok g c =

@@ -1,25 +1,13 @@
-use Rattle.std.proofs.Common.{◌≡◌, ◌∙◌, ℕ, sym}
+use Rattle.std.proofs.Common.{◌∙◌, sym}
 use Rattle.rga_lines.specs.Log.{stream_operations}
-use Rattle.rga_exchange.specs.declared.fault.ReceiveFault.{ReceiveFault}
-use Rattle.rga_exchange.specs.declared.fault.ReceiveFault.TheVariants as fault
-use Rattle.rga_exchange.proofs.OperationLaws.{was_received, not_received, received_joined, told_taken, received_number, received_all, received_other}
+use Rattle.rga_exchange.proofs.OperationLaws.{received_joined, told_taken, received_number, received_all, received_other}
 use Rattle.rga_exchange.proofs.receiving.receive.Goals as goal
-
-taken_not : (n : ℕ) (e : ReceiveFault) → was_received n ≡ not_received e → ⊥
-taken_not n e h = let clash : was_received n ≡ not_received e = h in cc
-
-count_not : (e : ReceiveFault) → not_received fault.Count ≡ not_received e → fault.Count ≡ e
-count_not e h = let same : not_received fault.Count ≡ not_received e = h in cc
-
-not_read : fault.Count ≡ fault.Read → ⊥
-not_read e = let clash : fault.Count ≡ fault.Read = e in cc
 
 pub returns-in-EndLine : goal.returns-in-EndLine
 returns-in-EndLine g c =
     let ends = rw c.in-EndLine.is at c.in_ok-_lines.ensures.end in
     let named = sym c.from.ensures ∙ c.if-from-operations.true in
     let last = rw c.in-EndLine.is at c.in_ok-_lines.ensures.last in
-    let number = c.in-EndLine.number in
     record {
       outcome = λ _ _. received_all _ _ _ _ _ _ _ named ends;
       joined = received_joined _ _ _ _ _ _ _ ends;
@@ -27,9 +15,9 @@ returns-in-EndLine g c =
       number = received_number _ _ _ _ _ _ _ named ends;
       last = last;
       last_count = λ _. last;
-      whole_lines = λ e. absurd (taken_not number fault.Read e);
+      whole_lines = λ e. absurd cc;
       lines = c.in_ok-_lines.ensures.lines;
-      device = record { failed = λ e. absurd (taken_not number fault.Read e); unfailed = λ _. c.in_ok-_lines.ensures.device.unfailed (λ e. absurd cc) };
+      device = record { failed = λ e. absurd cc; unfailed = λ _. c.in_ok-_lines.ensures.device.unfailed (λ e. absurd cc) };
       limit = c.in_ok-_lines.ensures.limit;
     }
 
@@ -43,8 +31,8 @@ returns-in-EndLine-2 g c =
       number = tt;
       last = tt;
       last_count = λ _. last;
-      whole_lines = λ e. absurd (not_read (count_not fault.Read e));
+      whole_lines = λ e. absurd cc;
       lines = c.in_ok-_lines.ensures.lines;
-      device = record { failed = λ e. absurd (not_read (count_not fault.Read e)); unfailed = λ _. c.in_ok-_lines.ensures.device.unfailed (λ e. absurd cc) };
+      device = record { failed = λ e. absurd cc; unfailed = λ _. c.in_ok-_lines.ensures.device.unfailed (λ e. absurd cc) };
       limit = c.in_ok-_lines.ensures.limit;
     }

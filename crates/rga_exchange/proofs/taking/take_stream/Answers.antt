@@ -8,7 +8,7 @@ use Rattle.rga_lines.proofs.SplitterLemmas.{fed_holds}
 use Rattle.rga_exchange.specs.Taking.{intake}
 use Rattle.rga_exchange.specs.Parts.{stage}
 use Rattle.rga_exchange.proofs.DeletionRunLemmas.{nothing_told, lines_told, read_told, all_told}
-use Rattle.rga_exchange.proofs.TakingLaws.{fault_first, fault_stands}
+use Rattle.rga_exchange.proofs.TakingLaws.{faulted}
 use Rattle.rga_exchange.proofs.ReadLaws.{read_nothing, read_lines, read_piece, read_failed, read_empty, read_all, read_end, read_fault, whole_lines, first_lines}
 use Rattle.rga_exchange.proofs.taking.take_stream.Goals as goal
 
@@ -30,10 +30,10 @@ pub returns-in_err-number-clause-fault : goal.returns-in_err-number-clause-fault
 returns-in_err-number-clause-fault g c =
     let p = err_from_is_err_and c.from_residual.result c.from_residual.ensures.1 in
     let e = c.in_err-number.field-0.0 in
-    rw (p.1, p.2) (λ read memory. read_fault e c.reads.invariant.limit c.reads.invariant.read (fault_stands c.args.form (intake g.T.Taker.limit g.T.Taker.content g.T.Taker.follows c.reads.taker c.take_lines.new.taker) (stage c.reads.lines c.reads.operations c.reads.splitter.waiting) c.take_lines.new.lines c.take_lines.new.operations c.take_lines.new.splitter e c.in_err-number.ensures.taken memory))
+    rw (p.1, p.2) (λ read memory. read_fault e c.reads.invariant.limit c.reads.invariant.read ((faulted c.args.form (intake g.T.Taker.limit g.T.Taker.content g.T.Taker.follows c.reads.taker c.take_lines.new.taker) (stage c.reads.lines c.reads.operations c.reads.splitter.waiting) c.take_lines.new.lines c.take_lines.new.operations c.take_lines.new.splitter e c.in_err-number.ensures.taken).1 memory))
 
 pub returns-in_err-number-clause-lines : goal.returns-in_err-number-clause-lines
-returns-in_err-number-clause-lines g c = first_lines (read_lines c.reads.invariant.limit (g.T.Taker.follows_on c.args.taker.now c.reads.taker c.take_lines.new.taker) c.reads.invariant.read (fault_first c.args.form (intake g.T.Taker.limit g.T.Taker.content g.T.Taker.follows c.reads.taker c.take_lines.new.taker) (stage c.reads.lines c.reads.operations c.reads.splitter.waiting) c.take_lines.new.lines c.take_lines.new.operations c.take_lines.new.splitter c.in_err-number.field-0.0 c.in_err-number.ensures.taken).1)
+returns-in_err-number-clause-lines g c = first_lines (read_lines c.reads.invariant.limit (g.T.Taker.follows_on c.args.taker.now c.reads.taker c.take_lines.new.taker) c.reads.invariant.read ((faulted c.args.form (intake g.T.Taker.limit g.T.Taker.content g.T.Taker.follows c.reads.taker c.take_lines.new.taker) (stage c.reads.lines c.reads.operations c.reads.splitter.waiting) c.take_lines.new.lines c.take_lines.new.operations c.take_lines.new.splitter c.in_err-number.field-0.0 c.in_err-number.ensures.taken).0).1)
 
 pub returns-in-Some-clause-end : goal.returns-in-Some-clause-end
 returns-in-Some-clause-end g c =
