@@ -1,8 +1,6 @@
 -- A text that is listed anew, splice by splice from the front: what stands behind a splice waits for none before it.
-use Rattle.std.proofs.Common.{◌≡◌, ℕ, zero, suc, ◌+◌, ◌<◌, ◌≤◌, ◌&&◌, nat_le, true, get_or, List, [], ◌∷◌, ◌++◌, take, drop, length, refl, sym, ap, ◌∙◌, arith, append_assoc, append-nil, length-take-le, take-append-drop, take-take}
-use Rattle.std.proofs.lemmas.Bool.Decides.{nat_tests}
-use Rattle.std.proofs.lemmas.List.{take-append-le, drop-append-le, drop_all, drop_more}
-use Rattle.rga_ops.specs.Splice.{Splice, spliced, text_after, are_falling, end_of, new_characters}
+use Rattle.rga_doc.proofs.Prelude.{◌≡◌, ℕ, zero, suc, ◌+◌, ◌<◌, ◌≤◌, ◌&&◌, nat_le, true, get_or, List, [], ◌∷◌, ◌++◌, take, drop, length, refl, sym, ap, ◌∙◌, arith, append_assoc, append-nil, length-take-le, take-append-drop, take-take, nat_tests}
+use Rattle.rga_doc.proofs.Prelude.{take-append-le, drop-append-le, drop_all, drop_more, Splice, spliced, text_after, are_falling, end_of, new_characters}
 use Rattle.rga_doc.proofs.SplicedCharacters.{long-spliced}
 use Rattle.rga_doc.proofs.FallingLaws.{falls_first, fewer, characters_left, falls_wider}
 

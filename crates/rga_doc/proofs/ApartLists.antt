@@ -1,12 +1,7 @@
 -- Lists of elements that are apart from one another.
-use Rattle.std.proofs.Common.{◌≡◌, ℕ, zero, suc, true, false, not, ◌||◌, List, [], ◌∷◌, ◌++◌, take, refl, ap, sym, ◌∙◌, true≢false}
-use Rattle.std.specs.List.{list_any, AllByRecursion, IsDistinct}
-use Rattle.rga_ops.specs.Identifier.{Identifier, is_id}
-use Rattle.rga_ops.specs.Placement.{without}
-use Rattle.rga_ops.proofs.IdentifierLaws.{is, same_id, is_swap, is_id-same}
-use Rattle.rga_ops.proofs.MemberLaws.{all_append, all_map, distinct_filter}
-use Rattle.std.proofs.lemmas.Bool.{not-true}
-use Rattle.rga_doc.specs.Revert.{distinct_elements}
+use Rattle.rga_doc.proofs.Prelude.{◌≡◌, ℕ, zero, suc, true, false, not, ◌||◌, List, [], ◌∷◌, ◌++◌, take, refl, ap, sym, ◌∙◌, true≢false, list_any, AllByRecursion, Identifier, is_id, without, is, same_id, is_swap, is_id-same, all_append, all_map}
+use Rattle.rga_doc.proofs.Prelude.{distinct_filter, not-true, distinct_elements}
+use Rattle.std.specs.List.{IsDistinct}
 use Rattle.rga_doc.proofs.RevertLaws.{all_that_pass}
 use Rattle.rga_doc.proofs.UndoLists.{all_take}
 

@@ -1,7 +1,5 @@
 -- Characters behind unused places: what is replaced by moving what stands behind it, or what stands before it.
-use Rattle.std.proofs.Common.{◌≡◌, ℕ, ◌+◌, ◌-◌, ◌≤◌, List, ◌++◌, take, drop, length, sym, ap, ◌∙◌, arith, append_assoc, length-take-le, drop-drop}
-use Rattle.std.proofs.lemmas.List.{drop-append-le, drop-take}
-use Rattle.rga_ops.specs.Splice.{spliced}
+use Rattle.rga_doc.proofs.Prelude.{◌≡◌, ℕ, ◌+◌, ◌-◌, ◌≤◌, List, ◌++◌, take, drop, length, sym, ap, ◌∙◌, arith, append_assoc, length-take-le, drop-drop, drop-append-le, drop-take, spliced}
 
 -- a splice behind the start
 pub splice_behind : {A : Type 0} (xs put : List A) (start lo hi : ℕ) → start + lo ≤ length xs → drop start (spliced xs (start + lo) (start + hi) put) ≡ spliced (drop start xs) lo hi put

@@ -1,34 +1,19 @@
 -- Local edits: the operations of an allowed splice, and of several in turn, are taken, and they change the text and the
 -- order at their place.
-use Rattle.std.proofs.Common.{◌≡◌, ℕ, ◌+◌, ◌<◌, ◌≤◌, suc, Bool, true, false, cond, ◌&&◌, nat_le, nat_lt, leb-true, ltb-false, List, [], ◌∷◌, ◌++◌, map, take, drop, length, refl, sym, ap, ◌∙◌, subst, arith, drop_at, drop-drop, length-take-le}
-use Rattle.std.specs.Prelude.{Some, None, Ok, Err}
-use Rattle.std.specs.Option.{unwrap_or}
-use Rattle.std.specs.List.{slice_get, filter_map}
-use Rattle.std.specs.FinSet as finite_set
-use Rattle.std.proofs.lemmas.Bool.{and_parts}
-use Rattle.std.proofs.lemmas.Option.{slice_get_within}
-use Rattle.rga_ops.specs.Identifier.{Identifier, identifier, root}
-use Rattle.rga_ops.specs.Content.{Content, known_ids, clock_of, join, single, content_of}
-use Rattle.rga_ops.specs.Order.{order, text}
-use Rattle.rga_ops.specs.Places.{visible}
-use Rattle.rga_ops.specs.Splice.{Splice, spliced, text_after, are_falling, new_characters}
-use Rattle.rga_ops.specs.ListAnswer.{Verdict, and_check, union_answer, list_answer}
-use Rattle.rga_ops.proofs.VisibleLaws.{text_long}
+use Rattle.rga_doc.proofs.Prelude.{◌≡◌, ℕ, ◌+◌, ◌<◌, ◌≤◌, suc, Bool, true, false, cond, ◌&&◌, nat_le, nat_lt, leb-true, ltb-false, List, [], ◌∷◌, ◌++◌, map, take, drop, length, refl, sym, ap, ◌∙◌, subst, arith, drop_at, drop-drop, length-take-le}
+use Rattle.rga_doc.proofs.Prelude.{Some, None, Ok, Err, unwrap_or, slice_get, filter_map, and_parts, slice_get_within, Identifier, identifier, root, Content, known_ids, clock_of, join, single, content_of, order, text, visible, Splice, spliced}
+use Rattle.rga_doc.proofs.Prelude.{text_after, are_falling, new_characters, Verdict, and_check, union_answer, list_answer, text_long, newest_element, order-newest, visible-deletion_at, order-deletion, Op, Insert, Delete, Full, Range, passed, bad}
+use Rattle.rga_doc.proofs.Prelude.{left_of, chain, splice_operations, splices_operations, draft_operations, room_answer, place_answer, counter_answer, edit_answer, splice_answer, splices_answer, new_ids, put_row_behind, order_after, elements_after}
+use Rattle.rga_doc.proofs.Prelude.{all_map}
 use Rattle.rga_ops.proofs.ListAnswerLaws.{union_taken-iff}
-use Rattle.rga_ops.proofs.NewestLaws.{newest_element, order-newest}
 use Rattle.rga_ops.proofs.NewestTextLaws.{visible_at}
-use Rattle.rga_ops.proofs.DeletionLaws.{visible-deletion_at, order-deletion}
-use Rattle.rga_ops.specs.declared.op.Op.{Op}
-use Rattle.rga_ops.specs.declared.op.Op.TheVariants.{Insert, Delete}
-use Rattle.rga_ops.specs.declared.refusal.Refusal.TheVariants.{Full, Range}
-use Rattle.rga_ops.proofs.AnswerLaws.{passed, bad}
-use Rattle.rga_doc.specs.LocalEdit.{left_of, chain, splice_operations, splices_operations, draft_operations, room_answer, place_answer, counter_answer, edit_answer, splice_answer, splices_answer, new_ids, put_row_behind, order_after, elements_after}
 use Rattle.rga_doc.proofs.FallingLaws.{falls_first}
 use Rattle.rga_doc.proofs.SplicedCharacters.{cut, length-cut, same_begin}
 use Rattle.rga_doc.proofs.SplicedLists.{get_at_drop, same_left, put_no_row, put_row_on}
-use Rattle.rga_doc.proofs.EditSteps.{Leads, leads_nowhere, leads_on, Shows, shows_itself, shows_on, shows_begin, shows_long, deletion_leads, deletion_shows, IsLeft, left_is, left_stands, newest, insertion_leads, insertion_visible, insertion_shows, not_in_order}
+use Rattle.rga_doc.proofs.EditSteps.{Leads, leads_nowhere, leads_on, Shows, shows_itself, shows_on, shows_begin, shows_long, deletion_leads, deletion_shows, IsLeft, left_is, left_stands, newest, insertion_leads, insertion_visible, insertion_shows}
+use Rattle.rga_doc.proofs.EditSteps.{not_in_order}
 use Rattle.rga_doc.proofs.UndoLists.{Reading, reads_behind, new_ids-newer}
-use Rattle.rga_ops.proofs.MemberLaws.{all_map}
+use Rattle.std.specs.FinSet as finite_set
 
 -- ---- deletions of visible elements in a row
 

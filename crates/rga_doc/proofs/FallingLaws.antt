@@ -1,9 +1,5 @@
 -- Splices that fall, those that are left of one, and how many characters they put.
-use Rattle.std.proofs.Common.{◌≡◌, ℕ, zero, suc, ◌+◌, ◌<◌, ◌≤◌, ◌&&◌, nat_le, leb-true, true, get_or, List, [], ◌∷◌, drop, length, refl, sym, ap, ◌∙◌, arith}
-use Rattle.std.proofs.lemmas.Bool.{and_parts}
-use Rattle.std.proofs.lemmas.Bool.Decides.{nat_tests}
-use Rattle.std.proofs.lemmas.List.{at_drop_more}
-use Rattle.rga_ops.specs.Splice.{Splice, are_falling, new_characters}
+use Rattle.rga_doc.proofs.Prelude.{◌≡◌, ℕ, zero, suc, ◌+◌, ◌<◌, ◌≤◌, ◌&&◌, nat_le, leb-true, true, get_or, List, [], ◌∷◌, drop, length, refl, sym, ap, ◌∙◌, arith, and_parts, nat_tests, at_drop_more, Splice, are_falling, new_characters}
 
 -- the first of the splices keeps within the bound, and the others before it
 pub record Falls (s : Splice) (splices : List Splice) (bound : ℕ) : Type 0 where

@@ -1,21 +1,9 @@
 -- One new operation of another replica, made in what is listed.
-use Rattle.std.proofs.Common.{◌≡◌, ℕ, suc, ◌+◌, ◌<◌, ◌≤◌, true, false, List, [], ◌∷◌, length, refl, sym, ap, ◌∙◌, subst, arith}
-use Rattle.std.specs.Prelude.{Option, Some, None, IfSome}
-use Rattle.std.specs.List.{slice_get}
-use Rattle.std.specs.FinMap as finite_map
-use Rattle.std.proofs.lemmas.Option.{slice_get_within}
-use Rattle.rga_ops.specs.Identifier.{Identifier}
-use Rattle.rga_ops.specs.Content.{Content, join, single}
-use Rattle.rga_ops.specs.Order.{text}
-use Rattle.rga_ops.specs.Places.{is_visible, visible}
-use Rattle.rga_ops.specs.Splice.{spliced}
-use Rattle.rga_ops.specs.declared.op.Op.{Op}
-use Rattle.rga_ops.specs.declared.op.Op.TheVariants.{Insert, Delete}
-use Rattle.rga_ops.proofs.IdentifierLaws.{is}
-use Rattle.rga_ops.proofs.VisibleLaws.{text_long, visible_elements}
+use Rattle.rga_doc.proofs.Prelude.{◌≡◌, ℕ, suc, ◌+◌, ◌<◌, ◌≤◌, true, false, List, [], ◌∷◌, length, refl, sym, ap, ◌∙◌, subst, arith, Option, Some, None, IfSome, slice_get, slice_get_within, Identifier, Content, join, single, text, is_visible}
+use Rattle.rga_doc.proofs.Prelude.{visible, spliced, Op, Insert, Delete, is, text_long, visible_elements, DeletesAt, IsTextBefore}
 use Rattle.rga_ops.proofs.PlaceLaws.{index_in, text-insertion_at, absent_if_new, text-insertion_hidden, visible-deletion_cut, text-deletion_cut, text-deletion_hidden}
-use Rattle.rga_doc.specs.Relisting.{DeletesAt, IsTextBefore}
 use Rattle.rga_doc.proofs.SplicedCharacters.{length-spliced}
+use Rattle.std.specs.FinMap as finite_map
 
 -- as many are visible as before where they are as many as are listed
 as_many_before : (c : Content) (op : Op) (at : Option ℕ) (characters : List ℕ) (b : IsTextBefore c op at characters) → length (visible c) ≡ length characters → length (visible (join b.before (single op))) ≡ length (visible b.before)

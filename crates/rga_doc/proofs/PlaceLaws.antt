@@ -1,13 +1,6 @@
 -- What is complete stays so, and what has a place keeps one.
-use Rattle.std.proofs.Common.{◌≡◌, Bool, true, false, cond, ◌||◌, is_some, filter, length, refl, sym, ◌∙◌, inl, inr}
-use Rattle.std.specs.Prelude.{Some, None}
-use Rattle.std.proofs.lemmas.Bool.{or_cases, or_left, or_right}
-use Rattle.rga_ops.specs.Identifier.{Identifier, is_root}
-use Rattle.rga_ops.specs.Content.{Content, join}
-use Rattle.rga_ops.specs.RootPath.{is_complete}
-use Rattle.rga_ops.specs.Order.{order}
-use Rattle.rga_ops.specs.Places.{place, is_visible, up_to}
-use Rattle.rga_ops.proofs.ContentLaws.{within_join}
+use Rattle.rga_doc.proofs.Prelude.{◌≡◌, Bool, true, false, cond, ◌||◌, is_some, filter, length, refl, sym, ◌∙◌, inl, inr, Some, None, or_cases, or_left, or_right, Identifier, is_root, Content, join, is_complete, order, place, is_visible, up_to}
+use Rattle.rga_doc.proofs.Prelude.{within_join}
 use Rattle.rga_ops.proofs.GrowLaws.{complete_stays}
 
 abbrev pub stands : Content → Identifier → Bool

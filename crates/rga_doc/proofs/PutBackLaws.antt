@@ -1,19 +1,7 @@
 -- Each restored element stands directly behind the one that it restores.
-use Rattle.std.proofs.Common.{◌≡◌, ℕ, zero, suc, ◌+◌, true, false, cond, ◌||◌, List, [], ◌∷◌, ◌++◌, length, refl, sym, ap, ◌∙◌, subst, arith, true≢false}
-use Rattle.std.specs.Prelude.{Some, Ok}
-use Rattle.std.specs.List.{list_any, slice_get, AllByRecursion}
-use Rattle.std.proofs.lemmas.Bool.{or_right}
-use Rattle.std.proofs.lemmas.Option.{none-some}
-use Rattle.rga_ops.specs.Identifier.{Identifier, identifier, is_id, is_root}
-use Rattle.rga_ops.specs.Content.{Content, clock_of, join, content_of}
-use Rattle.rga_ops.specs.RootPath.{is_complete}
-use Rattle.rga_ops.specs.Order.{order}
-use Rattle.rga_ops.specs.Placement.{change_after, put_behind}
-use Rattle.rga_ops.proofs.IdentifierLaws.{is, is_id-same, is_id-is}
-use Rattle.rga_ops.proofs.MemberLaws.{all_map}
-use Rattle.rga_ops.proofs.OrderLaws.{order_list}
-use Rattle.rga_ops.proofs.PathLaws.{is_complete-iff, not_complete_root}
-use Rattle.rga_doc.specs.Revert.{revert_operations, revert_answer, are_restorable, put_back, StandsDirectlyBehind}
+use Rattle.rga_doc.proofs.Prelude.{◌≡◌, ℕ, zero, suc, ◌+◌, true, false, cond, ◌||◌, List, [], ◌∷◌, ◌++◌, length, refl, sym, ap, ◌∙◌, subst, arith, true≢false, Some, Ok, list_any, slice_get, AllByRecursion, or_right, none-some, Identifier, identifier}
+use Rattle.rga_doc.proofs.Prelude.{is_id, is_root, Content, clock_of, join, content_of, is_complete, order, change_after, put_behind, is, is_id-same, is_id-is, all_map, order_list, is_complete-iff, not_complete_root, revert_operations, revert_answer}
+use Rattle.rga_doc.proofs.Prelude.{are_restorable, put_back, StandsDirectlyBehind}
 use Rattle.rga_doc.proofs.EditLaws.{allowed}
 use Rattle.rga_doc.proofs.RevertSets.{elements_of, AreApart, apart_if_restorable}
 use Rattle.rga_doc.proofs.RevertLaws.{back_complete, revert_order}

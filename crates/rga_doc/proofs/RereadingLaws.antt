@@ -1,39 +1,17 @@
 -- A revert leaves the text outside the margins round what it deletes and what it inserts.
-use Rattle.std.proofs.Common.{◌≡◌, ℕ, zero, suc, ◌+◌, ◌-◌, ◌<◌, ◌≤◌, Bool, true, false, cond, not, ◌&&◌, ◌||◌, nat_le, List, [], ◌∷◌, ◌++◌, map, filter, take, drop, length, get_or, refl, sym, ap, ◌∙◌, subst, true≢false, arith, append_assoc, length-append, length-drop, take-append-drop, take_at, drop_at}
-use Rattle.std.specs.Prelude.{Option, Some, None, Ok, IfSome}
-use Rattle.std.specs.Option.{option_map}
-use Rattle.std.specs.List.{list_any, slice_get, AllByRecursion}
-use Rattle.std.specs.FinMap as finite_map
-use Rattle.std.specs.FinSet as finite_set
-use Rattle.std.proofs.Math.Bool.{and-true, and-false}
-use Rattle.std.proofs.lemmas.Bool.{and_parts, not-true, not-false}
-use Rattle.std.proofs.lemmas.Bool.Decides.{nat_tests}
-use Rattle.std.proofs.lemmas.List.{map-append, take-map, drop-map, take_more}
-use Rattle.std.proofs.lemmas.Option.{same_Some}
-use Rattle.rga_ops.specs.Identifier.{Identifier, identifier, is_id, is_root}
-use Rattle.rga_ops.specs.Content.{Element, element_at, Content, clock_of, join, content_of}
-use Rattle.rga_ops.specs.Operation.{id_of}
-use Rattle.rga_ops.specs.RootPath.{is_complete}
-use Rattle.rga_ops.specs.Order.{order, text}
-use Rattle.rga_ops.specs.Places.{is_visible, visible, character}
-use Rattle.rga_ops.specs.Placement.{change_after, put_behind}
-use Rattle.rga_ops.specs.Splice.{spliced}
-use Rattle.rga_ops.specs.declared.op.Op.{Op}
-use Rattle.rga_ops.specs.declared.op.Op.TheVariants.{Delete}
-use Rattle.rga_ops.proofs.IdentifierLaws.{is}
-use Rattle.rga_ops.proofs.MemberLaws.{all_map, all_members, of_member, filter_alike}
-use Rattle.rga_ops.proofs.ContentLaws.{within_join}
+use Rattle.rga_doc.proofs.Prelude.{◌≡◌, ℕ, zero, suc, ◌+◌, ◌-◌, ◌<◌, ◌≤◌, Bool, true, false, cond, not, ◌&&◌, ◌||◌, nat_le, List, [], ◌∷◌, ◌++◌, map, filter, take, drop, length, get_or, refl, sym, ap, ◌∙◌, subst, true≢false, arith, append_assoc}
+use Rattle.rga_doc.proofs.Prelude.{length-append, length-drop, take-append-drop, take_at, drop_at, Option, Some, None, Ok, IfSome, option_map, list_any, slice_get, AllByRecursion, and-true, and-false, and_parts, not-true, not-false, nat_tests}
+use Rattle.rga_doc.proofs.Prelude.{map-append, take-map, drop-map, take_more, same_Some, Identifier, identifier, is_id, is_root, Element, element_at, Content, clock_of, join, content_of, id_of, is_complete, order, text, is_visible, visible}
+use Rattle.rga_doc.proofs.Prelude.{character, change_after, put_behind, spliced, Op, Delete, is, all_map, all_members, of_member, filter_alike, within_join, inserted_if_complete, is_kept, order_complete, visible_is, text_is, text_long, filtered}
+use Rattle.rga_doc.proofs.Prelude.{characters_within, own_index, place_at, StandsBetween, AllBetween, AgreeOutside, distinct_elements, restorations, revert_operations, revert_answer, put_back, inserted_elements}
 use Rattle.rga_ops.proofs.ClockLaws.{within_clock}
-use Rattle.rga_ops.proofs.PathLaws.{inserted_if_complete}
-use Rattle.rga_ops.proofs.VisibleLaws.{is_kept, order_complete, visible_is, text_is, text_long, filtered, characters_within, own_index, place_at}
 use Rattle.rga_ops.proofs.PlacementLaws.{member_at}
 use Rattle.rga_ops.proofs.SpliceLaws.{same_characters}
-use Rattle.rga_doc.specs.Relisting.{StandsBetween, AllBetween, AgreeOutside}
-use Rattle.rga_doc.specs.Revert.{distinct_elements, restorations, revert_operations, revert_answer, put_back}
-use Rattle.rga_doc.specs.UndoGroup.{inserted_elements}
 use Rattle.rga_doc.proofs.SplicedCharacters.{cut}
 use Rattle.rga_doc.proofs.RevertLaws.{all_once, all_that_pass, revert_order}
 use Rattle.rga_doc.proofs.UndoLists.{AreNewer, not_among_newer, newer_still, deleted_by_revert}
+use Rattle.std.specs.FinMap as finite_map
+use Rattle.std.specs.FinSet as finite_set
 
 -- ---- lists that differ in what stands between margins
 

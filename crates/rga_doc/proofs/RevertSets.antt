@@ -1,13 +1,6 @@
 -- Elements that were met before, in the lists of a revert.
-use Rattle.std.proofs.Common.{◌≡◌, ℕ, Bool, true, false, cond, not, ◌&&◌, ◌||◌, List, [], ◌∷◌, map, filter, refl, sym, ap, ◌∙◌}
-use Rattle.std.specs.List.{list_any, AllByRecursion}
-use Rattle.std.proofs.lemmas.Bool.{and_parts, or_parts, not-true}
-use Rattle.rga_ops.specs.Identifier.{Identifier, is_id}
-use Rattle.rga_ops.specs.Content.{Content}
-use Rattle.rga_ops.specs.RootPath.{is_complete}
-use Rattle.rga_ops.specs.Placement.{without}
-use Rattle.rga_ops.proofs.IdentifierLaws.{is, is_swap, is_id-same}
-use Rattle.rga_doc.specs.Revert.{distinct_elements, are_restorable}
+use Rattle.rga_doc.proofs.Prelude.{◌≡◌, ℕ, Bool, true, false, cond, not, ◌&&◌, ◌||◌, List, [], ◌∷◌, map, filter, refl, sym, ap, ◌∙◌, list_any, AllByRecursion, and_parts, or_parts, not-true, Identifier, is_id, Content, is_complete, without, is}
+use Rattle.rga_doc.proofs.Prelude.{is_swap, is_id-same, distinct_elements, are_restorable}
 
 pub id_swap : (a b : Identifier) → is_id a b ≡ is_id b a
 id_swap a b = is_id-same a b ∙ is_swap b a ∙ sym (is_id-same b a)

@@ -1,7 +1,6 @@
 -- Lists that are spliced, one after the other, and parts that are cut out of them.
-use Rattle.std.proofs.Common.{◌≡◌, ℕ, ◌+◌, ◌-◌, ◌≤◌, List, [], ◌++◌, take, drop, length, sym, ap, ◌∙◌, arith, append_assoc, append-nil, length-append, length-drop, length-take-le, take-append-drop, take_at, drop_at, take-take, drop-drop}
-use Rattle.std.proofs.lemmas.List.{drop-append-le, drop-take}
-use Rattle.rga_ops.specs.Splice.{spliced}
+use Rattle.rga_doc.proofs.Prelude.{◌≡◌, ℕ, ◌+◌, ◌-◌, ◌≤◌, List, [], ◌++◌, take, drop, length, sym, ap, ◌∙◌, arith, append_assoc, append-nil, length-append, length-drop, length-take-le, take-append-drop, take_at, drop_at, take-take, drop-drop}
+use Rattle.rga_doc.proofs.Prelude.{drop-append-le, drop-take, spliced}
 
 pub splice_on : {A : Type 0} (xs a b : List A) (lo hi m n k end : ℕ) → lo ≤ length xs → m ≡ lo + length a → n ≡ m + k → end ≡ hi + k → spliced (spliced xs lo hi a) m n b ≡ spliced xs lo end (a ++ b)
 splice_on {A} xs a b lo hi m n k end within at upto until =

@@ -1,25 +1,11 @@
 -- What lists of elements read as, where elements are put in; and what the lists of an edit's operations have.
-use Rattle.std.proofs.Common.{◌≡◌, ℕ, zero, suc, ◌+◌, ◌<◌, ◌≤◌, true, false, cond, not, ◌&&◌, ◌||◌, List, [], ◌∷◌, ◌++◌, map, filter, take, drop, length, refl, sym, ap, ◌∙◌, subst, arith, true≢false, append-nil}
-use Rattle.std.specs.Prelude.{Option, Some, None}
-use Rattle.std.specs.Option.{option_or}
-use Rattle.std.specs.List.{list_any, AllByRecursion, IsDistinct, filter_map, cons_option}
+use Rattle.rga_doc.proofs.Prelude.{◌≡◌, ℕ, zero, suc, ◌+◌, ◌<◌, ◌≤◌, true, false, cond, not, ◌&&◌, ◌||◌, List, [], ◌∷◌, ◌++◌, map, filter, take, drop, length, refl, sym, ap, ◌∙◌, subst, arith, true≢false, append-nil, Option, Some, None, option_or}
+use Rattle.rga_doc.proofs.Prelude.{list_any, AllByRecursion, filter_map, cons_option, false_from_ne_true, or_parts, Identifier, identifier, id_cmp, is_id, is_root, Content, element, clock_of, single, content_of, join, is_visible, change_after}
+use Rattle.rga_doc.proofs.Prelude.{without, Op, Insert, Delete, is, same_id, is_itself, is_swap, is_id-same, is_id-is, all_map, get-join, contains-join, filtered, get-single, contains-single, chain, new_ids, put_row_behind, distinct_elements}
+use Rattle.rga_doc.proofs.Prelude.{restorations, revert_operations, inserted_elements, deleted_elements}
+use Rattle.std.specs.List.{IsDistinct}
 use Rattle.std.specs.FinMap as finite_map
 use Rattle.std.specs.FinSet as finite_set
-use Rattle.std.proofs.lemmas.Bool.{false_from_ne_true, or_parts}
-use Rattle.rga_ops.specs.Identifier.{Identifier, identifier, id_cmp, is_id, is_root}
-use Rattle.rga_ops.specs.Content.{Content, element, clock_of, single, content_of, join}
-use Rattle.rga_ops.specs.Places.{is_visible}
-use Rattle.rga_ops.specs.Placement.{change_after, without}
-use Rattle.rga_ops.specs.declared.op.Op.{Op}
-use Rattle.rga_ops.specs.declared.op.Op.TheVariants.{Insert, Delete}
-use Rattle.rga_ops.proofs.IdentifierLaws.{is, same_id, is_itself, is_swap, is_id-same, is_id-is}
-use Rattle.rga_ops.proofs.MemberLaws.{all_map}
-use Rattle.rga_ops.proofs.ContentLaws.{get-join, contains-join}
-use Rattle.rga_ops.proofs.VisibleLaws.{filtered}
-use Rattle.rga_ops.proofs.OperationLaws.{get-single, contains-single}
-use Rattle.rga_doc.specs.LocalEdit.{chain, new_ids, put_row_behind}
-use Rattle.rga_doc.specs.Revert.{distinct_elements, restorations, revert_operations}
-use Rattle.rga_doc.specs.UndoGroup.{inserted_elements, deleted_elements}
 
 abbrev pub Reading : Type 0
 Reading = Identifier → Option ℕ

@@ -1,6 +1,4 @@
-use Rattle.std.proofs.Common.{ap}
-use Rattle.std.proofs.lemmas.Result.{on_ok_weaker}
-use Rattle.rga_doc.specs.Document.{Document}
+use Rattle.rga_doc.proofs.Prelude.{ap, on_ok_weaker, Document}
 use Rattle.rga_doc.proofs.EditLaws.{splices_taken_text}
 use Rattle.rga_doc.proofs.doc.Doc.take.Goals as goal
 

@@ -1,9 +1,4 @@
-use Rattle.std.proofs.Common.{◌≡◌, List, length, sym, ap, ◌∙◌}
-use Rattle.rga_ops.specs.Content.{join, content_of}
-use Rattle.rga_ops.specs.ListAnswer.{list_answer}
-use Rattle.rga_ops.specs.Order.{text}
-use Rattle.rga_ops.specs.Splice.{Splice, text_after, are_falling, new_characters}
-use Rattle.rga_doc.specs.Document.{Document}
+use Rattle.rga_doc.proofs.Prelude.{◌≡◌, List, length, sym, ap, ◌∙◌, join, content_of, list_answer, text, Splice, text_after, are_falling, new_characters, Document}
 use Rattle.rga_doc.proofs.EditLaws.{allowed, splices_taken, splices_taken_text}
 use Rattle.rga_doc.proofs.doc.Doc.take_in_place.Goals as goal
 

@@ -1,6 +1,4 @@
-use Rattle.std.proofs.Common.{rules, ◌≡◌, length}
-use Rattle.rga_ops.specs.Content.{Content}
-use Rattle.rga_ops.specs.Places.{visible}
+use Rattle.rga_doc.proofs.Prelude.{rules, ◌≡◌, length, Content, visible}
 use Rattle.rga_doc.proofs.FollowingLaws.{insertion_is_hidden}
 use Rattle.rga_doc.proofs.listing.Listing.follow_insertion.Goals as goal
 

@@ -1,5 +1,4 @@
-use Rattle.std.proofs.Common.{length, arith}
-use Rattle.rga_ops.specs.Content.{Content}
+use Rattle.rga_doc.proofs.Prelude.{length, arith, Content}
 use Rattle.rga_doc.proofs.FollowingLaws.{index_within, put_is_listed}
 use Rattle.rga_doc.proofs.listing.Listing.put_at_its_place.Goals as goal
 
