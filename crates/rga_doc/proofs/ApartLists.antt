@@ -23,9 +23,8 @@ apart_right [] ys h = h
 apart_right (x ∷ xs) ys h = apart_right xs ys h.1
 
 pub apart_take : (n : ℕ) (xs : List Identifier) → Apart xs → Apart (take n xs)
-apart_take zero xs h = tt
-apart_take (suc n) [] h = tt
 apart_take (suc n) (x ∷ xs) h = (all_take (λ y. is x y ≡ false) n xs h.0, apart_take n xs h.1)
+apart_take n xs h = tt
 
 -- what is in the first part is apart from the second one
 pub apart_parts : (xs ys : List Identifier) (y : Identifier) → Apart (xs ++ ys) → list_any (is y) xs ≡ true → AllByRecursion (λ z. is z y ≡ false) ys

@@ -95,14 +95,13 @@ all_behind (b ∷ back) replica last xs all apart =
     )
 
 each_behind : (back : List (Identifier × ℕ)) (replica last : ℕ) (ys : List Identifier) (i : ℕ) (b : Identifier × ℕ) → AreBehind ys replica last back → slice_get back i ≡ Some b → StandsDirectlyBehind ys b.0 (identifier (last + (i + 1)) replica)
-each_behind [] replica last ys zero b all at = absurd (none-some b at)
-each_behind [] replica last ys (suc i) b all at = absurd (none-some b at)
 each_behind (e ∷ back) replica last ys zero b all at =
     let same : e ≡ b = cc in
     subst (λ (x : Identifier × ℕ). StandsDirectlyBehind ys x.0 (identifier (last + 1) replica)) same all.0
 each_behind (e ∷ back) replica last ys (suc i) b all at =
     let counter : last + 1 + (i + 1) ≡ last + (suc i + 1) = omega arith in
     subst (λ n. StandsDirectlyBehind ys b.0 (identifier n replica)) counter (each_behind back replica (last + 1) ys i b all.1 at)
+each_behind back replica last ys i b all at = absurd (none-some b at)
 
 complete_in : (c : Content) (q : Identifier) → is_complete c q ≡ true → IsIn (order c) q
 complete_in c q h = record { element = not_complete_root ((is_complete-iff c q).0 h); member = (order_list c).elements q ∙ h }

@@ -146,9 +146,8 @@ get-operations_absent (Delete id ∷ ops) q h =
 -- ---- parts of lists
 
 pub all_take : (P : Identifier → Type 0) (n : ℕ) (xs : List Identifier) → AllByRecursion P xs → AllByRecursion P (take n xs)
-all_take P zero xs h = tt
-all_take P (suc n) [] h = tt
 all_take P (suc n) (x ∷ xs) h = (h.0, all_take P n xs h.1)
+all_take P n xs h = tt
 
 pub all_drop : (P : Identifier → Type 0) (n : ℕ) (xs : List Identifier) → AllByRecursion P xs → AllByRecursion P (drop n xs)
 all_drop P zero xs h = h
