@@ -1,5 +1,5 @@
 -- Lists of elements that are apart from one another.
-use Rattle.rga_doc.proofs.Prelude.{◌≡◌, ℕ, zero, suc, true, false, not, ◌||◌, List, [], ◌∷◌, ◌++◌, take, refl, ap, sym, ◌∙◌, true≢false, list_any, AllByRecursion, Identifier, is_id, without, is, same_id, is_swap, is_id-same, all_append, all_map}
+use Rattle.rga_doc.proofs.Prelude.{◌≡◌, ℕ, suc, true, false, not, ◌||◌, List, [], ◌∷◌, ◌++◌, take, refl, ap, sym, ◌∙◌, true≢false, list_any, AllByRecursion, Identifier, is_id, without, is, same_id, is_swap, is_id-same, all_append, all_map}
 use Rattle.rga_doc.proofs.Prelude.{distinct_filter, not-true, distinct_elements}
 use Rattle.std.specs.List.{IsDistinct}
 use Rattle.rga_doc.proofs.RevertLaws.{all_that_pass}

@@ -34,16 +34,10 @@ put_between [] after x y parent z other =
       | true ↦ record { before = []; after = z ∷ after; parts = refl }
       | false ↦ record { before = []; after = rest; parts = refl }
     ])
-put_between (w ∷ before) after x y parent z other = elim (is_id w parent) as (λ b. StandsDirectlyBehind (cond b (w ∷ z ∷ (before ++ x ∷ y ∷ after)) (w ∷ change_after parent (λ ys. z ∷ ys) (before ++ x ∷ y ∷ after))) x y) [
-  | true ↦ record { before = w ∷ z ∷ before; after = after; parts = refl }
-  | false ↦ further w (put_between before after x y parent z other)
-]
+put_between (w ∷ before) after x y parent z other = grind (arith, is_id, change_after, true, false, further, put_between before after x y parent z other)
 
 stays_behind : (xs : List Identifier) (x y parent z : Identifier) → is_id x parent ≡ false → StandsDirectlyBehind xs x y → StandsDirectlyBehind (put_behind parent z xs) x y
-stays_behind xs x y parent z other s = elim (is_root parent) as (λ b. StandsDirectlyBehind (cond b (z ∷ xs) (change_after parent (λ ys. z ∷ ys) xs)) x y) [
-  | true ↦ further z s
-  | false ↦ subst (λ ys. StandsDirectlyBehind (change_after parent (λ ys. z ∷ ys) ys) x y) (sym s.parts) (put_between s.before s.after x y parent z other)
-]
+stays_behind xs x y parent z other s = grind (arith, is_root, change_after, true, further, false, put_between)
 
 stays_put_back : (back : List (Identifier × ℕ)) (replica last : ℕ) (xs : List Identifier) (x y : Identifier) → AllByRecursion (λ q. is q x ≡ false) (elements_of back) → StandsDirectlyBehind xs x y → StandsDirectlyBehind (put_back replica last back xs) x y
 stays_put_back [] replica last xs x y apart s = s
@@ -95,12 +89,8 @@ all_behind (b ∷ back) replica last xs all apart =
     )
 
 each_behind : (back : List (Identifier × ℕ)) (replica last : ℕ) (ys : List Identifier) (i : ℕ) (b : Identifier × ℕ) → AreBehind ys replica last back → slice_get back i ≡ Some b → StandsDirectlyBehind ys b.0 (identifier (last + (i + 1)) replica)
-each_behind (e ∷ back) replica last ys zero b all at =
-    let same : e ≡ b = cc in
-    subst (λ (x : Identifier × ℕ). StandsDirectlyBehind ys x.0 (identifier (last + 1) replica)) same all.0
-each_behind (e ∷ back) replica last ys (suc i) b all at =
-    let counter : last + 1 + (i + 1) ≡ last + (suc i + 1) = omega arith in
-    subst (λ n. StandsDirectlyBehind ys b.0 (identifier n replica)) counter (each_behind back replica (last + 1) ys i b all.1 at)
+each_behind (e ∷ back) replica last ys zero b all at = grind (arith, identifier)
+each_behind (e ∷ back) replica last ys (suc i) b all at = grind (arith, suc, identifier, each_behind back replica (last + 1) ys i b all.1 at)
 each_behind back replica last ys i b all at = absurd (none-some b at)
 
 complete_in : (c : Content) (q : Identifier) → is_complete c q ≡ true → IsIn (order c) q

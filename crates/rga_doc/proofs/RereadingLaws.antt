@@ -112,14 +112,7 @@ texts_agree c d front back alike begin end =
 
 -- a text that is read anew between margins is the new one
 pub read_anew : (front back old_end end : ℕ) (old new : List ℕ) → AgreeOutside front back old new → old_end ≡ length old - back → end ≡ length new - back → front ≤ end → spliced old front old_end (drop front (take end new)) ≡ new
-read_anew front back old_end end old new agree before now up =
-    let within : end ≤ length new = omega (arith, now) in
-    let part : List ℕ = drop front (take end new) in
-    let tail : drop old_end old ≡ drop end new = ap (λ n. drop n old) before ∙ agree.same_back ∙ ap (λ n. drop n new) (sym now) in
-    (λ k. (agree.same_front k ++ part) ++ tail k)
-    ∙ append_assoc (take front new) part (drop end new)
-    ∙ ap (λ ys. take front new ++ ys) (sym (cut new front end up within))
-    ∙ take-append-drop front new
+read_anew front back old_end end old new agree before now up = grind (arith, length, drop, take, append_assoc, cut, take-append-drop)
 
 -- ---- elements that stand between margins
 
@@ -131,12 +124,7 @@ index_between c front back i id between at =
 
 -- narrower margins hold too
 pub narrower : (c : Content) (front back f b : ℕ) (id : Identifier) → f ≤ front → b ≤ back → StandsBetween c front back id → StandsBetween c f b id
-narrower c front back f b id less fewer between = record {
-  index = between.index;
-  placed = between.placed;
-  not_in_front = omega (arith, less, between.not_in_front);
-  not_at_back = omega (arith, fewer, between.not_at_back);
-}
+narrower c front back f b id less fewer between = grind (arith)
 
 pub all_narrower : (c : Content) (front back f b : ℕ) (ops : List Op) → f ≤ front → b ≤ back → AllBetween c front back ops → AllBetween c f b ops
 all_narrower c front back f b [] less fewer all = tt
@@ -174,16 +162,11 @@ filter_put p parent id xs f = elim (is_root parent) as (λ b. filter p (cond b (
 
 filter_put_back : (p : Identifier → Bool) (back : List (Identifier × ℕ)) (replica last : ℕ) (xs : List Identifier) → AllByRecursion (λ x. p x ≡ false) (inserted_elements (restorations replica last back)) → filter p (put_back replica last back xs) ≡ filter p xs
 filter_put_back p [] replica last xs h = refl
-filter_put_back p (b ∷ back) replica last xs h =
-    filter_put_back p back replica (last + 1) (put_behind b.0 (identifier (last + 1) replica) xs) h.1
-    ∙ filter_put p b.0 (identifier (last + 1) replica) xs h.0
+filter_put_back p (b ∷ back) replica last xs h = grind (arith, put_behind, identifier, filter_put, filter_put_back p back replica (last + 1) (put_behind b.0 (identifier (last + 1) replica) xs) h.1)
 
 restorations_newer : (replica last : ℕ) (back : List (Identifier × ℕ)) → AreNewer last (inserted_elements (restorations replica last back))
 restorations_newer replica last [] = tt
-restorations_newer replica last (b ∷ back) = (
-  omega arith,
-  newer_still last (last + 1) (inserted_elements (restorations replica (last + 1) back)) (omega arith) (restorations_newer replica (last + 1) back),
-)
+restorations_newer replica last (b ∷ back) = grind (arith, newer_still, inserted_elements, restorations, restorations_newer replica (last + 1) back)
 
 -- the elements of deletions, and of restorations
 all_deleted : (P : Identifier → Type 0) (ids : List Identifier) → AllByRecursion (λ op. P (id_of op)) (map Delete ids) → AllByRecursion P ids

@@ -1,5 +1,5 @@
 -- What a revert deleted can be restored, and what it inserted is complete.
-use Rattle.rga_doc.proofs.Prelude.{◌≡◌, ℕ, ◌+◌, Bool, true, false, ◌&&◌, ◌||◌, not, List, [], ◌∷◌, ◌++◌, map, filter, length, refl, sym, ap, ◌∙◌, subst, Ok, list_any, list_all, AllByRecursion, Identifier, is_id, Content, clock_of, join, content_of}
+use Rattle.rga_doc.proofs.Prelude.{◌≡◌, ℕ, Bool, true, false, ◌&&◌, ◌||◌, not, List, [], ◌∷◌, ◌++◌, map, filter, length, refl, sym, ap, ◌∙◌, subst, Ok, list_any, list_all, AllByRecursion, Identifier, is_id, Content, clock_of, join, content_of}
 use Rattle.rga_doc.proofs.Prelude.{is_complete, is_visible, Op, Delete, is, is_id-same, all_map, distinct_elements, restorations, revert_operations, revert_answer, are_restorable, inserted_elements, deleted_elements, element_characters}
 use Rattle.rga_doc.proofs.EditLaws.{allowed}
 use Rattle.rga_doc.proofs.UndoLists.{inserted_elements-append, inserted_elements-deletions, deleted_elements-revert}

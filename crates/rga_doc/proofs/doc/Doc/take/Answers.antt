@@ -1,4 +1,4 @@
-use Rattle.rga_doc.proofs.Prelude.{◌≡◌, List, sym, ap, ◌∙◌, join, content_of, list_answer, text, Splice, text_after, Document}
+use Rattle.rga_doc.proofs.Prelude.{◌≡◌, sym, ap, ◌∙◌, join, content_of, list_answer, text, text_after, Document}
 use Rattle.rga_doc.proofs.EditLaws.{splices_taken, splices_taken_text}
 use Rattle.rga_doc.proofs.doc.Doc.take.Goals as goal
 
