@@ -25,11 +25,7 @@ mod reader;
 mod reading;
 mod report;
 mod status;
-#[cfg(test)]
-mod status_tests;
 mod status_values;
-#[cfg(test)]
-mod tests;
 mod values;
 
 pub use lines::status_line;

@@ -2,7 +2,8 @@
 //! lines that are lent, runs at stores that are nearly full, writes in blocks, plans that no key
 //! leads to, cursors that no window shows, frames and texts that are not flushed, saves over a port
 //! that refuses, files over a disk that fails, stores and logs that are compacted, notes that are
-//! mended, and logs that are read by their names, with what is counted in them.
+//! mended, logs that are read by their names, with what is counted in them, reports that are read,
+//! and a status in full.
 #![tactic(auto)]
 
 #[cfg(test)]
@@ -26,6 +27,8 @@ mod notes;
 #[cfg(test)]
 mod plans;
 #[cfg(test)]
+mod reports;
+#[cfg(test)]
 mod runs;
 #[cfg(test)]
 mod saves;
@@ -37,3 +40,5 @@ mod sending;
 mod sessions;
 #[cfg(test)]
 mod shows;
+#[cfg(test)]
+mod statuses;

@@ -1,14 +1,5 @@
 -- The element left of a place in the visible elements is the one that the place is behind, and has that place.
-use Rattle.std.proofs.Common.{◌≡◌, ℕ, zero, suc, ◌+◌, ◌<◌, ◌≤◌, length, refl, sym, ap, ◌∙◌, arith}
-use Rattle.std.specs.Prelude.{Some}
-use Rattle.std.specs.Option.{unwrap_or}
-use Rattle.std.specs.List.{slice_get}
-use Rattle.std.proofs.lemmas.Option.{slice_get-get_or}
-use Rattle.rga_ops.specs.Identifier.{root}
-use Rattle.rga_ops.specs.Content.{Content}
-use Rattle.rga_ops.specs.Places.{visible, place}
-use Rattle.rga_ops.proofs.VisibleLaws.{own_index, place_at}
-use Rattle.rga_doc.specs.LocalEdit.{left_of, element_behind}
+use Rattle.rga_doc.proofs.Prelude.{◌≡◌, ℕ, zero, suc, ◌+◌, ◌<◌, ◌≤◌, length, refl, sym, ap, ◌∙◌, arith, Some, unwrap_or, slice_get, slice_get-get_or, root, Content, visible, place, own_index, place_at, left_of, element_behind}
 
 left_there : (c : Content) (k : ℕ) → k < length (visible c) → slice_get (visible c) k ≡ Some (left_of (visible c) (suc k))
 left_there c k within =

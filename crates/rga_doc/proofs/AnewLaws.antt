@@ -1,8 +1,6 @@
 -- A text that is listed anew, splice by splice from the front: what stands behind a splice waits for none before it.
-use Rattle.std.proofs.Common.{◌≡◌, ℕ, zero, suc, ◌+◌, ◌<◌, ◌≤◌, ◌&&◌, nat_le, true, get_or, List, [], ◌∷◌, ◌++◌, take, drop, length, refl, sym, ap, ◌∙◌, arith, append_assoc, append-nil, length-take-le, take-append-drop, take-take}
-use Rattle.std.proofs.lemmas.Bool.Decides.{nat_tests}
-use Rattle.std.proofs.lemmas.List.{take-append-le, drop-append-le, drop_all, drop_more}
-use Rattle.rga_ops.specs.Splice.{Splice, spliced, text_after, are_falling, end_of, new_characters}
+use Rattle.rga_doc.proofs.Prelude.{◌≡◌, ℕ, zero, suc, ◌+◌, ◌<◌, ◌≤◌, true, get_or, List, [], ◌∷◌, ◌++◌, take, drop, length, refl, sym, ap, ◌∙◌, arith, append_assoc, append-nil, length-take-le, take-append-drop, take-take}
+use Rattle.rga_doc.proofs.Prelude.{take-append-le, drop-append-le, drop_all, drop_more, Splice, spliced, text_after, are_falling, end_of, new_characters}
 use Rattle.rga_doc.proofs.SplicedCharacters.{long-spliced}
 use Rattle.rga_doc.proofs.FallingLaws.{falls_first, fewer, characters_left, falls_wider}
 
@@ -24,10 +22,7 @@ falling_end (s ∷ splices) bound h = (falls_first s splices bound h).within
 
 -- and fall within their own end
 pub falling_to_end : (s : Splice) (splices : List Splice) → s.lo ≤ s.hi → are_falling s.lo splices ≡ true → are_falling s.hi (s ∷ splices) ≡ true
-falling_to_end s splices up further =
-    let ordered : nat_le s.lo s.hi ≡ true = grind (arith, nat_tests) in
-    let within : nat_le s.hi s.hi ≡ true = grind (arith, nat_tests) in
-    λ k. (ordered k && within k) && further k
+falling_to_end s splices up further = grind arith
 
 -- a splice and those left of it, which are the ones that follow
 pub record IsNext (splices : List Splice) (bound i next : ℕ) (s : Splice) : Type 0 where
@@ -57,9 +52,7 @@ is_next splices bound i next s follows h within is =
 
 -- a splice of the front leaves what stands behind it
 spliced_front : {A : Type 0} (front back put : List A) (lo hi : ℕ) → lo ≤ hi → hi ≤ length front → spliced (front ++ back) lo hi put ≡ spliced front lo hi put ++ back
-spliced_front front back put lo hi up within =
-    (λ k. (take-append-le lo front back (omega (arith, up, within)) k ++ put) ++ drop-append-le hi front back within k)
-    ∙ sym (append_assoc (take lo front ++ put) (drop hi front) back)
+spliced_front front back put lo hi up within = grind (arith, take-append-le, drop-append-le, append_assoc, take, drop)
 
 text_front : (front back : List ℕ) (splices : List Splice) → are_falling (length front) splices ≡ true → text_after (front ++ back) splices ≡ text_after front splices ++ back
 text_front front back [] h = refl

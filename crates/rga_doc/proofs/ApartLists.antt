@@ -1,12 +1,7 @@
 -- Lists of elements that are apart from one another.
-use Rattle.std.proofs.Common.{◌≡◌, ℕ, zero, suc, true, false, not, ◌||◌, List, [], ◌∷◌, ◌++◌, take, refl, ap, sym, ◌∙◌, true≢false}
-use Rattle.std.specs.List.{list_any, AllByRecursion, IsDistinct}
-use Rattle.rga_ops.specs.Identifier.{Identifier, is_id}
-use Rattle.rga_ops.specs.Placement.{without}
-use Rattle.rga_ops.proofs.IdentifierLaws.{is, same_id, is_swap, is_id-same}
-use Rattle.rga_ops.proofs.MemberLaws.{all_append, all_map, distinct_filter}
-use Rattle.std.proofs.lemmas.Bool.{not-true}
-use Rattle.rga_doc.specs.Revert.{distinct_elements}
+use Rattle.rga_doc.proofs.Prelude.{◌≡◌, ℕ, suc, true, false, not, ◌||◌, List, [], ◌∷◌, ◌++◌, take, refl, ap, sym, ◌∙◌, true≢false, list_any, AllByRecursion, Identifier, is_id, without, is, same_id, is_swap, is_id-same, all_append, all_map}
+use Rattle.rga_doc.proofs.Prelude.{distinct_filter, not-true, distinct_elements}
+use Rattle.std.specs.List.{IsDistinct}
 use Rattle.rga_doc.proofs.RevertLaws.{all_that_pass}
 use Rattle.rga_doc.proofs.UndoLists.{all_take}
 
@@ -28,9 +23,8 @@ apart_right [] ys h = h
 apart_right (x ∷ xs) ys h = apart_right xs ys h.1
 
 pub apart_take : (n : ℕ) (xs : List Identifier) → Apart xs → Apart (take n xs)
-apart_take zero xs h = tt
-apart_take (suc n) [] h = tt
 apart_take (suc n) (x ∷ xs) h = (all_take (λ y. is x y ≡ false) n xs h.0, apart_take n xs h.1)
+apart_take n xs h = tt
 
 -- what is in the first part is apart from the second one
 pub apart_parts : (xs ys : List Identifier) (y : Identifier) → Apart (xs ++ ys) → list_any (is y) xs ≡ true → AllByRecursion (λ z. is z y ≡ false) ys

@@ -1,13 +1,6 @@
 -- Where no element waits, the inserted ones are the complete ones.
-use Rattle.std.proofs.Common.{◌≡◌, Bool, true, false, cond, not, ◌||◌, is_some, List, [], ◌∷◌, filter, length, refl, sym, ap, ◌∙◌, true≢false, arith}
-use Rattle.std.specs.List.{list_any}
+use Rattle.rga_doc.proofs.Prelude.{◌≡◌, Bool, true, false, cond, not, ◌||◌, is_some, List, [], ◌∷◌, filter, length, refl, sym, ap, ◌∙◌, true≢false, arith, list_any, Identifier, Content, is_complete, waiting, is, same_id, inserted_if_complete}
 use Rattle.std.specs.FinMap as finite_map
-use Rattle.rga_ops.specs.Identifier.{Identifier}
-use Rattle.rga_ops.specs.Content.{Content}
-use Rattle.rga_ops.specs.RootPath.{is_complete}
-use Rattle.rga_ops.specs.Order.{waiting}
-use Rattle.rga_ops.proofs.IdentifierLaws.{is, same_id}
-use Rattle.rga_ops.proofs.PathLaws.{inserted_if_complete}
 
 -- where all pass, one that does not is not there
 none_there : (p : Identifier → Bool) (xs : List Identifier) (q : Identifier) → length (filter (λ x. not (p x)) xs) ≡ 0 → p q ≡ false → list_any (is q) xs ≡ false

@@ -1,34 +1,18 @@
 -- Local edits: the operations of an allowed splice, and of several in turn, are taken, and they change the text and the
 -- order at their place.
-use Rattle.std.proofs.Common.{◌≡◌, ℕ, ◌+◌, ◌<◌, ◌≤◌, suc, Bool, true, false, cond, ◌&&◌, nat_le, nat_lt, leb-true, ltb-false, List, [], ◌∷◌, ◌++◌, map, take, drop, length, refl, sym, ap, ◌∙◌, subst, arith, drop_at, drop-drop, length-take-le}
-use Rattle.std.specs.Prelude.{Some, None, Ok, Err}
-use Rattle.std.specs.Option.{unwrap_or}
-use Rattle.std.specs.List.{slice_get, filter_map}
-use Rattle.std.specs.FinSet as finite_set
-use Rattle.std.proofs.lemmas.Bool.{and_parts}
-use Rattle.std.proofs.lemmas.Option.{slice_get_within}
-use Rattle.rga_ops.specs.Identifier.{Identifier, identifier, root}
-use Rattle.rga_ops.specs.Content.{Content, known_ids, clock_of, join, single, content_of}
-use Rattle.rga_ops.specs.Order.{order, text}
-use Rattle.rga_ops.specs.Places.{visible}
-use Rattle.rga_ops.specs.Splice.{Splice, spliced, text_after, are_falling, new_characters}
-use Rattle.rga_ops.specs.ListAnswer.{Verdict, and_check, union_answer, list_answer}
-use Rattle.rga_ops.proofs.VisibleLaws.{text_long}
-use Rattle.rga_ops.proofs.ListAnswerLaws.{union_taken-iff}
-use Rattle.rga_ops.proofs.NewestLaws.{newest_element, order-newest}
+use Rattle.rga_doc.proofs.Prelude.{◌≡◌, ℕ, ◌+◌, ◌<◌, ◌≤◌, suc, Bool, true, ◌&&◌, nat_le, leb-true, List, [], ◌∷◌, ◌++◌, map, take, drop, length, refl, sym, ap, ◌∙◌, subst, arith, drop_at, drop-drop, length-take-le}
+use Rattle.rga_doc.proofs.Prelude.{Some, None, Ok, unwrap_or, slice_get, filter_map, and_parts, slice_get_within, Identifier, identifier, root, Content, known_ids, clock_of, join, single, content_of, order, text, visible, Splice, spliced}
+use Rattle.rga_doc.proofs.Prelude.{text_after, are_falling, new_characters, list_answer, text_long, newest_element, order-newest, visible-deletion_at, order-deletion, Op, Insert, Delete}
+use Rattle.rga_doc.proofs.Prelude.{left_of, chain, splice_operations, splices_operations, draft_operations, counter_answer, edit_answer, splice_answer, splices_answer, new_ids, put_row_behind, order_after, elements_after}
+use Rattle.rga_doc.proofs.Prelude.{all_map}
 use Rattle.rga_ops.proofs.NewestTextLaws.{visible_at}
-use Rattle.rga_ops.proofs.DeletionLaws.{visible-deletion_at, order-deletion}
-use Rattle.rga_ops.specs.declared.op.Op.{Op}
-use Rattle.rga_ops.specs.declared.op.Op.TheVariants.{Insert, Delete}
-use Rattle.rga_ops.specs.declared.refusal.Refusal.TheVariants.{Full, Range}
-use Rattle.rga_ops.proofs.AnswerLaws.{passed, bad}
-use Rattle.rga_doc.specs.LocalEdit.{left_of, chain, splice_operations, splices_operations, draft_operations, room_answer, place_answer, counter_answer, edit_answer, splice_answer, splices_answer, new_ids, put_row_behind, order_after, elements_after}
 use Rattle.rga_doc.proofs.FallingLaws.{falls_first}
 use Rattle.rga_doc.proofs.SplicedCharacters.{cut, length-cut, same_begin}
 use Rattle.rga_doc.proofs.SplicedLists.{get_at_drop, same_left, put_no_row, put_row_on}
-use Rattle.rga_doc.proofs.EditSteps.{Leads, leads_nowhere, leads_on, Shows, shows_itself, shows_on, shows_begin, shows_long, deletion_leads, deletion_shows, IsLeft, left_is, left_stands, newest, insertion_leads, insertion_visible, insertion_shows, not_in_order}
+use Rattle.rga_doc.proofs.EditSteps.{Leads, leads_nowhere, leads_on, Shows, shows_itself, shows_on, shows_begin, shows_long, deletion_leads, deletion_shows, IsLeft, left_is, left_stands, newest, insertion_leads, insertion_visible, insertion_shows}
+use Rattle.rga_doc.proofs.EditSteps.{not_in_order}
 use Rattle.rga_doc.proofs.UndoLists.{Reading, reads_behind, new_ids-newer}
-use Rattle.rga_ops.proofs.MemberLaws.{all_map}
+use Rattle.std.specs.FinSet as finite_set
 
 -- ---- deletions of visible elements in a row
 
@@ -123,37 +107,16 @@ splices_at c replica lo hi put up within =
 
 -- ---- what is true of an allowed edit
 
--- two checks that find nothing
-both_pass : (r q : Verdict) → and_check r q ≡ passed → (r ≡ passed) × (q ≡ passed)
-both_pass (Ok u) q h = (refl, h)
-both_pass (Err e) q h = let clash : bad e ≡ passed = h in absurd (cc)
-
 pub allowed : (limit : ℕ) (c : Content) (in_range : Bool) (new : ℕ) → edit_answer limit c in_range new ≡ Ok tt → (finite_set.len (known_ids c) + new ≤ limit) × (in_range ≡ true)
-allowed limit c in_range new h =
-    let first = both_pass (room_answer limit c new) (and_check (place_answer in_range) (counter_answer c new)) h in
-    let second = both_pass (place_answer in_range) (counter_answer c new) first.1 in
-    (room (nat_lt limit (finite_set.len (known_ids c) + new)) refl first.0, in_it in_range second.0)
-  where
-    room : (b : Bool) → nat_lt limit (finite_set.len (known_ids c) + new) ≡ b → cond b (Err Full) (Ok (tt {0})) ≡ passed → finite_set.len (known_ids c) + new ≤ limit
-    room true t h = let clash : bad Full ≡ passed = h in absurd (cc)
-    room false f h = ltb-false limit (finite_set.len (known_ids c) + new) f
-
-    in_it : (b : Bool) → place_answer b ≡ passed → b ≡ true
-    in_it true h = refl
-    in_it false h = let clash : bad Range ≡ passed = h in absurd (cc)
+allowed limit c in_range new h = grind arith
 
 -- there are counters for what is new
 pub allowed_counters : (limit : ℕ) (c : Content) (in_range : Bool) (new : ℕ) → edit_answer limit c in_range new ≡ Ok tt → counter_answer c new ≡ Ok tt
-allowed_counters limit c in_range new h =
-    let first = both_pass (room_answer limit c new) (and_check (place_answer in_range) (counter_answer c new)) h in
-    (both_pass (place_answer in_range) (counter_answer c new) first.1).1
+allowed_counters limit c in_range new h = grind arith
 
 -- operations that lead to another content are taken where that has no more identifiers than the limit
 pub taken_if : (limit : ℕ) (c d : Content) (ops : List Op) (new : ℕ) → Leads c d ops new → finite_set.len (known_ids c) + new ≤ limit → list_answer limit c ops ≡ Ok tt
-taken_if limit c d ops new s room =
-    let fits : finite_set.len (known_ids (join c (content_of ops))) ≤ limit = subst (λ e. finite_set.len (known_ids e) ≤ limit) s.joined (omega (arith, s.size, room)) in
-    (λ j. and_check (s.well_formed j) (union_answer limit (s.free j) (join c (content_of ops))))
-    ∙ (union_taken-iff limit None (join c (content_of ops))).1 (refl, fits)
+taken_if limit c d ops new s room = grind arith
 
 -- ---- the laws of one splice
 
@@ -259,6 +222,4 @@ drafted_from (s ∷ splices) c replica elements last bound now reaches same fall
 
 -- the operations of several splices, each on what the ones before left, are those by the old text alone
 pub splices_drafted : (limit replica : ℕ) (c : Content) (splices : List Splice) → splices_answer limit c splices ≡ Ok tt → splices_operations replica c splices ≡ draft_operations replica (visible c) (clock_of c) splices
-splices_drafted limit replica c splices h =
-    let s = allowed limit c (are_falling (length (text c)) splices) (new_characters splices) h in
-    drafted_from splices c replica (visible c) (clock_of c) (length (text c)) refl (omega (arith, text_long c)) refl s.1
+splices_drafted limit replica c splices h = grind (arith, allowed, are_falling, length, text, new_characters, drafted_from, visible, clock_of, text_long)

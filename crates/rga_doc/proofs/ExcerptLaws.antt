@@ -1,19 +1,7 @@
 -- An excerpt of the visible elements gives an edit the operations that all of them do.
-use Rattle.std.proofs.Common.{◌≡◌, ℕ, zero, suc, ◌+◌, ◌-◌, ◌<◌, ◌≤◌, true, List, [], ◌∷◌, ◌++◌, map, take, drop, replicate, length, get_or, refl, sym, ap, ◌∙◌, subst, arith, length-append, length-drop, length-take-le, drop_at, take-take, drop-drop}
-use Rattle.std.specs.Prelude.{Some, Ok}
-use Rattle.std.specs.List.{slice_get, AllByRecursion}
-use Rattle.std.proofs.lemmas.List.{length-replicate}
-use Rattle.std.proofs.lemmas.Option.{same_Some, none-some}
-use Rattle.rga_ops.specs.Identifier.{Identifier, root}
-use Rattle.rga_ops.specs.Content.{Content, clock_of}
-use Rattle.rga_ops.specs.Order.{text}
-use Rattle.rga_ops.specs.Places.{visible}
-use Rattle.rga_ops.specs.Splice.{Splice, are_falling, end_of, new_characters}
-use Rattle.rga_ops.specs.declared.op.Op.{Op}
-use Rattle.rga_ops.specs.declared.op.Op.TheVariants.{Delete}
-use Rattle.rga_ops.proofs.VisibleLaws.{text_long}
-use Rattle.rga_doc.specs.Excerpt.{Excerpted, excerpt, begin_of}
-use Rattle.rga_doc.specs.LocalEdit.{left_of, chain, splice_operations_at, draft_operations, splice_operations, splices_operations, splices_answer}
+use Rattle.rga_doc.proofs.Prelude.{◌≡◌, ℕ, zero, suc, ◌+◌, ◌-◌, ◌<◌, ◌≤◌, true, List, [], ◌∷◌, ◌++◌, map, take, drop, replicate, length, get_or, refl, sym, ap, ◌∙◌, subst, arith, length-append, length-drop, length-take-le, drop_at, take-take}
+use Rattle.rga_doc.proofs.Prelude.{drop-drop, Some, Ok, slice_get, AllByRecursion, length-replicate, same_Some, none-some, Identifier, root, Content, clock_of, text, visible, Splice, are_falling, end_of, new_characters, Op, Delete, text_long}
+use Rattle.rga_doc.proofs.Prelude.{Excerpted, excerpt, begin_of, left_of, chain, splice_operations_at, draft_operations, splice_operations, splices_operations, splices_answer}
 use Rattle.rga_doc.proofs.SplicedCharacters.{part}
 use Rattle.rga_doc.proofs.SplicedLists.{same_drop_left, left_of-take}
 use Rattle.rga_doc.proofs.EditLaws.{allowed, splices_drafted}

@@ -1,9 +1,5 @@
 -- Splices that fall, those that are left of one, and how many characters they put.
-use Rattle.std.proofs.Common.{◌≡◌, ℕ, zero, suc, ◌+◌, ◌<◌, ◌≤◌, ◌&&◌, nat_le, leb-true, true, get_or, List, [], ◌∷◌, drop, length, refl, sym, ap, ◌∙◌, arith}
-use Rattle.std.proofs.lemmas.Bool.{and_parts}
-use Rattle.std.proofs.lemmas.Bool.Decides.{nat_tests}
-use Rattle.std.proofs.lemmas.List.{at_drop_more}
-use Rattle.rga_ops.specs.Splice.{Splice, are_falling, new_characters}
+use Rattle.rga_doc.proofs.Prelude.{◌≡◌, ℕ, zero, suc, ◌+◌, ◌<◌, ◌≤◌, nat_le, true, get_or, List, [], ◌∷◌, drop, length, refl, sym, ap, ◌∙◌, arith, nat_tests, at_drop_more, Splice, are_falling, new_characters}
 
 -- the first of the splices keeps within the bound, and the others before it
 pub record Falls (s : Splice) (splices : List Splice) (bound : ℕ) : Type 0 where
@@ -12,19 +8,12 @@ pub record Falls (s : Splice) (splices : List Splice) (bound : ℕ) : Type 0 whe
   pub further : are_falling s.lo splices ≡ true
 
 pub falls_first : (s : Splice) (splices : List Splice) (bound : ℕ) → are_falling bound (s ∷ splices) ≡ true → Falls s splices bound
-falls_first s splices bound h =
-    let parts = and_parts (nat_le s.lo s.hi && nat_le s.hi bound) (are_falling s.lo splices) h in
-    let places = and_parts (nat_le s.lo s.hi) (nat_le s.hi bound) parts.0 in
-    record { up = leb-true s.lo s.hi places.0; within = leb-true s.hi bound places.1; further = parts.1 }
+falls_first s splices bound h = grind arith
 
 -- splices that fall within a bound fall within each greater one
 pub falls_wider : (splices : List Splice) (a b : ℕ) → a ≤ b → are_falling a splices ≡ true → are_falling b splices ≡ true
 falls_wider [] a b up h = refl
-falls_wider (s ∷ splices) a b up h =
-    let first = falls_first s splices a h in
-    let ordered : nat_le s.lo s.hi ≡ true = grind (arith, nat_tests) in
-    let within : nat_le s.hi b ≡ true = grind (arith, nat_tests) in
-    λ k. (ordered k && within k) && first.further k
+falls_wider (s ∷ splices) a b up h = grind (arith, falls_first, nat_le, true, nat_tests)
 
 -- those that are left have no more characters than all
 pub fewer : (splices : List Splice) (i : ℕ) → new_characters (drop i splices) ≤ new_characters splices

@@ -1,20 +1,7 @@
 -- One new operation of another replica, made in what is listed.
-use Rattle.std.proofs.Common.{◌≡◌, ℕ, suc, ◌+◌, ◌<◌, ◌≤◌, true, false, List, [], ◌∷◌, length, refl, sym, ap, ◌∙◌, subst, arith}
-use Rattle.std.specs.Prelude.{Option, Some, None, IfSome}
-use Rattle.std.specs.List.{slice_get}
-use Rattle.std.specs.FinMap as finite_map
-use Rattle.std.proofs.lemmas.Option.{slice_get_within}
-use Rattle.rga_ops.specs.Identifier.{Identifier}
-use Rattle.rga_ops.specs.Content.{Content, join, single}
-use Rattle.rga_ops.specs.Order.{text}
-use Rattle.rga_ops.specs.Places.{is_visible, visible}
-use Rattle.rga_ops.specs.Splice.{spliced}
-use Rattle.rga_ops.specs.declared.op.Op.{Op}
-use Rattle.rga_ops.specs.declared.op.Op.TheVariants.{Insert, Delete}
-use Rattle.rga_ops.proofs.IdentifierLaws.{is}
-use Rattle.rga_ops.proofs.VisibleLaws.{text_long, visible_elements}
+use Rattle.rga_doc.proofs.Prelude.{◌≡◌, ℕ, suc, ◌+◌, ◌<◌, ◌≤◌, true, false, List, [], ◌∷◌, length, refl, sym, ap, ◌∙◌, subst, arith, Option, Some, IfSome, slice_get, slice_get_within, Identifier, Content, join, single, text, is_visible}
+use Rattle.rga_doc.proofs.Prelude.{visible, spliced, Op, Insert, Delete, is, text_long, visible_elements, DeletesAt, IsTextBefore}
 use Rattle.rga_ops.proofs.PlaceLaws.{index_in, text-insertion_at, absent_if_new, text-insertion_hidden, visible-deletion_cut, text-deletion_cut, text-deletion_hidden}
-use Rattle.rga_doc.specs.Relisting.{DeletesAt, IsTextBefore}
 use Rattle.rga_doc.proofs.SplicedCharacters.{length-spliced}
 
 -- as many are visible as before where they are as many as are listed
@@ -41,14 +28,10 @@ deleted_there c id at k characters b is = subst (λ o. IfSome o (DeletesAt (visi
 
 -- which is in the text
 pub deleted_within : (c : Content) (id : Identifier) (at : Option ℕ) (k : ℕ) (characters : List ℕ) → IsTextBefore c (Delete id) at characters → at ≡ Some k → k < length characters
-deleted_within c id at k characters b is =
-    let within : k < length (visible b.before) = slice_get_within (visible b.before) k id (deleted_there c id at k characters b is) in
-    omega (arith, within, ap length b.text_before, text_long b.before)
+deleted_within c id at k characters b is = grind (arith, is, length, visible, slice_get_within, deleted_there, text_long)
 
 pub cut_is_listed : (c : Content) (id : Identifier) (at : Option ℕ) (k : ℕ) (characters now : List ℕ) → IsTextBefore c (Delete id) at characters → at ≡ Some k → now ≡ spliced characters k (k + 1) [] → now ≡ text c
-cut_is_listed c id at k characters now b is cut =
-    let next : k + 1 ≡ suc k = omega arith in
-    cut ∙ (λ i. spliced (b.text_before i) k (next i) []) ∙ sym (text-deletion_cut b.before id k (deleted_there c id at k characters b is)) ∙ ap text (sym b.taken)
+cut_is_listed c id at k characters now b is cut = grind (arith, is, suc, spliced, text-deletion_cut, deleted_there, text)
 
 pub deletion_is_hidden : (c : Content) (id : Identifier) (at : Option ℕ) (characters : List ℕ) → IsTextBefore c (Delete id) at characters → length (visible c) ≡ length characters → characters ≡ text c
 deletion_is_hidden c id at characters b as_many =
@@ -63,17 +46,7 @@ insertion_is_hidden c id parent ch at characters b as_many =
 
 -- an index is in the list, or its end, if one more is visible than it has
 pub index_within : (c : Content) (id : Identifier) (k count : ℕ) → slice_get (visible c) k ≡ Some id → length (visible c) ≡ count + 1 → k ≤ count
-index_within c id k count there more =
-    let within : k < length (visible c) = slice_get_within (visible c) k id there in
-    omega (arith, within, more)
+index_within c id k count there more = grind (arith, length, visible, slice_get_within)
 
 pub put_is_listed : (c : Content) (id parent : Identifier) (ch index : ℕ) (at : Option ℕ) (characters now : List ℕ) → IsTextBefore c (Insert id parent ch) at characters → slice_get (visible c) index ≡ Some id → length (visible c) ≡ length characters + 1 → now ≡ spliced characters index index (ch ∷ []) → now ≡ text c
-put_is_listed c id parent ch index at characters now b there more put =
-    let op : Op = Insert id parent ch in
-    let absent : finite_map.get b.before.inserted id ≡ None = absent_if_new b.limit b.before id parent ch b.new in
-    let stands : slice_get (visible (join b.before (single op))) index ≡ Some id = ap (λ d. slice_get (visible d) index) (sym b.taken) ∙ there in
-    let next : length characters + 1 ≡ suc (length characters) = omega arith in
-    let one_more : length (visible (join b.before (single op))) ≡ suc (length (visible b.before)) =
-    ap (λ d. length (visible d)) (sym b.taken) ∙ more ∙ next ∙ ap suc (ap length b.text_before ∙ text_long b.before) in
-    put ∙ ap (λ xs. spliced xs index index (ch ∷ [])) b.text_before
-    ∙ sym (text-insertion_at b.before id parent ch index absent stands one_more) ∙ ap text (sym b.taken)
+put_is_listed c id parent ch index at characters now b there more put = grind (arith, absent_if_new, slice_get, visible, join, single, length, suc, text_long, spliced, text-insertion_at, text)

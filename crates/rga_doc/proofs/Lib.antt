@@ -1,3 +1,4 @@
+pub mod Prelude
 pub mod SplicedCharacters
 pub mod FallingLaws
 pub mod CharacterLaws

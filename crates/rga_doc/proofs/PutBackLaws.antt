@@ -1,19 +1,7 @@
 -- Each restored element stands directly behind the one that it restores.
-use Rattle.std.proofs.Common.{◌≡◌, ℕ, zero, suc, ◌+◌, true, false, cond, ◌||◌, List, [], ◌∷◌, ◌++◌, length, refl, sym, ap, ◌∙◌, subst, arith, true≢false}
-use Rattle.std.specs.Prelude.{Some, Ok}
-use Rattle.std.specs.List.{list_any, slice_get, AllByRecursion}
-use Rattle.std.proofs.lemmas.Bool.{or_right}
-use Rattle.std.proofs.lemmas.Option.{none-some}
-use Rattle.rga_ops.specs.Identifier.{Identifier, identifier, is_id, is_root}
-use Rattle.rga_ops.specs.Content.{Content, clock_of, join, content_of}
-use Rattle.rga_ops.specs.RootPath.{is_complete}
-use Rattle.rga_ops.specs.Order.{order}
-use Rattle.rga_ops.specs.Placement.{change_after, put_behind}
-use Rattle.rga_ops.proofs.IdentifierLaws.{is, is_id-same, is_id-is}
-use Rattle.rga_ops.proofs.MemberLaws.{all_map}
-use Rattle.rga_ops.proofs.OrderLaws.{order_list}
-use Rattle.rga_ops.proofs.PathLaws.{is_complete-iff, not_complete_root}
-use Rattle.rga_doc.specs.Revert.{revert_operations, revert_answer, are_restorable, put_back, StandsDirectlyBehind}
+use Rattle.rga_doc.proofs.Prelude.{◌≡◌, ℕ, zero, suc, ◌+◌, true, false, cond, ◌||◌, List, [], ◌∷◌, ◌++◌, length, refl, sym, ap, ◌∙◌, subst, arith, true≢false, Some, Ok, list_any, slice_get, AllByRecursion, or_right, none-some, Identifier, identifier}
+use Rattle.rga_doc.proofs.Prelude.{is_id, is_root, Content, clock_of, join, content_of, is_complete, order, change_after, put_behind, is, is_id-same, is_id-is, all_map, order_list, is_complete-iff, not_complete_root, revert_operations, revert_answer}
+use Rattle.rga_doc.proofs.Prelude.{are_restorable, put_back, StandsDirectlyBehind}
 use Rattle.rga_doc.proofs.EditLaws.{allowed}
 use Rattle.rga_doc.proofs.RevertSets.{elements_of, AreApart, apart_if_restorable}
 use Rattle.rga_doc.proofs.RevertLaws.{back_complete, revert_order}
@@ -46,16 +34,10 @@ put_between [] after x y parent z other =
       | true ↦ record { before = []; after = z ∷ after; parts = refl }
       | false ↦ record { before = []; after = rest; parts = refl }
     ])
-put_between (w ∷ before) after x y parent z other = elim (is_id w parent) as (λ b. StandsDirectlyBehind (cond b (w ∷ z ∷ (before ++ x ∷ y ∷ after)) (w ∷ change_after parent (λ ys. z ∷ ys) (before ++ x ∷ y ∷ after))) x y) [
-  | true ↦ record { before = w ∷ z ∷ before; after = after; parts = refl }
-  | false ↦ further w (put_between before after x y parent z other)
-]
+put_between (w ∷ before) after x y parent z other = grind (arith, is_id, change_after, true, false, further, put_between before after x y parent z other)
 
 stays_behind : (xs : List Identifier) (x y parent z : Identifier) → is_id x parent ≡ false → StandsDirectlyBehind xs x y → StandsDirectlyBehind (put_behind parent z xs) x y
-stays_behind xs x y parent z other s = elim (is_root parent) as (λ b. StandsDirectlyBehind (cond b (z ∷ xs) (change_after parent (λ ys. z ∷ ys) xs)) x y) [
-  | true ↦ further z s
-  | false ↦ subst (λ ys. StandsDirectlyBehind (change_after parent (λ ys. z ∷ ys) ys) x y) (sym s.parts) (put_between s.before s.after x y parent z other)
-]
+stays_behind xs x y parent z other s = grind (arith, is_root, change_after, true, further, false, put_between)
 
 stays_put_back : (back : List (Identifier × ℕ)) (replica last : ℕ) (xs : List Identifier) (x y : Identifier) → AllByRecursion (λ q. is q x ≡ false) (elements_of back) → StandsDirectlyBehind xs x y → StandsDirectlyBehind (put_back replica last back xs) x y
 stays_put_back [] replica last xs x y apart s = s
@@ -107,14 +89,9 @@ all_behind (b ∷ back) replica last xs all apart =
     )
 
 each_behind : (back : List (Identifier × ℕ)) (replica last : ℕ) (ys : List Identifier) (i : ℕ) (b : Identifier × ℕ) → AreBehind ys replica last back → slice_get back i ≡ Some b → StandsDirectlyBehind ys b.0 (identifier (last + (i + 1)) replica)
-each_behind [] replica last ys zero b all at = absurd (none-some b at)
-each_behind [] replica last ys (suc i) b all at = absurd (none-some b at)
-each_behind (e ∷ back) replica last ys zero b all at =
-    let same : e ≡ b = cc in
-    subst (λ (x : Identifier × ℕ). StandsDirectlyBehind ys x.0 (identifier (last + 1) replica)) same all.0
-each_behind (e ∷ back) replica last ys (suc i) b all at =
-    let counter : last + 1 + (i + 1) ≡ last + (suc i + 1) = omega arith in
-    subst (λ n. StandsDirectlyBehind ys b.0 (identifier n replica)) counter (each_behind back replica (last + 1) ys i b all.1 at)
+each_behind (e ∷ back) replica last ys zero b all at = grind (arith, identifier)
+each_behind (e ∷ back) replica last ys (suc i) b all at = grind (arith, suc, identifier, each_behind back replica (last + 1) ys i b all.1 at)
+each_behind back replica last ys i b all at = absurd (none-some b at)
 
 complete_in : (c : Content) (q : Identifier) → is_complete c q ≡ true → IsIn (order c) q
 complete_in c q h = record { element = not_complete_root ((is_complete-iff c q).0 h); member = (order_list c).elements q ∙ h }

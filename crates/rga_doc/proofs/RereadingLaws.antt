@@ -1,39 +1,17 @@
 -- A revert leaves the text outside the margins round what it deletes and what it inserts.
-use Rattle.std.proofs.Common.{◌≡◌, ℕ, zero, suc, ◌+◌, ◌-◌, ◌<◌, ◌≤◌, Bool, true, false, cond, not, ◌&&◌, ◌||◌, nat_le, List, [], ◌∷◌, ◌++◌, map, filter, take, drop, length, get_or, refl, sym, ap, ◌∙◌, subst, true≢false, arith, append_assoc, length-append, length-drop, take-append-drop, take_at, drop_at}
-use Rattle.std.specs.Prelude.{Option, Some, None, Ok, IfSome}
-use Rattle.std.specs.Option.{option_map}
-use Rattle.std.specs.List.{list_any, slice_get, AllByRecursion}
-use Rattle.std.specs.FinMap as finite_map
-use Rattle.std.specs.FinSet as finite_set
-use Rattle.std.proofs.Math.Bool.{and-true, and-false}
-use Rattle.std.proofs.lemmas.Bool.{and_parts, not-true, not-false}
-use Rattle.std.proofs.lemmas.Bool.Decides.{nat_tests}
-use Rattle.std.proofs.lemmas.List.{map-append, take-map, drop-map, take_more}
-use Rattle.std.proofs.lemmas.Option.{same_Some}
-use Rattle.rga_ops.specs.Identifier.{Identifier, identifier, is_id, is_root}
-use Rattle.rga_ops.specs.Content.{Element, element_at, Content, clock_of, join, content_of}
-use Rattle.rga_ops.specs.Operation.{id_of}
-use Rattle.rga_ops.specs.RootPath.{is_complete}
-use Rattle.rga_ops.specs.Order.{order, text}
-use Rattle.rga_ops.specs.Places.{is_visible, visible, character}
-use Rattle.rga_ops.specs.Placement.{change_after, put_behind}
-use Rattle.rga_ops.specs.Splice.{spliced}
-use Rattle.rga_ops.specs.declared.op.Op.{Op}
-use Rattle.rga_ops.specs.declared.op.Op.TheVariants.{Delete}
-use Rattle.rga_ops.proofs.IdentifierLaws.{is}
-use Rattle.rga_ops.proofs.MemberLaws.{all_map, all_members, of_member, filter_alike}
-use Rattle.rga_ops.proofs.ContentLaws.{within_join}
+use Rattle.rga_doc.proofs.Prelude.{◌≡◌, ℕ, zero, suc, ◌+◌, ◌-◌, ◌<◌, ◌≤◌, Bool, true, false, cond, not, ◌&&◌, ◌||◌, nat_le, List, [], ◌∷◌, ◌++◌, map, filter, take, drop, length, get_or, refl, sym, ap, ◌∙◌, subst, true≢false, arith, append_assoc}
+use Rattle.rga_doc.proofs.Prelude.{length-append, length-drop, take-append-drop, take_at, drop_at, Option, Some, None, Ok, IfSome, option_map, list_any, slice_get, AllByRecursion, and-true, and-false, and_parts, not-true, not-false, nat_tests}
+use Rattle.rga_doc.proofs.Prelude.{map-append, take-map, drop-map, take_more, same_Some, Identifier, identifier, is_id, is_root, Element, element_at, Content, clock_of, join, content_of, id_of, is_complete, order, text, is_visible, visible}
+use Rattle.rga_doc.proofs.Prelude.{character, change_after, put_behind, spliced, Op, Delete, is, all_map, all_members, of_member, filter_alike, within_join, inserted_if_complete, is_kept, order_complete, visible_is, text_is, text_long, filtered}
+use Rattle.rga_doc.proofs.Prelude.{characters_within, own_index, place_at, StandsBetween, AllBetween, AgreeOutside, distinct_elements, restorations, revert_operations, revert_answer, put_back, inserted_elements}
 use Rattle.rga_ops.proofs.ClockLaws.{within_clock}
-use Rattle.rga_ops.proofs.PathLaws.{inserted_if_complete}
-use Rattle.rga_ops.proofs.VisibleLaws.{is_kept, order_complete, visible_is, text_is, text_long, filtered, characters_within, own_index, place_at}
 use Rattle.rga_ops.proofs.PlacementLaws.{member_at}
 use Rattle.rga_ops.proofs.SpliceLaws.{same_characters}
-use Rattle.rga_doc.specs.Relisting.{StandsBetween, AllBetween, AgreeOutside}
-use Rattle.rga_doc.specs.Revert.{distinct_elements, restorations, revert_operations, revert_answer, put_back}
-use Rattle.rga_doc.specs.UndoGroup.{inserted_elements}
 use Rattle.rga_doc.proofs.SplicedCharacters.{cut}
 use Rattle.rga_doc.proofs.RevertLaws.{all_once, all_that_pass, revert_order}
 use Rattle.rga_doc.proofs.UndoLists.{AreNewer, not_among_newer, newer_still, deleted_by_revert}
+use Rattle.std.specs.FinMap as finite_map
+use Rattle.std.specs.FinSet as finite_set
 
 -- ---- lists that differ in what stands between margins
 
@@ -134,14 +112,7 @@ texts_agree c d front back alike begin end =
 
 -- a text that is read anew between margins is the new one
 pub read_anew : (front back old_end end : ℕ) (old new : List ℕ) → AgreeOutside front back old new → old_end ≡ length old - back → end ≡ length new - back → front ≤ end → spliced old front old_end (drop front (take end new)) ≡ new
-read_anew front back old_end end old new agree before now up =
-    let within : end ≤ length new = omega (arith, now) in
-    let part : List ℕ = drop front (take end new) in
-    let tail : drop old_end old ≡ drop end new = ap (λ n. drop n old) before ∙ agree.same_back ∙ ap (λ n. drop n new) (sym now) in
-    (λ k. (agree.same_front k ++ part) ++ tail k)
-    ∙ append_assoc (take front new) part (drop end new)
-    ∙ ap (λ ys. take front new ++ ys) (sym (cut new front end up within))
-    ∙ take-append-drop front new
+read_anew front back old_end end old new agree before now up = grind (arith, length, drop, take, append_assoc, cut, take-append-drop)
 
 -- ---- elements that stand between margins
 
@@ -153,12 +124,7 @@ index_between c front back i id between at =
 
 -- narrower margins hold too
 pub narrower : (c : Content) (front back f b : ℕ) (id : Identifier) → f ≤ front → b ≤ back → StandsBetween c front back id → StandsBetween c f b id
-narrower c front back f b id less fewer between = record {
-  index = between.index;
-  placed = between.placed;
-  not_in_front = omega (arith, less, between.not_in_front);
-  not_at_back = omega (arith, fewer, between.not_at_back);
-}
+narrower c front back f b id less fewer between = grind (arith)
 
 pub all_narrower : (c : Content) (front back f b : ℕ) (ops : List Op) → f ≤ front → b ≤ back → AllBetween c front back ops → AllBetween c f b ops
 all_narrower c front back f b [] less fewer all = tt
@@ -196,16 +162,11 @@ filter_put p parent id xs f = elim (is_root parent) as (λ b. filter p (cond b (
 
 filter_put_back : (p : Identifier → Bool) (back : List (Identifier × ℕ)) (replica last : ℕ) (xs : List Identifier) → AllByRecursion (λ x. p x ≡ false) (inserted_elements (restorations replica last back)) → filter p (put_back replica last back xs) ≡ filter p xs
 filter_put_back p [] replica last xs h = refl
-filter_put_back p (b ∷ back) replica last xs h =
-    filter_put_back p back replica (last + 1) (put_behind b.0 (identifier (last + 1) replica) xs) h.1
-    ∙ filter_put p b.0 (identifier (last + 1) replica) xs h.0
+filter_put_back p (b ∷ back) replica last xs h = grind (arith, put_behind, identifier, filter_put, filter_put_back p back replica (last + 1) (put_behind b.0 (identifier (last + 1) replica) xs) h.1)
 
 restorations_newer : (replica last : ℕ) (back : List (Identifier × ℕ)) → AreNewer last (inserted_elements (restorations replica last back))
 restorations_newer replica last [] = tt
-restorations_newer replica last (b ∷ back) = (
-  omega arith,
-  newer_still last (last + 1) (inserted_elements (restorations replica (last + 1) back)) (omega arith) (restorations_newer replica (last + 1) back),
-)
+restorations_newer replica last (b ∷ back) = grind (arith, newer_still, inserted_elements, restorations, restorations_newer replica (last + 1) back)
 
 -- the elements of deletions, and of restorations
 all_deleted : (P : Identifier → Type 0) (ids : List Identifier) → AllByRecursion (λ op. P (id_of op)) (map Delete ids) → AllByRecursion P ids

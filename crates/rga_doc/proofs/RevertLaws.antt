@@ -1,25 +1,8 @@
 -- Reverts: the operations of an allowed revert are taken, and each restored element goes in directly behind its own.
-use Rattle.std.proofs.Common.{◌≡◌, ℕ, ◌+◌, ◌<◌, suc, Bool, true, false, cond, not, ◌&&◌, ◌||◌, List, [], ◌∷◌, map, filter, length, refl, sym, ap, ◌∙◌, subst, arith}
-use Rattle.std.specs.Prelude.{Ok}
-use Rattle.std.specs.List.{list_any, AllByRecursion}
-use Rattle.std.specs.FinSet as finite_set
-use Rattle.std.proofs.lemmas.Bool.{and_parts, or_right}
-use Rattle.rga_ops.specs.Identifier.{Identifier, identifier, is_id, is_root}
-use Rattle.rga_ops.specs.Content.{Content, clock_of, join, single, content_of}
-use Rattle.rga_ops.specs.RootPath.{is_complete}
-use Rattle.rga_ops.specs.Order.{order}
-use Rattle.rga_ops.specs.Places.{is_visible}
-use Rattle.rga_ops.specs.ListAnswer.{list_answer}
-use Rattle.rga_ops.proofs.IdentifierLaws.{is, is_itself}
-use Rattle.rga_ops.proofs.MemberLaws.{all_map, all_filter}
-use Rattle.rga_ops.proofs.OrderLaws.{order_list}
-use Rattle.rga_ops.proofs.InsertionLaws.{is_root_or_complete, is_complete-insertion}
-use Rattle.rga_ops.proofs.NewestLaws.{newest_leaf, order-newest}
-use Rattle.rga_ops.proofs.DeletionLaws.{order-deletion}
-use Rattle.rga_ops.specs.declared.op.Op.TheVariants.{Insert, Delete}
-use Rattle.rga_doc.specs.Revert.{distinct_elements, restorations, revert_operations, are_restorable, revert_answer, put_back}
+use Rattle.rga_doc.proofs.Prelude.{◌≡◌, ℕ, ◌+◌, ◌<◌, suc, Bool, true, false, not, ◌&&◌, ◌||◌, List, [], ◌∷◌, map, filter, length, refl, sym, ap, ◌∙◌, subst, arith, Ok, list_any, AllByRecursion, and_parts, or_right, Identifier, identifier}
+use Rattle.rga_doc.proofs.Prelude.{is_id, is_root, Content, clock_of, join, single, content_of, is_complete, order, is_visible, list_answer, is, is_itself, all_map, all_filter, order_list, is_root_or_complete, is_complete-insertion, newest_leaf}
+use Rattle.rga_doc.proofs.Prelude.{order-newest, order-deletion, Insert, Delete, distinct_elements, restorations, revert_operations, are_restorable, revert_answer, put_back, inserted_elements}
 use Rattle.rga_doc.proofs.RevertSets.{among, elements_of}
-use Rattle.rga_doc.specs.UndoGroup.{inserted_elements}
 use Rattle.rga_doc.proofs.PlaceLaws.{complete_still}
 use Rattle.rga_doc.proofs.EditSteps.{Leads, leads_nowhere, leads_on, deletion_leads, newest, insertion_leads}
 use Rattle.rga_doc.proofs.EditLaws.{allowed, taken_if}
@@ -84,15 +67,10 @@ all_once P (id ∷ ids) h = (h.0, all_filter P (λ x. not (is_id x id)) (distinc
 
 pub all_that_pass : (p : Identifier → Bool) (ids : List Identifier) → AllByRecursion (λ x. p x ≡ true) (filter p ids)
 all_that_pass p [] = tt
-all_that_pass p (id ∷ ids) = elim (p id) as (λ b. p id ≡ b → AllByRecursion (λ x. p x ≡ true) (cond b (id ∷ filter p ids) (filter p ids))) [
-  | true ↦ λ t. (t, all_that_pass p ids)
-  | false ↦ λ f. all_that_pass p ids
-] refl
+all_that_pass p (id ∷ ids) = grind (arith, true, filter, false, all_that_pass p ids)
 
 pub gone_complete : (c : Content) (gone : List Identifier) → AreComplete c (distinct_elements (filter (is_visible c) gone))
-gone_complete c gone =
-    all_map (λ q. is_visible c q ≡ true) (λ q. is_complete c q ≡ true) (λ q h. (and_parts (is_complete c q) (not (finite_set.contains c.deleted q)) h).0) (distinct_elements (filter (is_visible c) gone))
-    (all_once (λ q. is_visible c q ≡ true) (filter (is_visible c) gone) (all_that_pass (is_visible c) gone))
+gone_complete c gone = grind (arith, all_map, is_visible, true, is_complete, and_parts, not, distinct_elements, filter, all_once, all_that_pass)
 
 pub back_complete : (c : Content) (back : List (Identifier × ℕ)) → are_restorable c back ≡ true → AreComplete c (elements_of back)
 back_complete c [] h = tt

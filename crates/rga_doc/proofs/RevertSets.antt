@@ -1,13 +1,7 @@
 -- Elements that were met before, in the lists of a revert.
-use Rattle.std.proofs.Common.{◌≡◌, ℕ, Bool, true, false, cond, not, ◌&&◌, ◌||◌, List, [], ◌∷◌, map, filter, refl, sym, ap, ◌∙◌}
-use Rattle.std.specs.List.{list_any, AllByRecursion}
-use Rattle.std.proofs.lemmas.Bool.{and_parts, or_parts, not-true}
-use Rattle.rga_ops.specs.Identifier.{Identifier, is_id}
-use Rattle.rga_ops.specs.Content.{Content}
-use Rattle.rga_ops.specs.RootPath.{is_complete}
-use Rattle.rga_ops.specs.Placement.{without}
-use Rattle.rga_ops.proofs.IdentifierLaws.{is, is_swap, is_id-same}
-use Rattle.rga_doc.specs.Revert.{distinct_elements, are_restorable}
+use Rattle.std.proofs.Common.{arith}
+use Rattle.rga_doc.proofs.Prelude.{◌≡◌, ℕ, Bool, true, false, cond, not, ◌&&◌, ◌||◌, List, [], ◌∷◌, map, filter, refl, sym, ap, ◌∙◌, list_any, AllByRecursion, and_parts, or_parts, not-true, Identifier, is_id, Content, is_complete, without, is}
+use Rattle.rga_doc.proofs.Prelude.{is_swap, is_id-same, distinct_elements, are_restorable}
 
 pub id_swap : (a b : Identifier) → is_id a b ≡ is_id b a
 id_swap a b = is_id-same a b ∙ is_swap b a ∙ sym (is_id-same b a)
@@ -29,15 +23,7 @@ none_at_first seen (b ∷ back) h = λ k. not (h b.0 k) && none_at_first seen ba
 
 unseen_more : (seen now : Identifier → Bool) (x : Identifier) (back : List (Identifier × ℕ)) → ((q : Identifier) → now q ≡ (is_id x q || seen q)) → none_seen now back ≡ (not (among x back) && none_seen seen back)
 unseen_more seen now x [] h = refl
-unseen_more seen now x (b ∷ back) h =
-    (λ k. not ((h b.0 ∙ ap (λ t. t || seen b.0) (id_swap x b.0)) k) && unseen_more seen now x back h k)
-    ∙ by (is_id b.0 x) (seen b.0) (among x back) (none_seen seen back)
-  where
-    by : (a s m r : Bool) → (not (a || s) && (not m && r)) ≡ (not (a || m) && (not s && r))
-    by true s m r = refl
-    by false true true r = refl
-    by false true false r = refl
-    by false false m r = refl
+unseen_more seen now x (b ∷ back) h = grind (arith, not, id_swap, is_id, true, false, unseen_more seen now x back h)
 
 pub able_on : (c : Content) (seen now : Identifier → Bool) (b : Identifier × ℕ) (back : List (Identifier × ℕ)) → is_complete c b.0 ≡ true → seen b.0 ≡ false → ((q : Identifier) → now q ≡ (is_id b.0 q || seen q)) → left_able c now back ≡ left_able c seen (b ∷ back)
 able_on c seen now b back complete new h =
@@ -87,12 +73,7 @@ all_new seen (x ∷ ids) h = ap (λ t. cond (not t) (x ∷ new_only seen ids) (n
 
 without_new : (seen now : Identifier → Bool) (x : Identifier) (ids : List Identifier) → ((q : Identifier) → now q ≡ (is_id x q || seen q)) → new_only seen (without x ids) ≡ new_only now ids
 without_new seen now x [] h = refl
-without_new seen now x (y ∷ ids) h = elim (is_id y x) as (λ b. is_id y x ≡ b → new_only seen (cond (not b) (y ∷ without x ids) (without x ids)) ≡ cond (not (now y)) (y ∷ new_only now ids) (new_only now ids)) [
-  | true ↦ λ t. without_new seen now x ids h ∙ sym (ap (λ s. cond (not s) (y ∷ new_only now ids) (new_only now ids)) (h y ∙ ap (λ a. a || seen y) (id_swap x y ∙ t)))
-  | false ↦ λ f.
-      ap (λ r. cond (not (seen y)) (y ∷ r) r) (without_new seen now x ids h)
-      ∙ sym (ap (λ s. cond (not s) (y ∷ new_only now ids) (new_only now ids)) (h y ∙ ap (λ a. a || seen y) (id_swap x y ∙ f)))
-] refl
+without_new seen now x (y ∷ ids) h = grind (arith, is_id, not, without, true, id_swap, false, without_new seen now x ids h)
 
 once_met : (seen now : Identifier → Bool) (x : Identifier) (ids : List Identifier) → seen x ≡ true → ((q : Identifier) → now q ≡ (is_id x q || seen q)) → new_only seen (distinct_elements (x ∷ ids)) ≡ new_only now (distinct_elements ids)
 once_met seen now x ids h more = ap (λ s. cond (not s) (x ∷ new_only seen (without x (distinct_elements ids))) (new_only seen (without x (distinct_elements ids)))) h ∙ without_new seen now x (distinct_elements ids) more

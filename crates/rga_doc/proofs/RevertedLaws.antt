@@ -1,17 +1,6 @@
 -- What a revert deleted can be restored, and what it inserted is complete.
-use Rattle.std.proofs.Common.{◌≡◌, ℕ, ◌+◌, Bool, true, false, ◌&&◌, ◌||◌, not, List, [], ◌∷◌, ◌++◌, map, filter, length, refl, sym, ap, ◌∙◌, subst}
-use Rattle.std.specs.Prelude.{Ok}
-use Rattle.std.specs.List.{list_any, list_all, AllByRecursion}
-use Rattle.rga_ops.specs.Identifier.{Identifier, is_id}
-use Rattle.rga_ops.specs.Content.{Content, clock_of, join, content_of}
-use Rattle.rga_ops.specs.RootPath.{is_complete}
-use Rattle.rga_ops.specs.Places.{is_visible}
-use Rattle.rga_ops.specs.declared.op.Op.{Op}
-use Rattle.rga_ops.specs.declared.op.Op.TheVariants.{Delete}
-use Rattle.rga_ops.proofs.IdentifierLaws.{is, is_id-same}
-use Rattle.rga_ops.proofs.MemberLaws.{all_map}
-use Rattle.rga_doc.specs.Revert.{distinct_elements, restorations, revert_operations, revert_answer, are_restorable}
-use Rattle.rga_doc.specs.UndoGroup.{inserted_elements, deleted_elements, element_characters}
+use Rattle.rga_doc.proofs.Prelude.{◌≡◌, ℕ, Bool, true, false, ◌&&◌, ◌||◌, not, List, [], ◌∷◌, ◌++◌, map, filter, length, refl, sym, ap, ◌∙◌, subst, Ok, list_any, list_all, AllByRecursion, Identifier, is_id, Content, clock_of, join, content_of}
+use Rattle.rga_doc.proofs.Prelude.{is_complete, is_visible, Op, Delete, is, is_id-same, all_map, distinct_elements, restorations, revert_operations, revert_answer, are_restorable, inserted_elements, deleted_elements, element_characters}
 use Rattle.rga_doc.proofs.EditLaws.{allowed}
 use Rattle.rga_doc.proofs.UndoLists.{inserted_elements-append, inserted_elements-deletions, deleted_elements-revert}
 use Rattle.rga_doc.proofs.PlaceLaws.{complete_still}

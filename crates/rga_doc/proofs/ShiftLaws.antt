@@ -1,7 +1,5 @@
 -- What a list has where a part of it was turned, or copied to another place of it.
-use Rattle.std.proofs.Common.{◌≡◌, ℕ, ◌+◌, ◌-◌, ◌≤◌, List, ◌++◌, take, drop, length, refl, sym, ap, ◌∙◌, arith, append_assoc, length-drop, length-take-le, take_at, drop_at, take-take, drop-drop}
-use Rattle.std.specs.List.{copy_within}
-use Rattle.std.proofs.lemmas.List.{drop-take}
+use Rattle.rga_doc.proofs.Prelude.{◌≡◌, ℕ, ◌+◌, ◌-◌, ◌≤◌, List, ◌++◌, take, drop, length, refl, sym, ap, ◌∙◌, arith, append_assoc, length-drop, length-take-le, take_at, drop_at, take-take, drop-drop, copy_within, drop-take}
 use Rattle.rga_doc.specs.Characters.{turned}
 use Rattle.rga_doc.proofs.SplicedCharacters.{part, same_begin, take-spliced}
 

@@ -1,7 +1,6 @@
 -- Lists that are spliced, one after the other, and parts that are cut out of them.
-use Rattle.std.proofs.Common.{◌≡◌, ℕ, ◌+◌, ◌-◌, ◌≤◌, List, [], ◌++◌, take, drop, length, sym, ap, ◌∙◌, arith, append_assoc, append-nil, length-append, length-drop, length-take-le, take-append-drop, take_at, drop_at, take-take, drop-drop}
-use Rattle.std.proofs.lemmas.List.{drop-append-le, drop-take}
-use Rattle.rga_ops.specs.Splice.{spliced}
+use Rattle.rga_doc.proofs.Prelude.{◌≡◌, ℕ, ◌+◌, ◌-◌, ◌≤◌, List, [], ◌++◌, take, drop, length, sym, ap, ◌∙◌, arith, append_assoc, append-nil, length-append, length-drop, length-take-le, take-append-drop, take_at, drop_at, take-take, drop-drop}
+use Rattle.rga_doc.proofs.Prelude.{drop-append-le, drop-take, spliced}
 
 pub splice_on : {A : Type 0} (xs a b : List A) (lo hi m n k end : ℕ) → lo ≤ length xs → m ≡ lo + length a → n ≡ m + k → end ≡ hi + k → spliced (spliced xs lo hi a) m n b ≡ spliced xs lo end (a ++ b)
 splice_on {A} xs a b lo hi m n k end within at upto until =
@@ -19,20 +18,11 @@ take-spliced xs a lo hi within =
     ap (take lo) (append_assoc (take lo xs) a (drop hi xs)) ∙ take_at (take lo xs) (a ++ drop hi xs) lo (length-take-le lo xs within)
 
 pub long-spliced : {A : Type 0} (xs a : List A) (lo hi : ℕ) → lo ≤ length xs → lo ≤ length (spliced xs lo hi a)
-long-spliced xs a lo hi within =
-    let whole : length (spliced xs lo hi a) ≡ length (take lo xs) + length a + length (drop hi xs) =
-    length-append (take lo xs ++ a) (drop hi xs) ∙ ap (λ i. i + length (drop hi xs)) (length-append (take lo xs) a) in
-    let front : length (take lo xs) ≡ lo = length-take-le lo xs within in
-    omega (arith, whole, front)
+long-spliced xs a lo hi within = grind (arith, length, spliced, take, drop, length-append, length-take-le)
 
 -- how long a spliced list is
 pub length-spliced : {A : Type 0} (xs a : List A) (lo hi : ℕ) → lo ≤ hi → hi ≤ length xs → length (spliced xs lo hi a) + hi ≡ lo + length a + length xs
-length-spliced xs a lo hi up within =
-    let whole : length (spliced xs lo hi a) ≡ length (take lo xs) + length a + length (drop hi xs) =
-    length-append (take lo xs ++ a) (drop hi xs) ∙ ap (λ i. i + length (drop hi xs)) (length-append (take lo xs) a) in
-    let front : length (take lo xs) ≡ lo = length-take-le lo xs (omega (arith, up, within)) in
-    let rest = length-drop hi xs in
-    omega (arith, whole, front, rest, up, within)
+length-spliced xs a lo hi up within = grind (arith, length, spliced, take, drop, length-append, length-take-le, length-drop)
 
 pub splice_nothing : {A : Type 0} (xs : List A) (lo : ℕ) → xs ≡ spliced xs lo lo []
 splice_nothing xs lo = sym (take-append-drop lo xs) ∙ ap (λ ys. ys ++ drop lo xs) (sym (append-nil (take lo xs)))
@@ -51,10 +41,7 @@ part xs lo hi up =
 
 -- so many are cut out
 pub length-cut : {A : Type 0} (xs : List A) (lo hi : ℕ) → lo ≤ hi → hi ≤ length xs → hi ≡ lo + length (drop lo (take hi xs))
-length-cut xs lo hi up within =
-    let long : length (take hi xs) ≡ hi = length-take-le hi xs within in
-    let rest = length-drop lo (take hi xs) in
-    omega (arith, up, long, rest)
+length-cut xs lo hi up within = grind (arith, length, take, length-take-le, length-drop)
 
 -- lists that begin alike begin alike up to each lower place
 pub same_begin : {A : Type 0} (xs ys : List A) (m n : ℕ) → m ≤ n → take n xs ≡ take n ys → take m xs ≡ take m ys

@@ -1,23 +1,7 @@
 -- The elements that an edit deletes are apart, so that its revert is not refused for them.
-use Rattle.std.proofs.Common.{◌≡◌, ℕ, zero, suc, ◌+◌, ◌-◌, ◌≤◌, true, false, ◌||◌, List, [], ◌∷◌, ◌++◌, map, take, drop, length, refl, sym, ap, ◌∙◌, subst, arith, true≢false, append-nil}
-use Rattle.std.specs.Prelude.{Ok}
-use Rattle.std.specs.List.{list_any, AllByRecursion}
-use Rattle.std.proofs.lemmas.Bool.{and_parts}
-use Rattle.std.proofs.lemmas.List.{take-append-drop}
-use Rattle.rga_ops.specs.Identifier.{Identifier}
-use Rattle.rga_ops.specs.Content.{Content, clock_of, join, content_of}
-use Rattle.rga_ops.specs.RootPath.{is_complete}
-use Rattle.rga_ops.specs.Order.{text}
-use Rattle.rga_ops.specs.Places.{is_visible, visible}
-use Rattle.rga_ops.specs.declared.op.Op.{Op}
-use Rattle.rga_ops.specs.declared.op.Op.TheVariants.{Delete}
-use Rattle.rga_ops.specs.Splice.{Splice, are_falling, new_characters}
-use Rattle.rga_ops.proofs.IdentifierLaws.{is}
-use Rattle.rga_ops.proofs.MemberLaws.{all_append, all_map, all_members}
-use Rattle.rga_ops.proofs.VisibleLaws.{visible_distinct}
-use Rattle.rga_doc.specs.LocalEdit.{chain, splices_operations, draft_operations, splices_answer, left_of}
-use Rattle.rga_doc.specs.Revert.{are_restorable, revert_operations}
-use Rattle.rga_doc.specs.UndoGroup.{inserted_elements, deleted_elements, element_characters}
+use Rattle.rga_doc.proofs.Prelude.{◌≡◌, ℕ, zero, suc, ◌+◌, ◌-◌, ◌≤◌, true, false, ◌||◌, List, [], ◌∷◌, ◌++◌, map, take, drop, length, refl, sym, ap, ◌∙◌, subst, arith, true≢false, append-nil, Ok, list_any, AllByRecursion, and_parts, take-append-drop}
+use Rattle.rga_doc.proofs.Prelude.{Identifier, Content, clock_of, join, content_of, is_complete, text, is_visible, visible, Op, Delete, Splice, are_falling, new_characters, is, all_append, all_map, all_members, visible_distinct, chain}
+use Rattle.rga_doc.proofs.Prelude.{splices_operations, draft_operations, splices_answer, left_of, are_restorable, revert_operations, inserted_elements, deleted_elements, element_characters}
 use Rattle.rga_doc.proofs.SplicedCharacters.{part}
 use Rattle.rga_doc.proofs.EditLaws.{allowed, splices_drafted}
 use Rattle.rga_doc.proofs.FallingLaws.{falls_first}

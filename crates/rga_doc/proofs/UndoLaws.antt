@@ -1,41 +1,19 @@
 -- The revert of an edit, on the content that the edit left, gives the text from before it.
-use Rattle.std.proofs.Common.{◌≡◌, ℕ, ◌+◌, ◌<◌, ◌≤◌, true, false, cond, not, ◌&&◌, ◌||◌, nat_lt, List, [], ◌∷◌, ◌++◌, map, filter, take, drop, length, refl, sym, ap, ◌∙◌, subst, arith, lt-ltb, ltb-false}
-use Rattle.std.specs.Prelude.{Option, Some, None, Ok}
-use Rattle.std.specs.Option.{option_map, option_or, unwrap_or}
-use Rattle.std.specs.List.{list_any, AllByRecursion, filter_map}
-use Rattle.std.specs.FinMap as finite_map
-use Rattle.std.specs.FinSet as finite_set
-use Rattle.std.proofs.Math.Bool.{or-false}
-use Rattle.std.proofs.lemmas.Bool.Decides.{nat_tests}
-use Rattle.std.proofs.lemmas.Bool.{and_parts, or_right, not-true}
-use Rattle.std.proofs.lemmas.Option.{none-some}
-use Rattle.rga_ops.specs.Identifier.{Identifier, identifier, is_root}
-use Rattle.rga_ops.specs.Content.{Element, element, Content, clock_of, join, single, content_of}
-use Rattle.rga_ops.specs.RootPath.{is_complete}
-use Rattle.rga_ops.specs.Order.{order, text, shown}
-use Rattle.rga_ops.specs.Places.{is_visible, visible}
-use Rattle.rga_ops.specs.Placement.{change_after}
-use Rattle.rga_ops.specs.declared.op.Op.{Op}
-use Rattle.rga_ops.specs.declared.op.Op.TheVariants.{Insert, Delete}
-use Rattle.rga_ops.specs.Splice.{Splice}
-use Rattle.rga_ops.proofs.IdentifierLaws.{is, same_id, is_itself, is_swap, is_id-same}
-use Rattle.rga_ops.proofs.MemberLaws.{all_append, all_map, all_members, all_filter}
-use Rattle.rga_ops.proofs.ContentLaws.{get-join, contains-join, join_assoc, join_nothing, or_none}
-use Rattle.rga_ops.proofs.PathLaws.{is_complete-iff, not_complete_root, inserted_if_complete}
-use Rattle.rga_ops.proofs.OrderLaws.{order_list, order_distinct}
+use Rattle.rga_doc.proofs.Prelude.{◌≡◌, ℕ, ◌+◌, ◌<◌, ◌≤◌, true, false, cond, not, ◌&&◌, ◌||◌, nat_lt, List, [], ◌∷◌, ◌++◌, map, filter, take, drop, length, refl, sym, ap, ◌∙◌, subst, arith, lt-ltb, ltb-false, Option, Some, None, Ok, option_map}
+use Rattle.rga_doc.proofs.Prelude.{option_or, unwrap_or, list_any, AllByRecursion, filter_map, or-false, nat_tests, and_parts, or_right, not-true, none-some, Identifier, identifier, is_root, Element, element, Content, clock_of, join, single}
+use Rattle.rga_doc.proofs.Prelude.{content_of, is_complete, order, text, shown, is_visible, visible, change_after, Op, Insert, Delete, Splice, is, same_id, is_itself, is_swap, is_id-same, all_append, all_map, all_members, all_filter, get-join}
+use Rattle.rga_doc.proofs.Prelude.{contains-join, join_assoc, join_nothing, or_none, is_complete-iff, not_complete_root, inserted_if_complete, order_list, order_distinct, content_of-append, get-single, filtered, visible_elements, is_root_or_complete}
+use Rattle.rga_doc.proofs.Prelude.{is_complete-insertion, not_complete_before, newest_absent, newest_kept, newest_leaf, order-newest, chain, splices_operations, draft_operations, splices_answer, new_ids, left_of, distinct_elements, restorations}
+use Rattle.rga_doc.proofs.Prelude.{revert_operations, are_restorable, inserted_elements, deleted_elements, element_characters}
 use Rattle.rga_ops.proofs.ClockLaws.{within_clock}
-use Rattle.rga_ops.proofs.OperationLaws.{content_of-append, get-single}
-use Rattle.rga_ops.proofs.VisibleLaws.{filtered, visible_elements}
-use Rattle.rga_ops.proofs.InsertionLaws.{is_root_or_complete, is_complete-insertion, not_complete_before}
-use Rattle.rga_ops.proofs.NewestLaws.{newest_absent, newest_kept, newest_leaf, order-newest}
-use Rattle.rga_doc.specs.LocalEdit.{chain, splices_operations, draft_operations, splices_answer, new_ids, left_of}
-use Rattle.rga_doc.specs.Revert.{distinct_elements, restorations, revert_operations, are_restorable}
-use Rattle.rga_doc.specs.UndoGroup.{inserted_elements, deleted_elements, element_characters}
 use Rattle.rga_doc.proofs.EditSteps.{newest, insertion_leads}
 use Rattle.rga_doc.proofs.EditLaws.{splices_drafted, editing}
 use Rattle.rga_doc.proofs.RevertSets.{among, AreApart, not_among, apart_if_restorable, elements_of}
 use Rattle.rga_doc.proofs.RevertLaws.{AreComplete, reverts, all_once, gone_complete, complete_by_order}
-use Rattle.rga_doc.proofs.UndoLists.{Reading, reads_same, moved, reads_moved, apart_by_counter, AreNewer, not_among_newer, newer_still, new_ids-newer, inserted_elements-append, deleted_elements-append, inserted_elements-deletions, deleted_elements-deletions, inserted_elements-chain, deleted_elements-chain, contains-operations, get-operations_absent, all_take, all_drop, once_has, deleted_by_revert}
+use Rattle.rga_doc.proofs.UndoLists.{Reading, reads_same, moved, reads_moved, apart_by_counter, AreNewer, not_among_newer, newer_still, new_ids-newer, inserted_elements-append, deleted_elements-append, inserted_elements-deletions}
+use Rattle.rga_doc.proofs.UndoLists.{deleted_elements-deletions, inserted_elements-chain, deleted_elements-chain, contains-operations, get-operations_absent, all_take, all_drop, once_has, deleted_by_revert}
+use Rattle.std.specs.FinMap as finite_map
+use Rattle.std.specs.FinSet as finite_set
 
 -- ---- complete elements are no newer than the clock
 

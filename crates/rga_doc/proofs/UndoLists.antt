@@ -1,25 +1,11 @@
 -- What lists of elements read as, where elements are put in; and what the lists of an edit's operations have.
-use Rattle.std.proofs.Common.{◌≡◌, ℕ, zero, suc, ◌+◌, ◌<◌, ◌≤◌, true, false, cond, not, ◌&&◌, ◌||◌, List, [], ◌∷◌, ◌++◌, map, filter, take, drop, length, refl, sym, ap, ◌∙◌, subst, arith, true≢false, append-nil}
-use Rattle.std.specs.Prelude.{Option, Some, None}
-use Rattle.std.specs.Option.{option_or}
-use Rattle.std.specs.List.{list_any, AllByRecursion, IsDistinct, filter_map, cons_option}
+use Rattle.rga_doc.proofs.Prelude.{◌≡◌, ℕ, zero, suc, ◌+◌, ◌<◌, ◌≤◌, true, false, cond, not, ◌&&◌, ◌||◌, List, [], ◌∷◌, ◌++◌, map, filter, take, drop, length, refl, sym, ap, ◌∙◌, subst, arith, true≢false, append-nil, Option, Some, None, option_or}
+use Rattle.rga_doc.proofs.Prelude.{list_any, AllByRecursion, filter_map, cons_option, or_parts, Identifier, identifier, id_cmp, is_id, is_root, Content, element, clock_of, single, content_of, join, is_visible, change_after}
+use Rattle.rga_doc.proofs.Prelude.{without, Op, Insert, Delete, is, is_itself, is_swap, is_id-same, is_id-is, all_map, get-join, contains-join, filtered, get-single, contains-single, chain, new_ids, put_row_behind, distinct_elements}
+use Rattle.rga_doc.proofs.Prelude.{restorations, revert_operations, inserted_elements, deleted_elements}
+use Rattle.std.specs.List.{IsDistinct}
 use Rattle.std.specs.FinMap as finite_map
 use Rattle.std.specs.FinSet as finite_set
-use Rattle.std.proofs.lemmas.Bool.{false_from_ne_true, or_parts}
-use Rattle.rga_ops.specs.Identifier.{Identifier, identifier, id_cmp, is_id, is_root}
-use Rattle.rga_ops.specs.Content.{Content, element, clock_of, single, content_of, join}
-use Rattle.rga_ops.specs.Places.{is_visible}
-use Rattle.rga_ops.specs.Placement.{change_after, without}
-use Rattle.rga_ops.specs.declared.op.Op.{Op}
-use Rattle.rga_ops.specs.declared.op.Op.TheVariants.{Insert, Delete}
-use Rattle.rga_ops.proofs.IdentifierLaws.{is, same_id, is_itself, is_swap, is_id-same, is_id-is}
-use Rattle.rga_ops.proofs.MemberLaws.{all_map}
-use Rattle.rga_ops.proofs.ContentLaws.{get-join, contains-join}
-use Rattle.rga_ops.proofs.VisibleLaws.{filtered}
-use Rattle.rga_ops.proofs.OperationLaws.{get-single, contains-single}
-use Rattle.rga_doc.specs.LocalEdit.{chain, new_ids, put_row_behind}
-use Rattle.rga_doc.specs.Revert.{distinct_elements, restorations, revert_operations}
-use Rattle.rga_doc.specs.UndoGroup.{inserted_elements, deleted_elements}
 
 abbrev pub Reading : Type 0
 Reading = Identifier → Option ℕ
@@ -36,17 +22,11 @@ reads_row p (r ∷ row) xs h = ap (λ o. cons_option o (filter_map p (row ++ xs)
 
 reads_after : (p : Reading) (after : Identifier) (row xs : List Identifier) → AllByRecursion (λ x. p x ≡ None) row → filter_map p (change_after after (λ ys. row ++ ys) xs) ≡ filter_map p xs
 reads_after p after row [] h = refl
-reads_after p after row (x ∷ xs) h = elim (is_id x after) as (λ b. filter_map p (cond b (x ∷ (row ++ xs)) (x ∷ change_after after (λ ys. row ++ ys) xs)) ≡ cons_option (p x) (filter_map p xs)) [
-  | true ↦ ap (cons_option (p x)) (reads_row p row xs h)
-  | false ↦ ap (cons_option (p x)) (reads_after p after row xs h)
-]
+reads_after p after row (x ∷ xs) h = grind (arith, is_id, filter_map, change_after, cons_option, true, reads_row, false, reads_after p after row xs h)
 
 -- a row that is not read changes nothing
 pub reads_behind : (p : Reading) (after : Identifier) (row xs : List Identifier) → AllByRecursion (λ x. p x ≡ None) row → filter_map p (put_row_behind after row xs) ≡ filter_map p xs
-reads_behind p after row xs h = elim (is_root after) as (λ b. filter_map p (cond b (row ++ xs) (change_after after (λ ys. row ++ ys) xs)) ≡ filter_map p xs) [
-  | true ↦ reads_row p row xs h
-  | false ↦ reads_after p after row xs h
-]
+reads_behind p after row xs h = grind (arith, is_root, filter_map, change_after, true, reads_row, false, reads_after)
 
 -- the reading where one element reads as nothing and another one as the character
 abbrev pub moved : Identifier → Identifier → ℕ → Reading → Reading
@@ -90,9 +70,7 @@ reads_moved x y ch p (z ∷ zs) there distinct absent other at =
 -- ---- counters
 
 pub apart_by_counter : (a b : Identifier) → a.counter < b.counter → is a b ≡ false
-apart_by_counter a b h = false_from_ne_true (is a b) (λ t.
-    let same : a.counter ≡ b.counter = ap (λ (i : Identifier). i.counter) (same_id a b t) in
-    omega (arith, same, h))
+apart_by_counter a b h = grind arith
 
 abbrev pub AreNewer : ℕ → List Identifier → Type 0
 AreNewer n ids = AllByRecursion (λ (id : Identifier). n < id.counter) ids
@@ -160,9 +138,8 @@ get-operations_absent (Delete id ∷ ops) q h =
 -- ---- parts of lists
 
 pub all_take : (P : Identifier → Type 0) (n : ℕ) (xs : List Identifier) → AllByRecursion P xs → AllByRecursion P (take n xs)
-all_take P zero xs h = tt
-all_take P (suc n) [] h = tt
 all_take P (suc n) (x ∷ xs) h = (h.0, all_take P n xs h.1)
+all_take P n xs h = tt
 
 pub all_drop : (P : Identifier → Type 0) (n : ℕ) (xs : List Identifier) → AllByRecursion P xs → AllByRecursion P (drop n xs)
 all_drop P zero xs h = h
@@ -183,16 +160,11 @@ deleted_elements-restorations replica last [] = refl
 deleted_elements-restorations replica last (b ∷ back) = deleted_elements-restorations replica (last + 1) back
 
 pub deleted_elements-revert : (ids : List Identifier) (replica last : ℕ) (back : List (Identifier × ℕ)) → deleted_elements (map Delete ids ++ restorations replica last back) ≡ ids
-deleted_elements-revert ids replica last back =
-    deleted_elements-append (map Delete ids) (restorations replica last back)
-    ∙ (λ k. deleted_elements-deletions ids k ++ deleted_elements-restorations replica last back k) ∙ append-nil ids
+deleted_elements-revert ids replica last back = grind (arith, deleted_elements-append, map, restorations, deleted_elements-deletions, deleted_elements-restorations, append-nil)
 
 -- what is deleted once a revert was taken
 pub deleted_by_revert : (c : Content) (ids : List Identifier) (replica last : ℕ) (back : List (Identifier × ℕ)) (q : Identifier) → finite_set.contains (join c (content_of (map Delete ids ++ restorations replica last back))).deleted q ≡ (finite_set.contains c.deleted q || list_any (is q) ids)
-deleted_by_revert c ids replica last back q =
-    let ops : List Op = map Delete ids ++ restorations replica last back in
-    contains-join c (content_of ops) q
-    ∙ ap (λ b. finite_set.contains c.deleted q || b) (contains-operations ops q ∙ ap (list_any (is q)) (deleted_elements-revert ids replica last back))
+deleted_by_revert c ids replica last back q = grind (arith, map, restorations, contains-join, content_of, contains-operations, list_any, is, deleted_elements-revert)
 
 -- ---- how many elements are inserted
 

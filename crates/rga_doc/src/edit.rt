@@ -1,12 +1,11 @@
 //! Edits by place.
 ghost use Rattle.std.specs.Prelude.{◌≡◌, ◌≤◌, ◌&&◌, ℕ, min, nat_le, true, length, Ok, Err, IfOk, IfErr, OnOk, OnErr, if◌then◌else◌};
 ghost use Rattle.rga_ops.specs.Prelude.{content_of, join, order, text, IsAnswer};
-ghost use Rattle.rga_ops.specs.ListAnswer.{and_check};
 ghost use Rattle.rga_ops.specs.Splice.{spliced, text_after, are_falling, end_of, new_characters};
 ghost use Rattle.rga_store.specs.Limit.{is_limit};
 ghost use Rattle.rga_store.specs.Taking.{TakesMore};
 ghost use Rattle.rga_doc.specs.Excerpt.{begin_of};
-ghost use Rattle.rga_doc.specs.LocalEdit.{splice_operations, splices_operations, splice_answer, splices_answer, edit_answer, room_answer, place_answer, counter_answer, order_after};
+ghost use Rattle.rga_doc.specs.LocalEdit.{splice_operations, splices_operations, splice_answer, splices_answer, edit_answer, room_answer, counter_answer, order_after};
 ghost use Rattle.rga_ops.specs.declared.refusal.Refusal.TheVariants.{Memory};
 
 use crate::doc::Doc;
@@ -78,15 +77,6 @@ impl<S: TextStore> Doc<S> {
             return Err(Refusal::Range);
         }
         self.list()?;
-        self.check_listed(end, new)
-    }
-
-    /// The same for a listed document where there is room and the places are in order.
-    fn check_listed(&self, end: usize, new: usize) -> Result<(), Refusal>
-        requires { self.now.listed ≡ true }
-        ensures { result ≡ and_check (place_answer (nat_le end (length (text self.now.content))))
-            (counter_answer self.now.content new) }
-    {
         if end > self.characters().len() {
             return Err(Refusal::Range);
         }
@@ -212,10 +202,7 @@ pub(crate) fn count_characters(splices: &[Splice]) -> usize
 fn end_of(splices: &[Splice]) -> usize
     ensures { result ≡ end_of splices.now }
 {
-    match splices.first() {
-        Some(splice) => splice.hi,
-        None => 0,
-    }
+    splices.first().map_or(0, |splice| splice.hi)
 }
 
 /// Where the last splice begins, and so no other before it where they fall; 0 where there is none.

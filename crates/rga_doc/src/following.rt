@@ -1,8 +1,6 @@
 //! What is listed, changed as one operation of another replica has changed the store.
-ghost use Rattle.std.specs.Prelude.{◌≡◌, ◌+◌, ℕ, true, length, Option, IfSome};
-ghost use Rattle.rga_ops.specs.Identifier.{Identifier};
-ghost use Rattle.rga_ops.specs.Order.{text};
-ghost use Rattle.rga_ops.specs.Places.{visible};
+ghost use Rattle.std.specs.Prelude.{◌≡◌, ℕ, true, Option, IfSome};
+ghost use Rattle.rga_ops.specs.Prelude.{Identifier, text, visible};
 ghost use Rattle.rga_doc.specs.Relisting.{DeletesAt, IsTextBefore};
 
 use crate::listing::Listing;
@@ -44,19 +42,11 @@ impl Listing {
             return;
         }
         self.followed += 1;
-        self.listed = self.make_new(store, op, index);
-        self.characters.give_back();
-    }
-
-    /// Makes a new operation, where it is known what it changed.
-    fn make_new<S: TextStore>(&mut self, store: &S, op: &Op, index: Option<usize>) -> bool
-        requires { IsTextBefore (S.content store.now) op.now index self.old.characters.items }
-        ensures { result ≡ true → self.new.characters.items ≡ text (S.content store.now) }
-    {
-        match op {
+        self.listed = match op {
             Op::Delete { .. } => self.follow_deletion(store, index),
             Op::Insert { id, ch, .. } => self.follow_insertion(store, *id, *ch),
-        }
+        };
+        self.characters.give_back();
     }
 
     /// Takes out the character of a deleted element that stood at the index. Where it was not
@@ -76,7 +66,7 @@ impl Listing {
 
     /// Puts in the character of a new element where it alone is visible beside those that are
     /// listed. Where nothing more is visible all stays: it is deleted, or waits for its parent. It
-    /// may also have let others go on that waited; then nothing is done.
+    /// may also have let others go on that waited; then nothing is done, nor where there is no room.
     fn follow_insertion<S: TextStore>(&mut self, store: &S, id: Id, ch: char) -> bool
         requires { (parent : Identifier) × (k : Option ℕ) × IsTextBefore (S.content store.now)
             (Op.Insert id parent ch) k self.old.characters.items }
@@ -89,22 +79,9 @@ impl Listing {
         if count == 0 || count - 1 != self.characters.len() {
             return false;
         }
-        self.put_at_its_place(store, id, ch)
-    }
-
-    /// Puts in the character of a new element where one more is visible, if the element is, and
-    /// there is room.
-    fn put_at_its_place<S: TextStore>(&mut self, store: &S, id: Id, ch: char) -> bool
-        requires before { (parent : Identifier) × (k : Option ℕ) ×
-            IsTextBefore (S.content store.now) (Op.Insert id parent ch) k
-            self.old.characters.items }
-        requires one_more { length (visible (S.content store.now))
-            ≡ length self.old.characters.items + 1 }
-        ensures { result ≡ true → self.new.characters.items ≡ text (S.content store.now) }
-    {
-        let Some(index) = position_of(store, id) else {
-            return false;
-        };
-        self.replace(index, index, &[ch])
+        match position_of(store, id) {
+            Some(index) => self.replace(index, index, &[ch]),
+            None => false,
+        }
     }
 }

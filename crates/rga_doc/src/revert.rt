@@ -1,14 +1,13 @@
 //! Edits that are reverted.
-ghost use Rattle.std.specs.Prelude.{◌≡◌, ◌||◌, not, ◌+◌, ◌≤◌, ◌<◌, ◌++◌, filter, map, take, length, Ok, Err, IfOk, IfErr, OnOk, OnErr};
+ghost use Rattle.std.specs.Prelude.{◌≡◌, ◌||◌, not, ◌+◌, ◌≤◌, ◌<◌, ◌++◌, filter, take, length, Ok, Err, IfOk, IfErr, OnOk, OnErr};
 ghost use Rattle.indexmap.specs.IndexSet.{contains};
 ghost use Rattle.rga_ops.specs.Prelude.{Identifier, clock_of, content_of, is_id, join, order, text, IsAnswer};
-ghost use Rattle.rga_ops.specs.ListAnswer.{and_check};
 ghost use Rattle.rga_ops.specs.Order.{waiting};
 ghost use Rattle.rga_ops.specs.Places.{is_visible};
 ghost use Rattle.rga_ops.specs.RootPath.{is_complete};
 ghost use Rattle.rga_ops.specs.declared.refusal.Refusal.TheVariants.{Memory};
 ghost use Rattle.rga_store.specs.Taking.{TakesMore};
-ghost use Rattle.rga_doc.specs.LocalEdit.{room_answer, place_answer, counter_answer};
+ghost use Rattle.rga_doc.specs.LocalEdit.{room_answer, place_answer};
 ghost use Rattle.rga_doc.specs.Revert.{distinct_elements, restorations, revert_operations, are_restorable, revert_answer, put_back};
 
 use crate::doc::Doc;
@@ -106,42 +105,15 @@ impl<S: TextStore> Doc<S> {
         if !has_room(&self.store, back.len()) {
             return Err(Refusal::Full);
         }
-        let visible = check_revert(self.alloc, &self.store, gone, back)?;
-        self.write_revert(&visible, back)
-    }
-
-    /// The deletions and then the insertions of a revert. `Memory` alone.
-    fn write_revert(&self, visible: &[Id], back: &[(Id, char)]) -> Result<Vec<Op>, Refusal>
-        requires counters { counter_answer self.now.content (length back.now) ≡ Ok tt }
-        ensures ok { IfOk result (λ ops. ops.items ≡ map Op.Delete visible.now
-            ++ restorations self.now.replica (clock_of self.now.content) back.now) }
-        ensures memory { IfErr result (λ e. e ≡ Refusal.Memory) }
-    {
+        let waits = self.store.waiting_count()?;
+        check_restorable(self.alloc, &self.store, waits, back)?;
+        check_counters(&self.store, back.len())?;
+        let visible = collect_visible(self.alloc, &self.store, waits, gone)?;
         let mut draft = Draft::new(self.alloc, self.replica, self.store.clock());
-        draft.delete(visible)?;
+        draft.delete(&visible)?;
         draft.restore(back)?;
         Ok(draft.ops)
     }
-}
-
-/// What a revert deletes, if it is not refused: those of the elements that are visible, each once.
-/// `Range` and `Clock` as `revert` has them; `Memory`.
-fn check_revert<S: TextStore>(
-    alloc: Global,
-    store: &S,
-    gone: &[Id],
-    back: &[(Id, char)],
-) -> Result<Vec<Id>, Refusal>
-    ensures exact { IsAnswer result (and_check
-        (place_answer (are_restorable (S.content store.now) back.now))
-        (counter_answer (S.content store.now) (length back.now))) }
-    ensures visible { IfOk result (λ kept. kept.items
-        ≡ distinct_elements (filter (is_visible (S.content store.now)) gone.now)) }
-{
-    let waits = store.waiting_count()?;
-    check_restorable(alloc, store, waits, back)?;
-    check_counters(store, back.len())?;
-    collect_visible(alloc, store, waits, gone)
 }
 
 /// `Range` if an element is not complete or stands twice; `Memory`.

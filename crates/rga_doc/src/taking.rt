@@ -31,50 +31,21 @@ impl<S: TextStore> Doc<S> {
         ensures memory { IfErr result (λ e. e ≡ Refusal.Memory) }
         ensures same { OnErr result (self.new ≡ self.old) }
     {
-        if splices.len() > MOST_IN_PLACE {
-            return self.take_anew(splices, ops);
-        }
-        self.take_in_place(splices, ops)
-    }
-
-    /// The same, and what is listed is changed in place.
-    fn take_in_place(&mut self, splices: &[Splice], ops: &[Op]) -> Result<(), Refusal>
-        requires listed { self.old.listed ≡ true }
-        requires allowed { splices_answer self.old.limit self.old.content splices.now ≡ Ok tt }
-        requires operations { ops.now
-            ≡ splices_operations self.old.replica self.old.content splices.now }
-        ensures content { OnOk result (self.new
-            ≡ record self.old { content = join self.old.content (content_of ops.now) }) }
-        ensures memory { IfErr result (λ e. e ≡ Refusal.Memory) }
-        ensures same { OnErr result (self.new ≡ self.old) }
-    {
         let new = count_characters(splices).min(self.store.limit());
-        if self.listing.characters.make_room(new).is_err() || !take_all(&mut self.store, ops) {
+        if splices.len() > MOST_IN_PLACE {
+            let characters = self.listing.characters.spliced(self.alloc, splices, new)?;
+            if !take_all(&mut self.store, ops) {
+                return Err(Refusal::Memory);
+            }
+            self.listing.characters = characters;
+            return Ok(());
+        }
+        self.listing.characters.make_room(new)?;
+        if !take_all(&mut self.store, ops) {
             return Err(Refusal::Memory);
         }
         self.listing.replace_all(splices);
         Ok(())
-    }
-
-    /// The same, and what is listed is made anew.
-    fn take_anew(&mut self, splices: &[Splice], ops: &[Op]) -> Result<(), Refusal>
-        requires listed { self.old.listed ≡ true }
-        requires allowed { splices_answer self.old.limit self.old.content splices.now ≡ Ok tt }
-        requires operations { ops.now
-            ≡ splices_operations self.old.replica self.old.content splices.now }
-        ensures content { OnOk result (self.new
-            ≡ record self.old { content = join self.old.content (content_of ops.now) }) }
-        ensures memory { IfErr result (λ e. e ≡ Refusal.Memory) }
-        ensures same { OnErr result (self.new ≡ self.old) }
-    {
-        let new = count_characters(splices);
-        if let Ok(characters) = self.listing.characters.spliced(self.alloc, splices, new) {
-            if take_all(&mut self.store, ops) {
-                self.listing.characters = characters;
-                return Ok(());
-            }
-        }
-        Err(Refusal::Memory)
     }
 
     /// Takes the operations of a splice that is allowed, in a listed document, and answers them.

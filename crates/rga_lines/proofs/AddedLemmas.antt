@@ -1,8 +1,6 @@
 -- A text to which parts were added, one behind another.
-use Rattle.std.proofs.Common.{◌≡◌, ℕ, List, ◌∷◌, ◌++◌, codes, decimal, ap, ◌∙◌, append_assoc, Result, Ok, Err, OnOk, is_ok, if◌then◌else◌}
-use Rattle.rga_ops.specs.Identifier.{Identifier}
-use Rattle.rga_ops.specs.declared.op.Op.TheVariants.{Insert, Delete}
-use Rattle.rga_lines.specs.Spelling.{escaped, pair_text, line}
+use Rattle.rga_lines.proofs.Prelude.{◌≡◌, ℕ, List, ◌∷◌, ◌++◌, codes, decimal, ap, ◌∙◌, append_assoc, Result, Ok, Err, OnOk, is_ok, if◌then◌else◌, Identifier, Insert, Delete, escaped, pair_text}
+use Rattle.rga_lines.specs.Spelling.{line}
 
 pub three_parts : (t₀ a p b q c t₁ t₂ t₃ : List ℕ) → t₁ ≡ t₀ ++ (a ++ p) → t₂ ≡ t₁ ++ (b ++ q) → t₃ ≡ t₂ ++ c → t₃ ≡ t₀ ++ (a ++ (p ++ (b ++ (q ++ c))))
 three_parts t₀ a p b q c t₁ t₂ t₃ h₁ h₂ h₃ = rw (h₃, h₂, h₁) (simp append_assoc)

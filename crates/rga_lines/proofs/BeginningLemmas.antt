@@ -1,48 +1,30 @@
 -- No proper beginning of the line of an operation, or of a run, is one of either: the bracket that closes its object is
 -- still missing.
-use Rattle.std.proofs.Common.{◌≡◌, ℕ, ◌<◌, ◌^◌, zero, suc, Bool, true, false, cond, ◌==◌, ◌-◌, take, nat_lt, if◌then◌else◌, List, [], ◌∷◌, ◌++◌, length, codes, decimal, Option, Some, None, option_map, option_and_then, Err, refl, sym, ap, ◌∙◌, subst, arith, append_assoc, length-append, drop, get_or}
-use Rattle.std.specs.Prelude.{⊤}
-use Rattle.std.specs.Str.{is_utf8}
-use Rattle.std.specs.List.{flat_map}
+use Rattle.rga_lines.proofs.Prelude.{◌≡◌, ℕ, ◌<◌, ◌^◌, zero, suc, Bool, true, false, cond, ◌==◌, ◌-◌, take, nat_lt, if◌then◌else◌, List, [], ◌∷◌, ◌++◌, length, codes, decimal, Option, Some, None, option_map, option_and_then, Err, refl, sym, ap, ◌∙◌}
+use Rattle.rga_lines.proofs.Prelude.{subst, arith, append_assoc, length-append, drop, get_or, ⊤, is_utf8, flat_map, IsNumber-decimal, Data, read, of_json, of_items, max_depth, as_object, Identifier, Op, Insert, Delete, LineFault, Stretch, escaped}
+use Rattle.rga_lines.proofs.Prelude.{pair_text, run_from, IsWritable, IsWritableRun, MAX_LINE, text_line}
 use Rattle.json.specs.Token.{Token, begin_object, end_object, begin_array, end_array, key, string, number, boolean, null, bad}
 use Rattle.json.specs.Word.{word, head, ends_word, literal, number_before, after_number}
-use Rattle.json.specs.Ascii as ascii
 use Rattle.json.specs.Text.{content, plain}
 use Rattle.json.specs.Lex.{Lexeme, token, comma, colon, string_token, Class, class, Mode, lex, lex_byte, between, in_string, Place, begins_colon, if_allowed, place_token, punctuate, tokens}
 use Rattle.json.specs.Json.{Json, Items, Members, Parse, parse_map, after_end_array, items_step, items, members, value_with, value, if_last}
-use Rattle.json.proofs.Printed.Decimals.{IsNumber-decimal}
 use Rattle.json.proofs.Printed.Numbers.{lex-number}
 use Rattle.json.proofs.Printed.Strings.{lex-escape}
-use Rattle.serde_json.specs.Data.{Data}
-use Rattle.serde_json.specs.Data as datum
-use Rattle.serde_json.specs.Read.{read, of_json, of_items, number_of, max_depth}
-use Rattle.serde_json.specs.Find.{as_object}
-use Rattle.rga_ops.specs.Identifier.{Identifier}
-use Rattle.rga_ops.specs.declared.op.Op.{Op}
-use Rattle.rga_ops.specs.declared.op.Op.TheVariants.{Insert, Delete}
-use Rattle.rga_lines.specs.declared.fault.LineFault.{LineFault}
-use Rattle.rga_lines.specs.declared.fault.LineFault.TheVariants as fault
-use Rattle.rga_lines.specs.Runs.{Stretch}
-use Rattle.rga_lines.specs.Spelling.{escaped, pair_text, line, run_from, run_line, IsWritable, IsWritableRun}
-use Rattle.rga_lines.specs.declared.line.TheConstants.{MAX_LINE}
-use Rattle.rga_lines.specs.Table.{value_line, text_line, any_line_at}
+use Rattle.serde_json.specs.Read.{number_of}
+use Rattle.rga_lines.specs.Spelling.{line, run_line}
+use Rattle.rga_lines.specs.Table.{value_line, any_line_at}
 use Rattle.rga_lines.proofs.SpellingLemmas.{escape-encode}
 use Rattle.rga_lines.proofs.ReadBack.{InBounds, within, in_bounds}
 use Rattle.rga_lines.proofs.RunBack.{escape-encodes}
+use Rattle.json.specs.Ascii as ascii
+use Rattle.serde_json.specs.Data as datum
+use Rattle.rga_lines.specs.declared.fault.LineFault.TheVariants as fault
 
 -- ---- lexemes and tokens, none of which closes an object
 
 abbrev Stays : Token → Type 0
-Stays begin_object = Unit {0}
 Stays end_object = ⊥
-Stays begin_array = Unit {0}
-Stays end_array = Unit {0}
-Stays (key s) = Unit {0}
-Stays (string s) = Unit {0}
-Stays (number s) = Unit {0}
-Stays (boolean b) = Unit {0}
-Stays null = Unit {0}
-Stays bad = Unit {0}
+Stays x = Unit {0}
 
 abbrev Open : List Token → Type 0
 Open [] = Unit {0}
@@ -50,8 +32,7 @@ Open (t ∷ ts) = Stays t × Open ts
 
 abbrev StaysLexeme : Lexeme → Type 0
 StaysLexeme (token t) = Stays t
-StaysLexeme comma = Unit {0}
-StaysLexeme colon = Unit {0}
+StaysLexeme x = Unit {0}
 
 abbrev OpenLexemes : List Lexeme → Type 0
 OpenLexemes [] = Unit {0}
@@ -88,19 +69,10 @@ byte_stays : (m : Mode) (c : Class) (x : ℕ) (xs ys : List ℕ) (j k : Mode →
 byte_stays Mode.between Class.quote x xs ys j k on h = (string_stays (content plain ys), on _ h.1)
 byte_stays Mode.between Class.backslash x xs ys j k on h = (tt, on _ h.1)
 byte_stays Mode.between Class.operator x xs ys j k on h = (h.0, on _ h.1)
-byte_stays Mode.between Class.space x xs ys j k on h = on _ h
 byte_stays Mode.between Class.other x xs ys j k on h = (word_stays (x ∷ ys), on _ h.1)
-byte_stays Mode.in_word Class.quote x xs ys j k on h = on _ h
-byte_stays Mode.in_word Class.backslash x xs ys j k on h = on _ h
 byte_stays Mode.in_word Class.operator x xs ys j k on h = (h.0, on _ h.1)
-byte_stays Mode.in_word Class.space x xs ys j k on h = on _ h
-byte_stays Mode.in_word Class.other x xs ys j k on h = on _ h
-byte_stays Mode.in_string Class.quote x xs ys j k on h = on _ h
-byte_stays Mode.in_string Class.backslash x xs ys j k on h = on _ h
 byte_stays Mode.in_string Class.operator x xs ys j k on h = on _ h
-byte_stays Mode.in_string Class.space x xs ys j k on h = on _ h
-byte_stays Mode.in_string Class.other x xs ys j k on h = on _ h
-byte_stays Mode.in_escape c x xs ys j k on h = on _ h
+byte_stays m c x xs ys j k on h = on _ h
 
 front_open : (m : Mode) (front back : List ℕ) → OpenLexemes (lex m (front ++ back)) → OpenLexemes (lex m front)
 unfolding lex
@@ -114,46 +86,27 @@ allowed true t k next h on = (h, on next)
 allowed false t k next h on = (tt, tt)
 
 placed : (p : Place) (t : Token) (colon_next : Bool) (k : Place → List Token) → Stays t → ((q : Place) → Open (k q)) → Open (place_token p t colon_next k)
-placed p begin_object c k h on = allowed _ _ k _ tt on
 placed p end_object c k h on = absurd h
-placed p begin_array c k h on = allowed _ _ k _ tt on
-placed p end_array c k h on = allowed _ _ k _ tt on
 placed p (key s) c k h on = (tt, tt)
+placed p bad c k h on = (tt, tt)
 placed p (string s) true k h on = allowed _ _ k _ tt on
 placed p (string s) false k h on = allowed _ _ k _ tt on
-placed p (number s) c k h on = allowed _ _ k _ tt on
-placed p (boolean b) c k h on = allowed _ _ k _ tt on
-placed p null c k h on = allowed _ _ k _ tt on
-placed p bad c k h on = (tt, tt)
+placed p t c k h on = allowed _ _ k _ tt on
 
 punctuated : (p : Place) (ls : List Lexeme) → OpenLexemes ls → Open (punctuate p ls)
 unfolding punctuate
 punctuated Place.fresh [] h = tt
 punctuated Place.after_value [] h = tt
-punctuated Place.after_comma [] h = (tt, tt)
-punctuated Place.after_key [] h = (tt, tt)
-punctuated Place.fresh (token t ∷ ls) h = placed Place.fresh t (begins_colon ls) (λ next. punctuate next ls) h.0 (λ q. punctuated q ls h.1)
-punctuated Place.after_value (token t ∷ ls) h = placed Place.after_value t (begins_colon ls) (λ next. punctuate next ls) h.0 (λ q. punctuated q ls h.1)
-punctuated Place.after_comma (token t ∷ ls) h = placed Place.after_comma t (begins_colon ls) (λ next. punctuate next ls) h.0 (λ q. punctuated q ls h.1)
-punctuated Place.after_key (token t ∷ ls) h = placed Place.after_key t (begins_colon ls) (λ next. punctuate next ls) h.0 (λ q. punctuated q ls h.1)
-punctuated Place.fresh (comma ∷ ls) h = (tt, tt)
+punctuated p (token t ∷ ls) h = placed p t (begins_colon ls) (λ next. punctuate next ls) h.0 (λ q. punctuated q ls h.1)
 punctuated Place.after_value (comma ∷ ls) h = punctuated Place.after_comma ls h.1
-punctuated Place.after_comma (comma ∷ ls) h = (tt, tt)
-punctuated Place.after_key (comma ∷ ls) h = (tt, tt)
-punctuated Place.fresh (colon ∷ ls) h = (tt, tt)
-punctuated Place.after_value (colon ∷ ls) h = (tt, tt)
-punctuated Place.after_comma (colon ∷ ls) h = (tt, tt)
 punctuated Place.after_key (colon ∷ ls) h = punctuated Place.fresh ls h.1
+punctuated p ls h = (tt, tt)
 
 -- ---- the value
 
 abbrev NoObject : Json → Type 0
-NoObject Json.null = Unit {0}
-NoObject (Json.boolean b) = Unit {0}
-NoObject (Json.number s) = Unit {0}
-NoObject (Json.string s) = Unit {0}
-NoObject (Json.array js) = Unit {0}
 NoObject (Json.object ms) = ⊥
+NoObject x = Unit {0}
 
 -- what is left behind what was read closes no object either
 abbrev Leaves : {A : Type 0} → Option (A × List Token) → Type 0
@@ -172,20 +125,11 @@ leaves_map f None h = tt
 leaves_map f (Some p) h = h
 
 end_leaves : (ts : List Token) → Open ts → (rest : List Token) → after_end_array ts ≡ Some rest → Open rest
-end_leaves [] h rest e = absurd cc
-end_leaves (begin_object ∷ ts) h rest e = absurd cc
-end_leaves (end_object ∷ ts) h rest e = absurd cc
-end_leaves (begin_array ∷ ts) h rest e = absurd cc
 end_leaves (end_array ∷ ts) h rest e = subst Open (some_is e) h.1
   where
     some_is : {a b : List Token} → Some a ≡ Some b → a ≡ b
     some_is q = cc
-end_leaves (key s ∷ ts) h rest e = absurd cc
-end_leaves (string s ∷ ts) h rest e = absurd cc
-end_leaves (number s ∷ ts) h rest e = absurd cc
-end_leaves (boolean b ∷ ts) h rest e = absurd cc
-end_leaves (null ∷ ts) h rest e = absurd cc
-end_leaves (bad ∷ ts) h rest e = absurd cc
+end_leaves ts h rest e = absurd cc
 
 module _ (value_of : Parse Json) (reads : ReadsOpen value_of) where
   and_items : (more : Parse Items) → ((ts : List Token) → Open ts → Leaves (more ts)) → (o : Option (Json × List Token)) → Reads o → Leaves (option_and_then (λ q. parse_map (Items.item q.0) (more q.1)) o)
@@ -207,18 +151,9 @@ module _ (value_of : Parse Json) (reads : ReadsOpen value_of) where
 
   no_members : (n : ℕ) (ts : List Token) → Open ts → members value_of n ts ≡ None
   unfolding members
-  no_members zero ts h = refl
-  no_members (suc n) [] h = refl
-  no_members (suc n) (begin_object ∷ ts) h = refl
   no_members (suc n) (end_object ∷ ts) h = absurd h.0
-  no_members (suc n) (begin_array ∷ ts) h = refl
-  no_members (suc n) (end_array ∷ ts) h = refl
   no_members (suc n) (key s ∷ ts) h = and_members s (members value_of n) (no_members n) (value_of ts) (reads ts h.1)
-  no_members (suc n) (string s ∷ ts) h = refl
-  no_members (suc n) (number s ∷ ts) h = refl
-  no_members (suc n) (boolean b ∷ ts) h = refl
-  no_members (suc n) (null ∷ ts) h = refl
-  no_members (suc n) (bad ∷ ts) h = refl
+  no_members n ts h = refl
 
 array_reads : (o : Option (Items × List Token)) → Leaves o → Reads (parse_map Json.array o)
 array_reads None h = tt
@@ -229,17 +164,13 @@ object_reads None e = tt
 object_reads (Some p) e = absurd cc
 
 one_level : (a : Parse Items) (o : Parse Members) → ((ts : List Token) → Open ts → Leaves (a ts)) → ((ts : List Token) → Open ts → o ts ≡ None) → ReadsOpen (value_with a o)
-one_level a o p q [] h = tt
 one_level a o p q (begin_object ∷ ts) h = object_reads (o ts) (q ts h.1)
-one_level a o p q (end_object ∷ ts) h = tt
 one_level a o p q (begin_array ∷ ts) h = array_reads (a ts) (p ts h.1)
-one_level a o p q (end_array ∷ ts) h = tt
-one_level a o p q (key s ∷ ts) h = tt
 one_level a o p q (string s ∷ ts) h = (tt, h.1)
 one_level a o p q (number s ∷ ts) h = (tt, h.1)
 one_level a o p q (boolean b ∷ ts) h = (tt, h.1)
 one_level a o p q (null ∷ ts) h = (tt, h.1)
-one_level a o p q (bad ∷ ts) h = tt
+one_level a o p q x h = tt
 
 value_reads : (depth : ℕ) → ReadsOpen (value depth)
 unfolding value
@@ -257,12 +188,10 @@ of_option f h None = tt
 of_option f h (Some a) = h a
 
 no_object : (j : Json) → NoObject j → IsNone (of_json j)
-no_object Json.null h = refl
-no_object (Json.boolean b) h = refl
 no_object (Json.number s) h = of_option datum.number (λ n. refl) (number_of s)
-no_object (Json.string s) h = refl
 no_object (Json.array js) h = of_option datum.array (λ ds. refl) (of_items js)
 no_object (Json.object ms) h = absurd h
+no_object j h = refl
 
 if_last_none : (j : Json) (ts : List Token) → NoObject j → IsNone (option_and_then of_json (if_last j ts))
 if_last_none j [] h = no_object j h
@@ -286,9 +215,8 @@ open_refused bytes h = by_length (nat_lt MAX_LINE (length bytes)) (is_utf8 bytes
   where
     by_length : (long utf8 : Bool) (o : Option Data) → IsNone o → (e : LineFault) × ((if long then Err fault.Long else text_line utf8 o) ≡ Err e)
     by_length true utf8 o h = (fault.Long, refl)
-    by_length false true None h = (fault.Json, refl)
     by_length false true (Some d) h = (fault.Kind, value_refused d h)
-    by_length false false o h = (fault.Json, refl)
+    by_length long utf8 o h = (fault.Json, refl)
 
 -- ---- an operation's line before its last bracket
 

@@ -1,19 +1,12 @@
 -- The line of a run of deletions is read back.
-use Rattle.std.proofs.Common.{◌≡◌, ◌<◌, ◌^◌, ◌++◌, codes, decimal, Ok, Err, refl, arith, length-append, lit≤, le-ltb, ne_eqb}
-use Rattle.std.proofs.lemmas.Str.{IsUtf8-append}
-use Rattle.std.proofs.lemmas.Fmt.{length-decimal-le}
-use Rattle.json.proofs.Printed.Decimals.{IsNumber-decimal}
-use Rattle.json.proofs.Printed.Utf8.{IsUtf8-are_ascii}
-use Rattle.serde_json.specs.Data.{Data, number, unsigned, string, object, member, no_members}
-use Rattle.serde_json.specs.Written.{compact_text}
+use Rattle.rga_lines.proofs.Prelude.{◌≡◌, ◌<◌, ◌^◌, ◌++◌, codes, decimal, Ok, Err, refl, arith, length-append, lit≤, le-ltb, ne_eqb, IsUtf8-append, length-decimal-le, IsNumber-decimal, IsUtf8-are_ascii, Data, unsigned, object, member, no_members}
+use Rattle.rga_lines.proofs.Prelude.{compact_text, Deletions, DeletionRun, IsDeletionRun, pair_text, any_line_at, line_at}
+use Rattle.serde_json.specs.Data.{number, string}
 use Rattle.serde_json.proofs.Numbers.{number_of-decimal}
 use Rattle.serde_json.proofs.OnLiterals.{serde_json_on_literals}
-use Rattle.rga_lines.specs.declared.line.Line.TheVariants.{Deletions}
 use Rattle.rga_lines.specs.declared.fault.LineFault.TheVariants.{Kind}
-use Rattle.rga_lines.specs.declared.deletion_run.DeletionRun.{DeletionRun}
-use Rattle.rga_lines.specs.Runs.{IsDeletionRun}
-use Rattle.rga_lines.specs.Spelling.{pair_text, deletion_run_line}
-use Rattle.rga_lines.specs.Table.{value_line, any_line_at, line_at}
+use Rattle.rga_lines.specs.Spelling.{deletion_run_line}
+use Rattle.rga_lines.specs.Table.{value_line}
 use Rattle.rga_lines.proofs.ReadingLemmas.{alone}
 use Rattle.rga_lines.proofs.SpellingLemmas.{pair_data}
 use Rattle.rga_lines.proofs.ReadBack.{within, pair_text-length, IsUtf8-decimal, IsUtf8-pair_text, pair-numbers, pair-json, back}

@@ -1,13 +1,6 @@
 -- The deletions of a run, one after another.
-use Rattle.std.proofs.Common.{◌≡◌, ℕ, zero, suc, ◌<◌, ◌≤◌, ◌&&◌, nat_le, Ok, ne_eqb, arith, true}
-use Rattle.std.specs.List.{AllByRecursion}
-use Rattle.std.proofs.lemmas.Bool.{and_parts, leb-true}
-use Rattle.rga_ops.specs.Identifier.{Identifier, is_in_range}
-use Rattle.rga_ops.specs.Operation.{checked}
-use Rattle.rga_ops.specs.declared.id.TheConstants.Id.{MAX_COUNTER}
-use Rattle.rga_ops.specs.declared.op.Op.{Op}
-use Rattle.rga_lines.specs.declared.deletion_run.DeletionRun.{DeletionRun}
-use Rattle.rga_lines.specs.Runs.{next, deletions_from, run_deletions, IsDeletionRun}
+use Rattle.rga_lines.proofs.Prelude.{◌≡◌, ℕ, zero, suc, ◌<◌, ◌≤◌, ◌&&◌, nat_le, Ok, ne_eqb, arith, true, AllByRecursion, and_parts, leb-true, Identifier, is_in_range, checked, MAX_COUNTER, Op, DeletionRun, next, deletions_from, run_deletions}
+use Rattle.rga_lines.proofs.Prelude.{IsDeletionRun}
 
 -- the identifier of an element is not the root
 pub above_root : (id : Identifier) → is_in_range id.counter id.replica ≡ true → 0 < id.counter

@@ -1,6 +1,5 @@
 -- How many digits a number has.
-use Rattle.std.proofs.Common.{ℕ, ◌<◌, ◌≤◌, ◌^◌, ◌/◌, length, decimal, arith}
-use Rattle.std.proofs.lemmas.Fmt.{length-decimal-le}
+use Rattle.rga_lines.proofs.Prelude.{ℕ, ◌<◌, ◌≤◌, ◌^◌, ◌/◌, length, decimal, arith, length-decimal-le}
 
 pub at_most_twenty : (n : ℕ) → n < 2 ^ 64 → length (decimal n) ≤ 20
 at_most_twenty n small = length-decimal-le 20 n (omega arith) (omega arith) small

@@ -1,26 +1,17 @@
 -- The fault of a line is that of the first demand that it does not meet.
-use Rattle.std.proofs.Common.{◌≡◌, ℕ, suc, ◌+◌, Bool, true, false, List, [], ◌∷◌, ◌++◌, length, Option, Some, None, nat_lt, nat_le, if◌then◌else◌, ◌&&◌, ◌||◌, refl, sym, ap, ◌∙◌, arith, codes}
+use Rattle.rga_lines.proofs.Prelude.{◌≡◌, ℕ, suc, ◌+◌, Bool, true, false, List, [], ◌∷◌, ◌++◌, length, Option, Some, None, nat_lt, nat_le, if◌then◌else◌, ◌&&◌, ◌||◌, refl, sym, ap, ◌∙◌, arith, codes, ◌==◌, not, Result, Ok, Err, IfSome, ok_or}
+use Rattle.rga_lines.proofs.Prelude.{is_some, option_map, option_and_then, unwrap_or, is_utf8, chars, bytes_eq, Data, array, object, members_len, read, get_member, as_str, as_array, Identifier, identifier, is_root, is_in_range, MAX_COUNTER, Insert}
+use Rattle.rga_lines.proofs.Prelude.{DeletionRun, LineFault, One, Run, Deletions, Head, Last, longest_run, deletion_run, stretch, Reading, AnyReading, two_numbers, element_of, parent_of, if_in_range, if_root_or_in_range, longest_line, Demand, demand}
+use Rattle.rga_lines.proofs.Prelude.{first_fault, kinds, kind_among, kind_of, one_character, run_text, element, element_or_root, deletion_count, operation_count, version, number_in, has_type, is_identifier, length_in, is_run_length, has_length}
+use Rattle.rga_lines.proofs.Prelude.{counter_in, kind_demands, value_demands, read_demands, line_demands, is_operation, operation_demands}
 use Rattle.std.proofs.lemmas.Bool.Decides.{nat_tests}
-use Rattle.std.specs.Prelude.{◌==◌, not, Result, Ok, Err, IfSome, ok_or, is_some, option_map, option_and_then, unwrap_or}
 use Rattle.std.specs.Option.{option_or}
 use Rattle.std.specs.Result.{result_err}
-use Rattle.std.specs.Str.{is_utf8, chars, bytes_eq}
-use Rattle.serde_json.specs.Data.{Data, null, boolean, number, string, array, object, Items, Members}
-use Rattle.serde_json.specs.Events.{members_len}
-use Rattle.serde_json.specs.Read.{read}
-use Rattle.serde_json.specs.Find.{get_member, as_str, as_array}
-use Rattle.rga_ops.specs.Identifier.{Identifier, identifier, is_root, is_in_range}
-use Rattle.rga_ops.specs.declared.id.TheConstants.Id.{MAX_COUNTER}
-use Rattle.rga_ops.specs.declared.op.Op.TheVariants.{Insert}
-use Rattle.rga_lines.specs.declared.deletion_run.DeletionRun.{DeletionRun}
-use Rattle.rga_lines.specs.declared.fault.LineFault.{LineFault}
-use Rattle.rga_lines.specs.declared.fault.LineFault.TheVariants as fault
-use Rattle.rga_lines.specs.declared.line.Line.TheVariants.{One, Run, Deletions, Head, Last}
-use Rattle.rga_lines.specs.Runs.{longest_run, deletion_run, stretch}
-use Rattle.rga_lines.specs.Table as table
-use Rattle.rga_lines.specs.Table.{Reading, AnyReading, number_of, two_numbers, element_of, parent_of, if_in_range, if_root_or_in_range, longest_line}
-use Rattle.rga_lines.specs.Faults.{Demand, demand, first_fault, kinds, kind_among, kind_of, one_character, run_text, element, element_or_root, deletion_count, operation_count, version, number_in, has_type, is_identifier, length_in, is_run_length, has_length, counter_in, kind_demands, value_demands, read_demands, line_demands, is_operation, operation_demands}
+use Rattle.serde_json.specs.Data.{null, boolean, number, string, Items, Members}
+use Rattle.rga_lines.specs.Table.{number_of}
 use Rattle.rga_lines.proofs.SoundLemmas.{kind_by, reading_by, IsSound, sound_line}
+use Rattle.rga_lines.specs.declared.fault.LineFault.TheVariants as fault
+use Rattle.rga_lines.specs.Table as table
 
 -- ---- tests
 
@@ -89,19 +80,16 @@ insertion_identifiers : (t : List ℕ) (i p : Option Identifier) (n m : ℕ) →
     → result_err (table.with_identifiers i p t)
     ≡ first_fault (demand (all_three true (is_some i) (is_some p) && true) fault.Id
     ∷ demand (all_three (length (chars t) == 1) true true) fault.Char ∷ demand (nat_lt m n) fault.Order ∷ [])
-insertion_identifiers t None p n m here above = refl
-insertion_identifiers t (Some i) None n m here above = refl
 insertion_identifiers t (Some i) (Some p) n m here above = rw (here, above) (insertion_characters i p (chars t))
+insertion_identifiers t i p n m here above = refl
 
 insertion_types : (t : Option (List ℕ)) (i p : Option Items) → result_err (table.with_types t i p)
     ≡ first_fault (demand (all_three (is_some t) (is_some i) (is_some p)) fault.Kind
     ∷ demand (all_three true (is_some (option_and_then element_of i)) (is_some (option_and_then parent_of p)) && true) fault.Id
     ∷ demand (all_three (text_length t == 1) true true) fault.Char ∷ demand (nat_lt (first_number p) (first_number i)) fault.Order ∷ [])
-insertion_types None i p = refl
-insertion_types (Some t) None p = refl
-insertion_types (Some t) (Some i) None = refl
 insertion_types (Some t) (Some i) (Some p) =
     insertion_identifiers t (element_of i) (parent_of p) (first (two_numbers i)) (first (two_numbers p)) (element_counter (two_numbers i)) (parent_counter (two_numbers p))
+insertion_types t i p = refl
 
 insertion_members : (four : Bool) (c i p : Option Data)
     → result_err (if four && (is_some c && (is_some i && is_some p))
@@ -110,11 +98,8 @@ insertion_members : (four : Bool) (c i p : Option Data)
     ∷ demand (all_three (has_type one_character c) (has_type element i) (has_type element_or_root p)) fault.Kind
     ∷ demand (all_three true (is_identifier element i) (is_identifier element_or_root p) && true) fault.Id
     ∷ demand (all_three (has_length one_character c) true true) fault.Char ∷ demand (nat_lt (counter_in p) (counter_in i)) fault.Order ∷ [])
-insertion_members false c i p = refl
-insertion_members true None i p = refl
-insertion_members true (Some c) None p = refl
-insertion_members true (Some c) (Some i) None = refl
 insertion_members true (Some c) (Some i) (Some p) = insertion_types (as_str c) (as_array i) (as_array p)
+insertion_members four c i p = refl
 
 -- ---- a deletion
 
@@ -133,9 +118,8 @@ deletion_members : (two : Bool) (i : Option Data)
     → result_err (if two && is_some i then table.with_type (option_and_then as_array i) else Err fault.Member)
     ≡ first_fault (demand (two && (is_some i && true)) fault.Member ∷ demand (has_type element i && true) fault.Kind
     ∷ demand ((is_identifier element i && true) && true) fault.Id ∷ demand true fault.Char ∷ demand true fault.Order ∷ [])
-deletion_members false i = refl
-deletion_members true None = refl
 deletion_members true (Some i) = deletion_type (as_array i)
+deletion_members two i = refl
 
 -- ---- a run
 
@@ -159,22 +143,18 @@ run_identifiers : (t : List ℕ) (i p : Option Identifier) (n m : ℕ) → IfSom
     → result_err (table.with_run_identifiers i p t)
     ≡ first_fault (demand (all_three (is_some i) (is_some p) true && nat_le (n + length (chars t)) (MAX_COUNTER + 1)) fault.Id
     ∷ demand (all_three true true (is_run_length (length (chars t)))) fault.Char ∷ demand (nat_lt m n) fault.Order ∷ [])
-run_identifiers t None p n m here above = refl
-run_identifiers t (Some i) None n m here above = refl
 run_identifiers t (Some i) (Some p) n m here above = rw (here, above) (run_end i p (chars t))
+run_identifiers t i p n m here above = refl
 
 run_types : (t : Option (List ℕ)) (i p : Option Items) → result_err (table.with_run_types t i p)
     ≡ first_fault (demand (all_three (is_some i) (is_some p) (is_some t)) fault.Kind
     ∷ demand (all_three (is_some (option_and_then element_of i)) (is_some (option_and_then parent_of p)) true
     && nat_le (first_number i + text_length t) (MAX_COUNTER + 1)) fault.Id
     ∷ demand (all_three true true (is_run_length (text_length t))) fault.Char ∷ demand (nat_lt (first_number p) (first_number i)) fault.Order ∷ [])
-run_types None None p = refl
-run_types None (Some i) None = refl
-run_types None (Some i) (Some p) = refl
-run_types (Some t) None p = refl
-run_types (Some t) (Some i) None = refl
 run_types (Some t) (Some i) (Some p) =
     run_identifiers t (element_of i) (parent_of p) (first (two_numbers i)) (first (two_numbers p)) (element_counter (two_numbers i)) (parent_counter (two_numbers p))
+run_types None (Some i) (Some p) = refl
+run_types t i p = refl
 
 run_members : (four : Bool) (i p t : Option Data)
     → result_err (if four && (is_some i && (is_some p && is_some t))
@@ -183,11 +163,8 @@ run_members : (four : Bool) (i p t : Option Data)
     ∷ demand (all_three (has_type element i) (has_type element_or_root p) (has_type run_text t)) fault.Kind
     ∷ demand (all_three (is_identifier element i) (is_identifier element_or_root p) true && nat_le (counter_in i + length_in t) (MAX_COUNTER + 1)) fault.Id
     ∷ demand (all_three true true (has_length run_text t)) fault.Char ∷ demand (nat_lt (counter_in p) (counter_in i)) fault.Order ∷ [])
-run_members false i p t = refl
-run_members true None p t = refl
-run_members true (Some i) None t = refl
-run_members true (Some i) (Some p) None = refl
 run_members true (Some i) (Some p) (Some t) = run_types (as_str t) (as_array i) (as_array p)
+run_members four i p t = refl
 
 -- ---- a run of deletions
 
@@ -209,9 +186,8 @@ deletions_types : (n : Option ℕ) (i : Option Items) → result_err (table.with
     ≡ first_fault (demand (both (is_some n) (is_some i)) fault.Kind
     ∷ demand (both true (is_some (option_and_then element_of i)) && nat_le (first_number i + unwrap_or n 0) (MAX_COUNTER + 1)) fault.Id
     ∷ demand (is_run_length (unwrap_or n 0) && true) fault.Char ∷ demand true fault.Order ∷ [])
-deletions_types None i = refl
-deletions_types (Some n) None = refl
 deletions_types (Some n) (Some i) = deletions_identifier n (element_of i) (first (two_numbers i)) (element_counter (two_numbers i))
+deletions_types n i = refl
 
 deletions_members : (three : Bool) (n i : Option Data)
     → result_err (if three && (is_some n && is_some i)
@@ -220,10 +196,8 @@ deletions_members : (three : Bool) (n i : Option Data)
     ∷ demand (both (has_type deletion_count n) (has_type element i)) fault.Kind
     ∷ demand (both true (is_identifier element i) && nat_le (counter_in i + unwrap_or (number_in n) 0) (MAX_COUNTER + 1)) fault.Id
     ∷ demand (both (has_length deletion_count n) true) fault.Char ∷ demand true fault.Order ∷ [])
-deletions_members false n i = refl
-deletions_members true None i = refl
-deletions_members true (Some n) None = refl
 deletions_members true (Some n) (Some i) = deletions_types (number_of n) (as_array i)
+deletions_members three n i = refl
 
 -- ---- the head and the end of an exchange
 
@@ -238,9 +212,8 @@ head_type (Some n) = is_version (n == 2) (Ok Head) refl
 head_members : (two : Bool) (v : Option Data)
     → result_err (if two && is_some v then table.with_version (option_and_then number_of v) else Err fault.Member)
     ≡ first_fault (demand (two && (is_some v && true)) fault.Member ∷ demand (has_type version v && true) fault.Kind ∷ [])
-head_members false v = refl
-head_members true None = refl
 head_members true (Some v) = head_type (number_of v)
+head_members two v = refl
 
 end_type : (n : Option ℕ) → result_err (ok_or n fault.Kind) ≡ first_fault (demand (is_some n && true) fault.Kind ∷ [])
 end_type None = refl
@@ -249,9 +222,8 @@ end_type (Some n) = refl
 end_members : (two : Bool) (n : Option Data)
     → result_err (if two && is_some n then ok_or (option_and_then number_of n) fault.Kind else Err fault.Member)
     ≡ first_fault (demand (two && (is_some n && true)) fault.Member ∷ demand (has_type operation_count n && true) fault.Kind ∷ [])
-end_members false n = refl
-end_members true None = refl
 end_members true (Some n) = end_type (number_of n)
+end_members two n = refl
 
 -- ---- the whole
 
@@ -309,18 +281,13 @@ of_op ms (Some op) = of_name ms (as_str op)
 
 pub value_faults : (d : Data) → result_err (table.value_line d) ≡ first_fault (value_demands d)
 unfolding table.value_line
-value_faults null = refl
-value_faults (boolean b) = refl
-value_faults (number n) = refl
-value_faults (string s) = refl
-value_faults (array ds) = refl
 value_faults (object ms) = of_op ms (get_member (codes "op") ms)
+value_faults d = refl
 
 of_text : (is_text : Bool) (d : Option Data) → result_err (table.text_line is_text d)
     ≡ first_fault (demand (is_text && is_some d) fault.Json ∷ read_demands d)
 of_text true (Some d) = value_faults d
-of_text true None = refl
-of_text false d = refl
+of_text is_text d = refl
 
 pub line_faults : (bytes : List ℕ) → result_err (table.any_line_at bytes) ≡ first_fault (line_demands bytes)
 unfolding table.any_line_at
@@ -342,12 +309,10 @@ after (d ∷ ds) es = after_one d.is_met d.fault (first_fault (ds ++ es)) (first
 
 -- where one operation alone may stand, a reading has its fault, and one of a line that is none has `Kind`
 alone : (r : AnyReading) (single : Bool) → IsSound single r → result_err (table.operation_alone r) ≡ option_or (result_err r) (first_fault (demand single fault.Kind ∷ []))
-alone (Ok (One op)) single h = rw h.1 refl
-alone (Ok (Run r)) single h = rw h.1 refl
-alone (Ok (Deletions r)) single h = rw h.1 refl
 alone (Ok Head) single h = rw h refl
 alone (Ok (Last operations)) single h = rw h refl
 alone (Err e) single h = refl
+alone r single h = rw h.1 refl
 
 pub operation_faults : (bytes : List ℕ) → result_err (table.line_at bytes) ≡ first_fault (operation_demands bytes)
 unfolding table.line_at

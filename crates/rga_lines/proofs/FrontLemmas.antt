@@ -1,8 +1,6 @@
 -- The front of bytes, once more is put behind it; and numbers that are put with the digits of their hundred.
-use Rattle.std.proofs.Common.{◌≡◌, ℕ, ◌+◌, ◌-◌, ◌*◌, ◌/◌, ◌%◌, ◌^◌, ◌<◌, ◌≤◌, List, ◌++◌, length, take, decimal, sym, ap, ◌∙◌, arith, append_assoc}
-use Rattle.std.proofs.lemmas.List.{take-take, length-take}
+use Rattle.rga_lines.proofs.Prelude.{◌≡◌, ℕ, ◌+◌, ◌-◌, ◌*◌, ◌/◌, ◌%◌, ◌^◌, ◌<◌, ◌≤◌, List, ◌++◌, length, take, decimal, sym, ap, ◌∙◌, arith, append_assoc, take-take, length-take, decimal_pair, pair}
 use Rattle.std.proofs.Math.Seq.{take-append_seam, take-append-add}
-use Rattle.itoa.proofs.Decimal.{decimal_pair, pair}
 
 -- of what is known to begin so, a shorter front is the same
 pub front_stays : (n m : ℕ) (xs front rest : List ℕ) → take m xs ≡ front ++ rest → length front ≡ n → n ≤ m → take n xs ≡ front

@@ -1,3 +1,4 @@
+pub mod Prelude
 pub mod ReadingLemmas
 pub mod StreamLemmas
 pub mod SplitterLemmas

@@ -1,18 +1,8 @@
 -- No line that is written has a newline in it.
-use Rattle.std.proofs.Common.{◌≡◌, ◌≢◌, ℕ, ◌+◌, ◌<◌, ◌^◌, ◌/◌, ◌%◌, ◌&&◌, Bool, true, false, cond, not, eqb, ltb, List, [], ◌∷◌, ◌++◌, ◌⊎◌, inl, inr, codes, decimal, refl, sym, subst, arith}
-use Rattle.std.specs.Char.{encode_utf8, digit_char}
-use Rattle.std.proofs.lemmas.Bool.{cases_eq, cases_lt, and_parts, eqb-false, not-true}
-use Rattle.std.proofs.lemmas.List.Elements.{All-from_recursion}
-use Rattle.std.proofs.lemmas.Str.{encode_ascii}
-use Rattle.std.proofs.lemmas.Fmt.{decimal_by_steps}
-use Rattle.rga_ops.specs.Identifier.{Identifier}
-use Rattle.rga_ops.specs.declared.op.Op.{Op}
-use Rattle.rga_ops.specs.declared.op.Op.TheVariants.{Insert, Delete}
-use Rattle.std.specs.List.{flat_map, AllByRecursion}
-use Rattle.rga_lines.specs.declared.deletion_run.DeletionRun.{DeletionRun}
-use Rattle.rga_lines.specs.Runs.{Stretch, IsDeletionRun}
-use Rattle.rga_lines.specs.Spelling.{escaped, pair_text, line, run_line, deletion_run_line, head_line, end_line, IsWritable, IsWritableRun}
-use Rattle.rga_lines.specs.Stream.{newline, HasNoNewline}
+use Rattle.rga_lines.proofs.Prelude.{◌≡◌, ◌≢◌, ℕ, ◌+◌, ◌<◌, ◌^◌, ◌/◌, ◌%◌, ◌&&◌, Bool, true, false, cond, not, eqb, ltb, List, [], ◌∷◌, ◌++◌, ◌⊎◌, inl, inr, codes, decimal, refl, sym, subst, arith, encode_utf8, digit_char, cases_eq, cases_lt}
+use Rattle.rga_lines.proofs.Prelude.{and_parts, eqb-false, not-true, All-from_recursion, encode_ascii, decimal_by_steps, Identifier, Op, Insert, Delete, flat_map, AllByRecursion, DeletionRun, Stretch, IsDeletionRun, pair_text, IsWritable}
+use Rattle.rga_lines.proofs.Prelude.{IsWritableRun, newline, HasNoNewline}
+use Rattle.rga_lines.specs.Spelling.{escaped, line, run_line, deletion_run_line, head_line, end_line}
 use Rattle.rga_lines.proofs.SpellingLemmas.{escaped_all, Plain, Plain-encode}
 use Rattle.rga_lines.proofs.ReadBack.{InBounds, within, in_bounds}
 

@@ -1,11 +1,9 @@
 -- What the next line is, by the index of the first newline in what waits.
-use Rattle.std.proofs.Common.{◌≡◌, ℕ, ◌+◌, ◌<◌, ◌≤◌, Bool, false, List, ◌∷◌, length, take, drop, Some, None, position, refl, sym, ap, ap₂, ◌∙◌, arith, lt-ltb, le-ltb}
-use Rattle.std.proofs.lemmas.List.{length-take-le, take_all}
-use Rattle.rga_lines.specs.declared.line.TheConstants.{MAX_LINE}
-use Rattle.rga_lines.specs.Stream.{lines_of, HasNoNewline, EndsNextLine, Splitting, splitting_with, gave_up, Answer, next_of_lines, next_of}
-use Rattle.rga_lines.specs.declared.fault.LineFault.TheVariants as fault
+use Rattle.rga_lines.proofs.Prelude.{◌≡◌, ℕ, ◌+◌, ◌<◌, ◌≤◌, Bool, false, List, ◌∷◌, length, take, drop, Some, None, position, refl, sym, ap, ap₂, ◌∙◌, arith, lt-ltb, le-ltb, length-take-le, take_all, MAX_LINE, lines_of, HasNoNewline, EndsNextLine}
+use Rattle.rga_lines.proofs.Prelude.{Splitting, splitting_with, gave_up, Answer, next_of_lines, next_of}
 use Rattle.rga_lines.proofs.SplitterLemmas.{gave, gave_none, failed}
 use Rattle.rga_lines.proofs.StreamLemmas.{is_newline, FirstLine, first_line, no_first_line, lines-line, lines-none}
+use Rattle.rga_lines.specs.declared.fault.LineFault.TheVariants as fault
 
 abbrev pub state : List ℕ → Bool → Splitting
 state waiting broken = record { waiting = waiting; broken = broken }

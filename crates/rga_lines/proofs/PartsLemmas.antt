@@ -1,17 +1,12 @@
 -- The parts of a line that is spelled in one way.
-use Rattle.std.proofs.Common.{lit≤, ◌≡◌, ◌≢◌, ℕ, zero, suc, refl, ◌+◌, ◌-◌, ◌*◌, ◌/◌, ◌%◌, ◌^◌, ◌<◌, ◌≤◌, true, List, [], ◌∷◌, ◌++◌, length, take, drop, decimal, Some, nat_eq, sym, ap, subst, ◌∙◌, arith, append-nil, append_assoc, lt-ltb, le-ltb, ne_eqb}
-use Rattle.std.specs.Char.{encode_utf8, IsScalar}
-use Rattle.std.specs.Str.{IsUtf8, chars, encode_utf8_all}
+use Rattle.rga_lines.proofs.Prelude.{lit≤, ◌≡◌, ◌≢◌, ℕ, zero, suc, refl, ◌+◌, ◌-◌, ◌*◌, ◌/◌, ◌%◌, ◌^◌, ◌<◌, ◌≤◌, true, List, [], ◌∷◌, ◌++◌, length, take, drop, decimal, Some, nat_eq, sym, ap, subst, ◌∙◌, arith, append-nil, append_assoc, lt-ltb}
+use Rattle.rga_lines.proofs.Prelude.{le-ltb, ne_eqb, IsScalar, IsUtf8, chars, encode_utf8_all, nil_from_length, take-append-drop, encodes-chars, scalars-chars, and_parts, decimal_step, decimal_digit, only_char}
+use Rattle.std.specs.Char.{encode_utf8}
 use Rattle.std.specs.Cmp.Lexicographic.{pointwise, same_text}
-use Rattle.std.proofs.lemmas.List.{nil_from_length, take-append-drop}
-use Rattle.std.proofs.lemmas.Str.{encodes-chars, scalars-chars}
-use Rattle.std.proofs.lemmas.Bool.{and_parts}
-use lib.Utf8.{scalar, scalars}
 use Rattle.std.proofs.Math.Utf8.{low_scalar}
-use Rattle.std.proofs.lemmas.Fmt.{decimal_step, decimal_digit}
 use Rattle.rga_lines.specs.Spelling.{escaped}
-use Rattle.rga_lines.specs.Table.{only_char}
 use Rattle.rga_lines.proofs.SpellingLemmas.{wide}
+use lib.Utf8.{scalar, scalars}
 
 -- ---- a literal
 
@@ -74,9 +69,8 @@ pub plain_spelled : (first : ℕ) (bytes rest : List ℕ) → bytes ≡ first �
 plain_spelled first bytes rest is low high quote back = (is ∙ ap (λ l. l ++ rest) (sym (itself first low high quote back)), low_scalar first (omega arith))
 
 only_is : (cs : List ℕ) (c : ℕ) → only_char cs ≡ Some c → cs ≡ c ∷ []
-only_is [] c e = absurd cc
 only_is (d ∷ []) c e = cc
-only_is (d ∷ x ∷ cs) c e = absurd cc
+only_is cs c e = absurd cc
 
 pub wide_spelled : (bytes front rest text : List ℕ) (width c : ℕ) → front ≡ take width bytes → rest ≡ drop width bytes → text ≡ front → IsUtf8 front → Some c ≡ only_char (chars text) → 128 ≤ c → (bytes ≡ escaped c ++ rest) × IsScalar c
 wide_spelled bytes front rest text width c a b same utf8 one high =

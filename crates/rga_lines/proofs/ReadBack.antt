@@ -1,40 +1,25 @@
 -- What is written is read back.
-use Rattle.std.proofs.Common.{◌≡◌, ℕ, ◌<◌, ◌≤◌, ◌^◌, Bool, true, false, List, [], ◌∷◌, ◌++◌, length, codes, decimal, Option, Some, option_and_then, Ok, Err, refl, sym, ap, subst, ◌∙◌, arith, append-nil, inl, inr, ◌||◌, ◌&&◌, lit≤, eqb, leb}
-use Rattle.std.specs.Char.{encode_utf8, IsScalar}
-use lib.Utf8.{scalar}
-use Rattle.std.specs.Str.{IsUtf8, chars}
-use Rattle.std.proofs.lemmas.Bool.{or_cases, and_parts, eqb-true, leb-true}
-use Rattle.std.proofs.lemmas.List.{length-append}
-use Rattle.std.proofs.lemmas.Str.{chars-encodes, IsUtf8-append, IsUtf8-encode, IsUtf8-from_ascii, length-encode, len_utf8_bounds}
-use Rattle.std.proofs.lemmas.Fmt.{IsAscii-decimal, length-decimal-le}
-use Rattle.json.specs.Json as json
+use Rattle.rga_lines.proofs.Prelude.{◌≡◌, ℕ, ◌<◌, ◌≤◌, ◌^◌, Bool, true, false, List, [], ◌∷◌, ◌++◌, length, codes, decimal, Option, Some, option_and_then, Ok, Err, refl, sym, ap, subst, ◌∙◌, arith, append-nil, inl, inr, ◌||◌, ◌&&◌, lit≤, eqb, leb}
+use Rattle.rga_lines.proofs.Prelude.{encode_utf8, IsScalar, IsUtf8, chars, or_cases, and_parts, eqb-true, leb-true, length-append, chars-encodes, IsUtf8-append, IsUtf8-encode, IsUtf8-from_ascii, length-encode, len_utf8_bounds, IsAscii-decimal}
+use Rattle.rga_lines.proofs.Prelude.{length-decimal-le, quoted, IsNumber-decimal, IsUtf8-are_ascii, IsUtf8-quoted, Data, unsigned, read, of_json, max_depth, compact_text, outline, MAX_COUNTER, Identifier, is_root, is_in_range, checked, Op, Insert}
+use Rattle.rga_lines.proofs.Prelude.{Delete, One, Head, Last, escaped, pair_text, IsWritable, MAX_LINE, any_line_at, line_at}
 use Rattle.json.specs.Lex.{tokens}
-use Rattle.json.specs.Print.{quoted}
-use Rattle.json.specs.Tree as tree
-use Rattle.json.proofs.Printed.Decimals.{IsNumber-decimal}
 use Rattle.json.proofs.Printed.Tokens.{tokens-print}
 use Rattle.json.proofs.Printed.Trees.{value-json_tokens, ArePrintable-json_tokens}
-use Rattle.json.proofs.Printed.Utf8.{IsUtf8-are_ascii, IsUtf8-quoted}
-use Rattle.serde_json.specs.Data.{Data, unsigned}
-use Rattle.serde_json.specs.Read.{read, of_json, max_depth, number_of}
-use Rattle.serde_json.specs.Written.{compact_text, outline}
+use Rattle.serde_json.specs.Read.{number_of}
 use Rattle.serde_json.proofs.Numbers.{number_of-decimal}
 use Rattle.serde_json.proofs.OnLiterals.{serde_json_on_literals}
 use Rattle.serde_json.proofs.Texts.{print-outline}
-use Rattle.rga_ops.specs.declared.id.TheConstants.Id.{MAX_COUNTER}
-use Rattle.rga_ops.specs.Identifier.{Identifier, is_root, is_in_range}
-use Rattle.rga_ops.specs.Operation.{checked}
-use Rattle.rga_ops.specs.declared.op.Op.{Op}
-use Rattle.rga_ops.specs.declared.op.Op.TheVariants.{Insert, Delete}
 use Rattle.rga_ops.proofs.AnswerLaws.{well_formed_insertion}
 use Rattle.rga_lines.specs.declared.line.Line.{Line}
-use Rattle.rga_lines.specs.declared.line.Line.TheVariants.{One, Head, Last}
 use Rattle.rga_lines.specs.declared.fault.LineFault.TheVariants.{Kind}
-use Rattle.rga_lines.specs.Spelling.{escaped, pair_text, line, head_line, end_line, IsWritable}
-use Rattle.rga_lines.specs.declared.line.TheConstants.{MAX_LINE}
-use Rattle.rga_lines.specs.Table.{value_line, any_line_at, line_at}
+use Rattle.rga_lines.specs.Spelling.{line, head_line, end_line}
+use Rattle.rga_lines.specs.Table.{value_line}
 use Rattle.rga_lines.proofs.ReadingLemmas.{accepted, alone}
 use Rattle.rga_lines.proofs.SpellingLemmas.{escaped_all, pair_data, op_data, head_data, end_data, insert_data, insert_text, compact_op, compact_head, compact_end}
+use lib.Utf8.{scalar}
+use Rattle.json.specs.Json as json
+use Rattle.json.specs.Tree as tree
 
 -- ---- a value without floats is read back from its compact text
 

@@ -1,19 +1,9 @@
 -- What the bytes of a line say by their value, and that what is read is well-formed.
-use Rattle.std.proofs.Common.{◌≡◌, ◌≢◌, ℕ, ◌<◌, ◌≤◌, Bool, true, false, List, length, Option, Some, None, Ok, Err, refl, sym, ap, ◌∙◌, lt-ltb, le-ltb}
-use Rattle.std.specs.Str.{IsUtf8, is_utf8}
-use Rattle.std.proofs.lemmas.Str.{is_utf8-from_IsUtf8, IsUtf8-from_is_utf8}
-use Rattle.serde_json.specs.Data.{Data}
-use Rattle.serde_json.specs.Read.{read}
-use Rattle.rga_ops.specs.Operation.{checked}
-use Rattle.rga_ops.specs.declared.op.Op.{Op}
-use Rattle.rga_lines.specs.declared.line.Line.TheVariants.{One, Run, Deletions, Head, Last}
-use Rattle.rga_lines.specs.declared.line.TheConstants.{MAX_LINE}
-use Rattle.rga_lines.specs.declared.deletion_run.DeletionRun.{DeletionRun}
-use Rattle.rga_lines.specs.declared.fault.LineFault.TheVariants as fault
-use Rattle.rga_lines.specs.Faults.{is_operation}
-use Rattle.rga_lines.specs.Runs.{Stretch, IsRun, IsDeletionRun}
-use Rattle.rga_lines.specs.Table.{Reading, AnyReading, value_line, text_line, any_line_at, operation_alone, line_at}
+use Rattle.rga_lines.proofs.Prelude.{◌≡◌, ◌≢◌, ℕ, ◌<◌, ◌≤◌, Bool, true, false, List, length, Option, Some, None, Ok, Err, refl, sym, ap, ◌∙◌, lt-ltb, le-ltb, IsUtf8, is_utf8, is_utf8-from_IsUtf8, IsUtf8-from_is_utf8, Data, read, checked, Op, One}
+use Rattle.rga_lines.proofs.Prelude.{Run, Deletions, Head, Last, MAX_LINE, DeletionRun, is_operation, Stretch, IsRun, IsDeletionRun, Reading, AnyReading, value_line, text_line, operation_alone}
+use Rattle.rga_lines.specs.Table.{any_line_at, line_at}
 use Rattle.rga_lines.proofs.SoundLemmas.{IsSound, IsSoundOperation, sound_line}
+use Rattle.rga_lines.specs.declared.fault.LineFault.TheVariants as fault
 
 -- ---- the whole
 
@@ -58,11 +48,7 @@ any_well_formed bytes op e = let sound : IsSound (is_operation (read bytes)) (Ok
 
 sound_alone : (single : Bool) (r : AnyReading) → IsSound single r → IsSoundOperation (operation_alone r)
 sound_alone single (Ok (One op)) sound = sound.0
-sound_alone single (Ok (Run r)) sound = tt
-sound_alone single (Ok (Deletions r)) sound = tt
-sound_alone single (Ok Head) sound = tt
-sound_alone single (Ok (Last operations)) sound = tt
-sound_alone single (Err e) sound = tt
+sound_alone single r sound = tt
 
 sound_operation : (bytes : List ℕ) → IsSoundOperation (line_at bytes)
 unfolding line_at

@@ -1,25 +1,15 @@
 -- The line of a run is read back.
-use Rattle.std.proofs.Common.{◌≡◌, ℕ, ◌*◌, ◌≤◌, true, List, [], ◌∷◌, ◌++◌, length, codes, Ok, refl, sym, ap, ap₂, subst, ◌∙◌, arith, append_assoc, length-append, lit≤, le-ltb, ne_eqb}
-use Rattle.std.specs.Char.{encode_utf8, IsScalar}
-use Rattle.std.specs.List.{flat_map, AllByRecursion}
-use Rattle.std.specs.Str.{IsUtf8, chars}
+use Rattle.rga_lines.proofs.Prelude.{◌≡◌, ℕ, ◌*◌, ◌≤◌, true, List, [], ◌∷◌, ◌++◌, length, codes, Ok, refl, sym, ap, ap₂, subst, ◌∙◌, arith, append_assoc, length-append, lit≤, le-ltb, ne_eqb, encode_utf8, IsScalar, flat_map, AllByRecursion, IsUtf8}
+use Rattle.rga_lines.proofs.Prelude.{chars, lt-leb, chars-encodes, IsUtf8-append, escape, escape_byte, IsUtf8-are_ascii, IsUtf8-quoted, Data, object, member, no_members, compact_text, Identifier, Run, MAX_LINE, Stretch, escaped, pair_text}
+use Rattle.rga_lines.proofs.Prelude.{IsWritableRun, any_line_at}
 use Rattle.std.proofs.Math.Utf8.{encodes}
-use lib.Utf8.{scalars}
-use Rattle.std.proofs.lemmas.Bool.{lt-leb}
-use Rattle.std.proofs.lemmas.Str.{chars-encodes, IsUtf8-append}
-use Rattle.json.specs.Print.{escape, escape_byte}
-use Rattle.json.proofs.Printed.Utf8.{IsUtf8-are_ascii, IsUtf8-quoted}
-use Rattle.serde_json.specs.Data.{Data, string, object, member, no_members}
-use Rattle.serde_json.specs.Written.{compact_text}
+use Rattle.serde_json.specs.Data.{string}
 use Rattle.serde_json.proofs.OnLiterals.{serde_json_on_literals}
-use Rattle.rga_ops.specs.Identifier.{Identifier}
-use Rattle.rga_lines.specs.declared.line.Line.TheVariants.{Run}
-use Rattle.rga_lines.specs.declared.line.TheConstants.{MAX_LINE}
-use Rattle.rga_lines.specs.Runs.{Stretch}
-use Rattle.rga_lines.specs.Spelling.{escaped, pair_text, run_line, IsWritableRun}
-use Rattle.rga_lines.specs.Table.{value_line, any_line_at}
+use Rattle.rga_lines.specs.Spelling.{run_line}
+use Rattle.rga_lines.specs.Table.{value_line}
 use Rattle.rga_lines.proofs.SpellingLemmas.{pair_data, escape-encode}
 use Rattle.rga_lines.proofs.ReadBack.{InBounds, within, in_bounds, pair_text-length, IsUtf8-pair_text, pair-numbers, pair-json, escaped-length, back}
+use lib.Utf8.{scalars}
 
 abbrev run_data : List ℕ → Identifier → Identifier → Data
 run_data text id parent = object (member (codes "id") (pair_data id) (member (codes "op") (string (codes "run")) (member (codes "parent") (pair_data parent) (member (codes "text") (string text) no_members))))

@@ -1,15 +1,6 @@
 -- The characters of a run's line, one after another.
-use Rattle.std.proofs.Common.{◌≡◌, ℕ, ◌+◌, ◌<◌, Ok, ne_eqb, List, [], ◌∷◌, ◌++◌, length, codes, refl, sym, ap, ◌∙◌, arith, append_assoc, append-nil, length-append}
-use Rattle.std.specs.Char.{IsScalar}
-use Rattle.std.specs.List.{flat_map, AllByRecursion}
-use Rattle.std.proofs.lemmas.Str.{length-encode, len_utf8_bounds}
-use Rattle.rga_ops.specs.Identifier.{Identifier, identifier}
-use Rattle.rga_ops.specs.Operation.{checked}
-use Rattle.rga_ops.specs.declared.op.Op.{Op}
-use Rattle.rga_ops.specs.declared.op.Op.TheVariants.{Insert}
-use Rattle.rga_lines.specs.Runs.{Stretch, IsRun, next, run_operations, stretch_operations}
-use Rattle.rga_lines.specs.Spelling.{escaped, ReadsInsertions}
-use Rattle.std.proofs.lemmas.Bool.{lt-leb}
+use Rattle.rga_lines.proofs.Prelude.{◌≡◌, ℕ, ◌+◌, ◌<◌, Ok, ne_eqb, List, [], ◌∷◌, ◌++◌, length, codes, refl, sym, ap, ◌∙◌, arith, append_assoc, append-nil, length-append, IsScalar, flat_map, AllByRecursion, length-encode, len_utf8_bounds, Identifier}
+use Rattle.rga_lines.proofs.Prelude.{identifier, checked, Op, Insert, Stretch, IsRun, next, run_operations, stretch_operations, escaped, ReadsInsertions, lt-leb}
 use Rattle.rga_lines.proofs.SpellingLemmas.{escaped_all}
 
 flat-push : (xs : List ℕ) (c : ℕ) (rest : List ℕ) → flat_map escaped (xs ++ c ∷ []) ++ rest ≡ flat_map escaped xs ++ (escaped c ++ rest)

@@ -1,24 +1,13 @@
 -- What a line says is well-formed, and an operation alone where its kind is one.
-use Rattle.std.proofs.Common.{◌≡◌, ℕ, ◌<◌, ◌≤◌, ◌+◌, zero, suc, ◌&&◌, ◌||◌, ◌==◌, Bool, true, false, cond, nat_le, nat_lt, List, length, Option, Some, None, Result, Ok, Err, option_and_then, refl, arith, ne_eqb}
-use Rattle.std.proofs.lemmas.Bool.{and_left, and_parts, leb-true, leb-false, ltb-false}
-use Rattle.std.specs.Prelude.{⊤, codes, is_some, if◌then◌else◌}
-use Rattle.std.specs.Str.{is_utf8, chars, bytes_eq}
-use Rattle.serde_json.specs.Data.{Data, null, boolean, number, string, array, object, Items, Members}
-use Rattle.serde_json.specs.Events.{members_len}
-use Rattle.serde_json.specs.Read.{read}
-use Rattle.serde_json.specs.Find.{get_member, as_str, as_array}
-use Rattle.rga_ops.specs.Identifier.{Identifier, identifier, is_root, is_in_range}
-use Rattle.rga_ops.specs.declared.id.TheConstants.Id.{MAX_COUNTER}
-use Rattle.rga_ops.specs.Operation.{checked}
-use Rattle.rga_ops.specs.declared.op.Op.TheVariants.{Insert}
-use Rattle.rga_lines.specs.declared.deletion_run.DeletionRun.{DeletionRun}
-use Rattle.rga_lines.specs.declared.fault.LineFault.{LineFault}
+use Rattle.rga_lines.proofs.Prelude.{◌≡◌, ℕ, ◌<◌, ◌≤◌, ◌+◌, zero, suc, ◌&&◌, ◌||◌, ◌==◌, Bool, true, false, cond, nat_le, nat_lt, List, length, Option, Some, None, Result, Ok, Err, option_and_then, refl, arith, ne_eqb, and_left, and_parts, leb-true}
+use Rattle.rga_lines.proofs.Prelude.{leb-false, ltb-false, ⊤, codes, is_some, if◌then◌else◌, is_utf8, chars, bytes_eq, Data, array, object, members_len, read, get_member, as_str, as_array, Identifier, identifier, is_root, is_in_range, MAX_COUNTER}
+use Rattle.rga_lines.proofs.Prelude.{checked, Insert, DeletionRun, LineFault, One, Run, Deletions, Head, Last, longest_run, stretch, IsRun, deletion_run, IsDeletionRun, Reading, AnyReading, two_numbers, element_of, parent_of, if_in_range}
+use Rattle.rga_lines.proofs.Prelude.{longest_line, LineKind, insertion_line, deletion_line, deletions_line, kinds, kind_among, kind_of, is_single, is_operation}
+use Rattle.serde_json.specs.Data.{null, boolean, number, string, Items, Members}
+use Rattle.rga_lines.specs.Table.{number_of}
+use Rattle.rga_lines.specs.Faults.{run_line, head_line, end_line}
 use Rattle.rga_lines.specs.declared.fault.LineFault.TheVariants as fault
-use Rattle.rga_lines.specs.declared.line.Line.TheVariants.{One, Run, Deletions, Head, Last}
-use Rattle.rga_lines.specs.Runs.{longest_run, stretch, IsRun, deletion_run, IsDeletionRun}
 use Rattle.rga_lines.specs.Table as table
-use Rattle.rga_lines.specs.Table.{Reading, AnyReading, number_of, two_numbers, element_of, parent_of, if_in_range, longest_line}
-use Rattle.rga_lines.specs.Faults.{LineKind, insertion_line, deletion_line, run_line, deletions_line, head_line, end_line, kinds, kind_among, kind_of, is_single, is_operation}
 
 abbrev pub IsSoundOperation : Reading → Type 0
 IsSoundOperation (Ok op) = checked op ≡ Ok tt
@@ -29,9 +18,8 @@ abbrev pub IsSound : Bool → AnyReading → Type 0
 IsSound single (Ok (One op)) = (checked op ≡ Ok tt) × (single ≡ true)
 IsSound single (Ok (Run r)) = IsRun r × (single ≡ false)
 IsSound single (Ok (Deletions r)) = IsDeletionRun r × (single ≡ false)
-IsSound single (Ok Head) = single ≡ false
-IsSound single (Ok (Last operations)) = single ≡ false
 IsSound single (Err e) = ⊤
+IsSound single x = single ≡ false
 
 -- the second of two readings is taken where a test failed
 either : {A : Type 0} (P : A → Type 0) (b : Bool) (r q : A) → P r → (b ≡ false → P q) → P (cond b r q)
@@ -78,24 +66,19 @@ sound_char id parent None e = tt
 
 sound_identifiers : (id parent : Option Identifier) (text : List ℕ) → IsInRange id → IsSoundOperation (table.with_identifiers id parent text)
 sound_identifiers (Some id) (Some parent) text e = sound_char id parent (table.only_char (chars text)) (root_is_out id.counter id.replica e)
-sound_identifiers (Some id) None text e = tt
-sound_identifiers None parent text e = tt
+sound_identifiers id parent text e = tt
 
 sound_insertion : (four : Bool) (text : Option (List ℕ)) (id parent : Option Items) → IsSoundOperation (cond four (table.with_types text id parent) (Err fault.Member))
-sound_insertion false text id parent = tt
-sound_insertion true None id parent = tt
-sound_insertion true (Some text) None parent = tt
-sound_insertion true (Some text) (Some id) None = tt
 sound_insertion true (Some text) (Some id) (Some parent) = sound_identifiers (element_of id) (parent_of parent) text (element_is_in_range (two_numbers id))
+sound_insertion four text id parent = tt
 
 sound_identifier : (id : Option Identifier) → IsInRange id → IsSoundOperation (table.with_identifier id)
 sound_identifier (Some id) e = rw (root_is_out id.counter id.replica e)
 sound_identifier None e = tt
 
 sound_deletion : (two : Bool) (id : Option Items) → IsSoundOperation (cond two (table.with_type id) (Err fault.Member))
-sound_deletion false id = tt
-sound_deletion true None = tt
 sound_deletion true (Some id) = sound_identifier (element_of id) (element_is_in_range (two_numbers id))
+sound_deletion two id = tt
 
 sound_one : (r : Reading) → IsSoundOperation r → IsSound true (table.single_reading r)
 sound_one (Ok op) sound = (sound, refl)
@@ -117,15 +100,11 @@ sound_run_identifiers (Some id) (Some parent) text =
       rising = leb-false id.counter parent.counter order;
     } in
     (run, refl))))
-sound_run_identifiers (Some id) None text = tt
-sound_run_identifiers None parent text = tt
+sound_run_identifiers id parent text = tt
 
 sound_run : (four : Bool) (text : Option (List ℕ)) (id parent : Option Items) → IsSound false (cond four (table.with_run_types text id parent) (Err fault.Member))
-sound_run false text id parent = tt
-sound_run true None id parent = tt
-sound_run true (Some text) None parent = tt
-sound_run true (Some text) (Some id) None = tt
 sound_run true (Some text) (Some id) (Some parent) = sound_run_identifiers (element_of id) (parent_of parent) text
+sound_run four text id parent = tt
 
 abbrev IsSoundRun : Result DeletionRun LineFault → Type 0
 IsSoundRun (Ok r) = IsDeletionRun r
@@ -144,10 +123,8 @@ sound_deletion_identifier (Some id) count element =
 sound_deletion_identifier None count element = tt
 
 sound_deletions : (three : Bool) (count : Option ℕ) (id : Option Items) → IsSoundRun (cond three (table.with_deletion_types count id) (Err fault.Member))
-sound_deletions false count id = tt
-sound_deletions true None id = tt
-sound_deletions true (Some count) None = tt
 sound_deletions true (Some count) (Some id) = sound_deletion_identifier (element_of id) count (element_is_in_range (two_numbers id))
+sound_deletions three count id = tt
 
 sound_run_of_deletions : (r : Result DeletionRun LineFault) → IsSoundRun r → IsSound false (table.run_of_deletions r)
 sound_run_of_deletions (Ok r) sound = (sound, refl)
@@ -156,9 +133,8 @@ sound_run_of_deletions (Err e) sound = tt
 -- ---- the head and the end of an exchange
 
 sound_heading : (two : Bool) (version : Option ℕ) → IsSound false (cond two (table.with_version version) (Err fault.Member))
-sound_heading false version = tt
-sound_heading true None = tt
 sound_heading true (Some version) = either (IsSound false) (version == 2) (Ok Head) (Err fault.Kind) refl (λ _. tt)
+sound_heading two version = tt
 
 sound_last : (r : Result ℕ LineFault) → IsSound false (table.last r)
 sound_last (Ok operations) = refl
@@ -218,14 +194,8 @@ sound_op ms (Some op) = sound_name ms (as_str op)
 
 sound_text : (is_text : Bool) (d : Option Data) → IsSound (is_operation d) (table.text_line is_text d)
 unfolding table.value_line
-sound_text true (Some null) = tt
-sound_text true (Some (boolean b)) = tt
-sound_text true (Some (number n)) = tt
-sound_text true (Some (string s)) = tt
-sound_text true (Some (array ds)) = tt
 sound_text true (Some (object ms)) = sound_op ms (get_member (codes "op") ms)
-sound_text true None = tt
-sound_text false d = tt
+sound_text is_text d = tt
 
 pub sound_line : (bytes : List ℕ) → IsSound (is_operation (read bytes)) (table.any_line_at bytes)
 unfolding table.any_line_at

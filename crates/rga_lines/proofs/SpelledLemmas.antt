@@ -1,17 +1,9 @@
 -- Lines that are spelled in one way say what was read of their parts.
-use Rattle.std.proofs.Common.{◌≡◌, ℕ, ◌+◌, ◌<◌, ◌≤◌, ◌||◌, ◌==◌, Bool, true, false, List, ◌++◌, length, codes, decimal, Ok, ap, ◌∙◌, arith, ne_eqb}
-use Rattle.std.proofs.lemmas.Bool.{and_left}
-use Rattle.rga_ops.specs.declared.id.TheConstants.Id.{MAX_COUNTER}
-use Rattle.rga_ops.specs.Identifier.{Identifier, is_root, is_in_range}
-use Rattle.rga_ops.specs.Operation.{checked}
-use Rattle.rga_ops.specs.declared.op.Op.{Op}
-use Rattle.rga_ops.specs.declared.op.Op.TheVariants.{Insert, Delete}
-use Rattle.rga_lines.specs.declared.line.Line.TheVariants.{One, Deletions}
+use Rattle.rga_lines.proofs.Prelude.{◌≡◌, ℕ, ◌+◌, ◌<◌, ◌≤◌, ◌||◌, ◌==◌, Bool, true, false, List, ◌++◌, length, codes, decimal, Ok, ap, ◌∙◌, arith, ne_eqb, and_left, MAX_COUNTER, Identifier, is_root, is_in_range, checked, Op, Insert, Delete, One}
+use Rattle.rga_lines.proofs.Prelude.{Deletions, stretch, deletion_run, any_line_at, BeginsWithCharacter, BeginsWithIdentifier, ReadsInsertions, IsElement, IsElementOrRoot}
 use Rattle.rga_lines.specs.declared.run.TheConstants.{MAX_RUN}
-use Rattle.rga_lines.specs.Runs.{stretch, deletion_run}
-use Rattle.rga_lines.specs.Table.{any_line_at}
 use Rattle.rga_lines.specs.Log.{SaysRun}
-use Rattle.rga_lines.specs.Spelling.{line, run_line, deletion_run_line, BeginsWithCharacter, BeginsWithIdentifier, ReadsInsertions, IsElement, IsElementOrRoot}
+use Rattle.rga_lines.specs.Spelling.{line, run_line, deletion_run_line}
 use Rattle.rga_lines.proofs.DeletionBack.{deletions_back}
 use Rattle.rga_lines.proofs.ReadBack.{line_back, delete_back}
 use Rattle.rga_lines.proofs.RunBack.{run_back}

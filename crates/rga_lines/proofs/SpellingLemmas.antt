@@ -1,19 +1,13 @@
 -- The compact text of the value of an operation, or of the end of an exchange, is its line.
-use Rattle.std.proofs.Common.{lit≤, ◌≡◌, ℕ, ◌+◌, ◌<◌, ◌≤◌, ◌/◌, Bool, true, false, cond, List, [], ◌∷◌, ◌++◌, ◌⊎◌, inl, inr, codes, refl, sym, ap, subst, ◌∙◌, arith, append_assoc, append-nil, ltb, lt-ltb, le-ltb, ne_eqb, eqb, ◌||◌}
+use Rattle.rga_lines.proofs.Prelude.{lit≤, ◌≡◌, ℕ, ◌+◌, ◌<◌, ◌≤◌, ◌/◌, Bool, true, false, cond, List, [], ◌∷◌, ◌++◌, ◌⊎◌, inl, inr, codes, refl, sym, ap, subst, ◌∙◌, arith, append_assoc, append-nil, ltb, lt-ltb, le-ltb, ne_eqb, eqb, ◌||◌, cases_eq}
+use Rattle.rga_lines.proofs.Prelude.{cases_lt, encode_ascii, escape, decimal_digit, Data, unsigned, array, item, no_items, object, member, no_members, compact_text, Identifier, Op, Insert, Delete, code_escape, pair_text}
 use Rattle.std.specs.Char.{encode_utf8}
-use lib.Utf8.{next}
-use Rattle.std.proofs.lemmas.Bool.{cases_eq, cases_lt}
-use Rattle.std.proofs.lemmas.Str.{encode_ascii}
-use Rattle.json.specs.Print.{escape, escape_byte}
+use Rattle.json.specs.Print.{escape_byte}
 use Rattle.json.proofs.Printed.Strings.{escape_byte_plain}
-use Rattle.std.proofs.lemmas.Fmt.{decimal_digit}
-use Rattle.serde_json.specs.Data.{Data, number, unsigned, string, array, item, no_items, object, member, no_members}
-use Rattle.serde_json.specs.Written.{compact_text}
+use Rattle.serde_json.specs.Data.{number, string}
 use Rattle.serde_json.proofs.OnLiterals.{serde_json_on_literals}
-use Rattle.rga_ops.specs.Identifier.{Identifier}
-use Rattle.rga_ops.specs.declared.op.Op.{Op}
-use Rattle.rga_ops.specs.declared.op.Op.TheVariants.{Insert, Delete}
-use Rattle.rga_lines.specs.Spelling.{code_escape, escaped, pair_text, line, head_line, end_line}
+use Rattle.rga_lines.specs.Spelling.{escaped, line, head_line, end_line}
+use lib.Utf8.{next}
 
 -- ---- the value of JSON of an operation
 

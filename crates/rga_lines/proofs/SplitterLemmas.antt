@@ -1,14 +1,9 @@
 -- What the calls of a splitter give.
-use Rattle.std.proofs.Common.{◌≡◌, ℕ, ◌+◌, ◌<◌, ◌≤◌, Bool, true, false, cond, ltb, List, [], ◌∷◌, ◌++◌, length, take, drop, Some, None, Ok, Err, refl, sym, ap, ap₂, subst, ◌∙◌, append_assoc, append-nil, arith, ne_eqb}
-use Rattle.std.specs.Prelude.{All}
-use Rattle.std.proofs.lemmas.Bool.{ltb-true, ltb-false, true≢false, false≢true}
-use Rattle.std.proofs.lemmas.List.{drop_at, length-append, length-drop, length_push}
-use Rattle.std.proofs.lemmas.List.Elements.{All-head, All-tail}
-use Rattle.rga_lines.specs.declared.line.TheConstants.{MAX_LINE}
-use Rattle.rga_lines.specs.Stream.{newline, to_first_line, to_rest, lines_of, rest_of, HasNoNewline, bytes_of_lines, BeginsLong, Splitting, EndsNextLine, splitting_with, gave_up, fed, Answer, next_of_lines, next_of, StreamCall, Feed, Next, after_calls, line_in, lines_given, bytes_fed}
-use Rattle.rga_lines.specs.declared.fault.LineFault.{LineFault}
-use Rattle.rga_lines.specs.declared.fault.LineFault.TheVariants as fault
+use Rattle.rga_lines.proofs.Prelude.{◌≡◌, ℕ, ◌+◌, ◌<◌, ◌≤◌, Bool, true, false, cond, ltb, List, [], ◌∷◌, ◌++◌, length, take, drop, Some, None, Ok, Err, refl, sym, ap, ap₂, subst, ◌∙◌, append_assoc, append-nil, arith, ne_eqb, All, ltb-true, ltb-false}
+use Rattle.rga_lines.proofs.Prelude.{true≢false, false≢true, drop_at, length-append, length-drop, length_push, All-head, All-tail, MAX_LINE, newline, to_first_line, to_rest, lines_of, rest_of, HasNoNewline, bytes_of_lines, BeginsLong, Splitting}
+use Rattle.rga_lines.proofs.Prelude.{EndsNextLine, splitting_with, gave_up, fed, Answer, next_of_lines, next_of, StreamCall, Feed, Next, after_calls, line_in, lines_given, bytes_fed, LineFault}
 use Rattle.rga_lines.proofs.StreamLemmas.{IsOther, is_cut, bytes_of_lines-cons, lines-line, rest-line, lines-append_ended}
+use Rattle.rga_lines.specs.declared.fault.LineFault.TheVariants as fault
 
 -- ---- answers
 

@@ -1,16 +1,7 @@
 -- What a line stands for: the operations of a log and of a stream.
-use Rattle.std.proofs.Common.{◌≡◌, ℕ, ◌<◌, ◌^◌, List, [], ◌∷◌, ◌++◌, length, Result, Ok, Err, refl, sym, ap, ◌∙◌, arith}
-use Rattle.std.specs.List.{AllByRecursion}
-use Rattle.rga_ops.specs.Operation.{checked}
-use Rattle.rga_ops.specs.declared.op.Op.{Op}
-use Rattle.rga_lines.specs.declared.line.Line.TheVariants.{One, Run, Deletions, Head, Last}
-use Rattle.rga_lines.specs.declared.line.TheConstants.{MAX_LINE}
-use Rattle.rga_lines.specs.declared.fault.LineFault.{LineFault}
-use Rattle.rga_lines.specs.declared.fault.LineFault.TheVariants as fault
-use Rattle.rga_lines.specs.declared.deletion_run.DeletionRun.{DeletionRun}
-use Rattle.rga_lines.specs.Runs.{Stretch, stretch_operations, run_deletions, IsDeletionRun}
-use Rattle.rga_lines.specs.Spelling.{line, run_line, deletion_run_line, end_line, IsWritable, IsWritableRun}
-use Rattle.rga_lines.specs.Table.{AnyReading, any_line_at}
+use Rattle.rga_lines.proofs.Prelude.{◌≡◌, ℕ, ◌<◌, ◌^◌, List, [], ◌∷◌, ◌++◌, length, Result, Ok, Err, refl, sym, ap, ◌∙◌, arith, AllByRecursion, checked, Op, One, Run, Deletions, Head, Last, MAX_LINE, LineFault, DeletionRun, Stretch}
+use Rattle.rga_lines.proofs.Prelude.{stretch_operations, run_deletions, IsDeletionRun, line, deletion_run_line, IsWritable, IsWritableRun, AnyReading, any_line_at}
+use Rattle.rga_lines.specs.Spelling.{run_line, end_line}
 use Rattle.rga_lines.specs.Log.{operations_in, operations_at}
 use Rattle.rga_lines.proofs.ReadingLemmas.{too_long, refused, any_well_formed, any_run, any_deletions}
 use Rattle.rga_lines.proofs.RunLemmas.{run_checked}
@@ -20,6 +11,7 @@ use Rattle.rga_lines.proofs.DeletionBack.{deletions_back}
 use Rattle.rga_lines.proofs.ReadBack.{line_back, end_back}
 use Rattle.rga_lines.proofs.BeginningLemmas.{beginning_refused, run_beginning_refused}
 use Rattle.serde_json.proofs.OnLiterals.{serde_json_on_literals}
+use Rattle.rga_lines.specs.declared.fault.LineFault.TheVariants as fault
 
 abbrev pub AreChecked : List Op → Type 0
 AreChecked ops = AllByRecursion (λ op. checked op ≡ Ok tt) ops

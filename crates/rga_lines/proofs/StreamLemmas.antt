@@ -1,14 +1,10 @@
 -- The lines and the rest of a stream.
-use Rattle.std.proofs.Common.{◌≡◌, ◌≢◌, ℕ, ◌+◌, ◌-◌, ◌<◌, ◌≤◌, ◌==◌, Bool, true, false, cond, not, ltb, List, [], ◌∷◌, ◌++◌, length, take, drop, get_or, Option, Some, None, position, refl, sym, ap, ap₂, subst, ◌∙◌, append_assoc, append-nil, arith, lt-ltb, le-ltb, ne_eqb, inl, inr}
-use Rattle.std.specs.Prelude.{All}
-use Rattle.std.specs.List.{position_or_len}
-use Rattle.std.proofs.lemmas.Bool.{cases_lt, false_from_ne_true, eqb-false, eqb-true, ltb-true, ltb-false}
+use Rattle.rga_lines.proofs.Prelude.{◌≡◌, ◌≢◌, ℕ, ◌+◌, ◌-◌, ◌<◌, ◌≤◌, ◌==◌, Bool, true, false, cond, not, ltb, List, [], ◌∷◌, ◌++◌, length, take, drop, get_or, Option, Some, None, position, refl, sym, ap, ap₂, subst, ◌∙◌, append_assoc, append-nil}
+use Rattle.rga_lines.proofs.Prelude.{arith, lt-ltb, le-ltb, ne_eqb, inl, inr, All, position_or_len, cases_lt, false_from_ne_true, eqb-false, eqb-true, ltb-true, ltb-false, length-take, length-drop, get_or-take, get_or-drop, All-nil, All-cons}
+use Rattle.rga_lines.proofs.Prelude.{All-head, All-tail, All-from_get_or, newline, to_first_line, to_rest, lines_of, rest_of, HasNoNewline, bytes_of_lines, IsCut}
 use Rattle.std.proofs.lemmas.Option.{cond_some}
-use Rattle.std.proofs.lemmas.List.{length-take, length-drop, get_or-take, get_or-drop}
-use Rattle.std.proofs.lemmas.List.Elements.{All-nil, All-cons, All-head, All-tail, All-from_get_or}
 use Rattle.std.proofs.lemmas.List.Sums.{position_or_len_is, prefix_len-le-length, split_at_first, fails_before_first, passes_at_first}
 use Rattle.memchr.specs.Find.{IsFirstByte, is_byte}
-use Rattle.rga_lines.specs.Stream.{newline, to_first_line, to_rest, lines_of, rest_of, HasNoNewline, bytes_of_lines, IsCut}
 
 abbrev pub IsOther : ℕ → Type 0
 IsOther b = b ≢ newline

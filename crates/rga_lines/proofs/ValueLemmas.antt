@@ -1,12 +1,7 @@
 -- What the parts of a line say.
-use Rattle.std.proofs.Common.{◌≡◌, ℕ, ◌<◌, ◌≤◌, List, [], ◌∷◌, ◌++◌, length, Some, None, refl, ap, ◌∙◌, arith}
-use Rattle.std.specs.Str.{IsUtf8, chars}
-use Rattle.std.specs.Char.{encode_utf8}
-use Rattle.std.proofs.lemmas.Str.{chars-nil, chars_past_char, IsUtf8-past_char}
-use Rattle.std.proofs.lemmas.List.{nil_from_length}
+use Rattle.rga_lines.proofs.Prelude.{◌≡◌, ℕ, ◌<◌, ◌≤◌, List, [], ◌∷◌, ◌++◌, length, Some, None, refl, ap, ◌∙◌, arith, IsUtf8, chars, encode_utf8, chars-nil, chars_past_char, IsUtf8-past_char, nil_from_length, only_char, two_numbers}
 use Rattle.serde_json.specs.declared.value.Value.{Value}
 use Rattle.serde_json.specs.View.{items_view}
-use Rattle.rga_lines.specs.Table.{only_char, two_numbers}
 
 -- ---- one character
 
@@ -23,12 +18,9 @@ more_chars bytes rest more c d text front next =
 -- ---- two numbers
 
 pub too_few : (values : List Value) → length values < 2 → two_numbers (items_view values) ≡ None
-too_few [] h = refl
-too_few (v ∷ []) h = refl
 too_few (v ∷ w ∷ values) h = absurd (omega arith)
+too_few values h = refl
 
 pub too_many : (values : List Value) → 3 ≤ length values → two_numbers (items_view values) ≡ None
-too_many [] h = absurd (omega arith)
-too_many (v ∷ []) h = absurd (omega arith)
-too_many (v ∷ w ∷ []) h = absurd (omega arith)
 too_many (v ∷ w ∷ u ∷ values) h = refl
+too_many values h = absurd (omega arith)

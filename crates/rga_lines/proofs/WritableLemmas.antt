@@ -1,13 +1,8 @@
 -- Which operations can be written.
-use Rattle.std.proofs.Common.{◌≡◌, ℕ, ◌||◌, Bool, true, false, nat_le, cond, Result, Ok, Err}
-use Rattle.std.specs.Char.{IsScalar}
-use Rattle.rga_ops.specs.Identifier.{Identifier, is_root, is_in_range}
-use Rattle.rga_ops.specs.Operation.{checked}
-use Rattle.rga_ops.specs.declared.op.Op.TheVariants.{Insert, Delete}
+use Rattle.rga_lines.proofs.Prelude.{◌≡◌, ℕ, ◌||◌, Bool, true, false, nat_le, cond, Result, Ok, Err, IsScalar, Identifier, is_root, is_in_range, checked, Insert, Delete, IsElement, IsElementOrRoot, IsWritable}
 use Rattle.rga_ops.specs.declared.refusal.Refusal.{Refusal}
 use Rattle.rga_ops.specs.declared.refusal.Refusal.TheVariants.{BadId, BadOrder}
 use Rattle.rga_ops.proofs.AnswerLaws.{passed, bad}
-use Rattle.rga_lines.specs.Spelling.{IsElement, IsElementOrRoot, IsWritable}
 
 -- an identifier that is the root or in the ranges, and is not the root, is in the ranges
 in_range : (id : Identifier) (rest : Result (Unit {0}) Refusal) → IsElementOrRoot id → cond (is_root id) (Err BadId) rest ≡ Ok tt → IsElement id

@@ -3,7 +3,7 @@
 //! A log or an exchange is a stream of bytes with an operation, or a run of them, a line, each a
 //! JSON object (RFC 8259) of a few members; an exchange has a line more in front, its head, which
 //! may be absent, and one that ends it. This crate says what a value of JSON is as a line
-//! (`line_of`), and what the bytes of a line mean (`read_any`, `read_line`; `read_insertions` and
+//! (`line_of`; `two_numbers`, `parent_of` and `characters` of its parts), and what the bytes of a line mean (`read_any`, `read_line`; `read_insertions` and
 //! `read_deletion` of what a log has most); a run tells the operations that it stands for (`Run`,
 //! `DeletionRun`). It writes lines (`Speller`, `write_line`, `write_run`, `write_deletion_run`,
 //! `write_head`, `write_end`), puts bytes among others (`bytes`), and cuts a stream into its lines
@@ -44,5 +44,5 @@ pub use run::{MAX_RUN, Run};
 pub use spelled::{read_deletion, read_insertions};
 pub use speller::{LINE_ROOM, Speller};
 pub use splitter::Splitter;
-pub use values::line_of;
+pub use values::{characters, line_of, parent_of, two_numbers};
 pub use writing::{write_deletion_run, write_end, write_head, write_line, write_run};

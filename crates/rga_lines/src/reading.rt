@@ -39,13 +39,8 @@ pub fn read_any(alloc: Global, bytes: &[u8]) -> Result<Line, LineFault>
     }
     match Value::from_slice(alloc, bytes) {
         Ok(value) => line_of(alloc, &value),
-        Err(e) => {
-            if e.is_memory() {
-                Err(LineFault::Memory)
-            } else {
-                Err(LineFault::Json)
-            }
-        }
+        Err(e) if e.is_memory() => Err(LineFault::Memory),
+        Err(_) => Err(LineFault::Json),
     }
 }
 

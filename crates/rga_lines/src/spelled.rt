@@ -7,8 +7,7 @@ ghost use Rattle.rga_lines.specs.Table.{any_line_at};
 ghost use Rattle.rga_lines.specs.declared.line.Line.TheVariants.{One, Deletions};
 ghost use Rattle.rga_lines.specs.declared.fault.LineFault.TheVariants.{Memory};
 
-use crate::parts::element_or_root;
-use crate::spelled_parts::{after_literal, character, is_literal, number, pair_after};
+use crate::spelled_parts::{after_literal, character, id_after, is_literal, number};
 use crate::{DeletionRun, Line, LineFault, MAX_RUN};
 use rga_ops::{Id, Op};
 
@@ -23,70 +22,42 @@ pub(crate) fn spelled(bytes: &[u8]) -> Option<Line>
     if let Some(deletion) = read_deletion(bytes) {
         return Some(Line::One(deletion));
     }
-    let run = spelled_deletions(bytes)?;
-    Some(Line::Deletions(run))
+    Some(Line::Deletions(spelled_deletions(bytes)?))
 }
 
 /// The insertion that the bytes of a line say, where they are so spelled.
 fn spelled_insertion(bytes: &[u8]) -> Option<Op>
     ensures { IfSome result (λ op. any_line_at bytes.now ≡ Ok (One op)) }
 {
-    let Some(rest) = after_literal(bytes, b"{\"char\":\"") else {
-        return None;
-    };
-    let Some((ch, rest)) = character(rest) else {
-        return None;
-    };
-    let Some((counter, replica, rest)) = pair_after(rest, b"\",\"id\":") else {
-        return None;
-    };
-    let Some(id) = element_or_root(counter, replica) else {
-        return None;
-    };
-    let Some((counter, replica, rest)) = pair_after(rest, b",\"op\":\"ins\",\"parent\":") else {
-        return None;
-    };
-    let Some(parent) = element_or_root(counter, replica) else {
-        return None;
-    };
-    if !is_literal(rest, b"}") {
-        return None;
+    if let Some(rest) = after_literal(bytes, b"{\"char\":\"")
+        && let Some((ch, rest)) = character(rest)
+        && let Some((id, rest)) = id_after(rest, b"\",\"id\":")
+        && let Some((parent, rest)) = id_after(rest, b",\"op\":\"ins\",\"parent\":")
+        && is_literal(rest, b"}")
+    {
+        let op = Op::Insert { id, parent, ch };
+        op.check().ok()?;
+        return Some(op);
     }
-    let op = Op::Insert { id, parent, ch };
-    match op.check() {
-        Ok(()) => Some(op),
-        Err(_) => None,
-    }
+    None
 }
 
 /// The run of deletions that the bytes of a line say, where they are so spelled.
 fn spelled_deletions(bytes: &[u8]) -> Option<DeletionRun>
     ensures { IfSome result (λ run. any_line_at bytes.now ≡ Ok (Deletions run)) }
 {
-    let Some(rest) = after_literal(bytes, b"{\"count\":") else {
-        return None;
-    };
-    let Some((count, rest)) = number(rest) else {
-        return None;
-    };
-    let Some((counter, replica, rest)) = pair_after(rest, b",\"id\":") else {
-        return None;
-    };
-    let Some(id) = element_or_root(counter, replica) else {
-        return None;
-    };
-    if id.counter() == 0
-        || count == 0
-        || count > MAX_RUN as u64
-        || id.counter() + count > Id::MAX_COUNTER + 1
+    if let Some(rest) = after_literal(bytes, b"{\"count\":")
+        && let Some((count, rest)) = number(rest)
+        && let Some((id, rest)) = id_after(rest, b",\"id\":")
+        && is_literal(rest, b",\"op\":\"dels\"}")
+        && id.counter() > 0
+        && count > 0
+        && count <= MAX_RUN as u64
+        && id.counter() + count <= Id::MAX_COUNTER + 1
     {
-        return None;
+        return Some(DeletionRun { id, count });
     }
-    if is_literal(rest, b",\"op\":\"dels\"}") {
-        Some(DeletionRun { id, count })
-    } else {
-        None
-    }
+    None
 }
 
 /// The deletion that the bytes of a line say, where they are spelled as `write_line` spells it.
@@ -95,23 +66,14 @@ pub fn read_deletion(bytes: &[u8]) -> Option<Op>
     ensures { IfSome result (λ op. any_line_at bytes.now ≡ Ok (One op)) }
 {
     // The line of a run begins as that of a deletion does.
-    if !bytes.ends_with(b":\"del\"}") {
-        return None;
+    if bytes.ends_with(b":\"del\"}")
+        && let Some((id, rest)) = id_after(bytes, b"{\"id\":")
+        && is_literal(rest, b",\"op\":\"del\"}")
+        && id.counter() > 0
+    {
+        return Some(Op::Delete { id });
     }
-    let Some((counter, replica, rest)) = pair_after(bytes, b"{\"id\":") else {
-        return None;
-    };
-    let Some(id) = element_or_root(counter, replica) else {
-        return None;
-    };
-    if id.counter() == 0 {
-        return None;
-    }
-    if is_literal(rest, b",\"op\":\"del\"}") {
-        Some(Op::Delete { id })
-    } else {
-        None
-    }
+    None
 }
 
 /// Reads the insertions of a run into the list, in place of what stood there, where the bytes of
@@ -122,16 +84,10 @@ pub fn read_insertions(ops: &mut Vec<Op>, bytes: &[u8]) -> Result<bool, LineFaul
     ensures said { IfOk result (λ read. read ≡ true → SaysRun bytes.now ops.new.items) }
     ensures memory { IfErr result (λ e. e ≡ Memory) }
 {
-    let Some((counter, replica, rest)) = pair_after(bytes, b"{\"id\":") else {
+    let Some((id, rest)) = id_after(bytes, b"{\"id\":") else {
         return Ok(false);
     };
-    let Some(id) = element_or_root(counter, replica) else {
-        return Ok(false);
-    };
-    let Some((counter, replica, rest)) = pair_after(rest, b",\"op\":\"run\",\"parent\":") else {
-        return Ok(false);
-    };
-    let Some(parent) = element_or_root(counter, replica) else {
+    let Some((parent, rest)) = id_after(rest, b",\"op\":\"run\",\"parent\":") else {
         return Ok(false);
     };
     let Some(text) = after_literal(rest, b",\"text\":\"") else {

@@ -1,11 +1,10 @@
 //! The parts of a line that is spelled in one way: literals, characters and numbers.
-ghost use Rattle.std.specs.Prelude.{◌≡◌, ◌≢◌, ◌<◌, ◌≤◌, ◌++◌, ◌∷◌, [], decimal, IfSome};
+ghost use Rattle.std.specs.Prelude.{◌≡◌, ◌<◌, ◌≤◌, ◌++◌, ◌∷◌, [], decimal, IfSome};
 ghost use Rattle.std.specs.Bool.{OnTrue};
 ghost use Rattle.std.specs.Char.{IsScalar};
-ghost use Rattle.rga_ops.specs.Identifier.{identifier};
-ghost use Rattle.rga_lines.specs.Spelling.{escaped, pair_text, BeginsWithCharacter};
+ghost use Rattle.rga_lines.specs.Spelling.{escaped, BeginsWithCharacter, BeginsWithIdentifier};
 
-use crate::parts::only_char;
+use crate::parts::{element_or_root, only_char};
 use rga_ops::Id;
 
 /// What stands behind the literal, with which the bytes begin. Its length is known, so that nothing
@@ -17,9 +16,7 @@ pub(crate) fn after_literal<'a, const N: usize>(
 ) -> Option<&'a [u8]>
     ensures { IfSome result (λ rest. bytes.now ≡ literal.now ++ rest.now) }
 {
-    let Some((front, rest)) = bytes.split_first_chunk() else {
-        return None;
-    };
+    let (front, rest) = bytes.split_first_chunk()?;
     if front == literal { Some(rest) } else { None }
 }
 
@@ -40,9 +37,7 @@ pub(crate) fn is_literal<const N: usize>(bytes: &[u8], literal: &[u8; N]) -> boo
 fn after_byte(bytes: &[u8], byte: u8) -> Option<&[u8]>
     ensures { IfSome result (λ rest. bytes.now ≡ byte ∷ rest.now) }
 {
-    let Some((first, rest)) = bytes.split_first() else {
-        return None;
-    };
+    let (first, rest) = bytes.split_first()?;
     if *first == byte { Some(rest) } else { None }
 }
 
@@ -82,36 +77,21 @@ fn other_character(bytes: &[u8]) -> Option<(char, &[u8])>
 fn plain_character(bytes: &[u8]) -> Option<(char, &[u8])>
     ensures { IfSome result (λ p. BeginsWithCharacter bytes.now p.0 p.1.now) }
 {
-    let Some((first, rest)) = bytes.split_first() else {
-        return None;
-    };
-    if is_plain(*first) {
+    let (first, rest) = bytes.split_first()?;
+    if *first >= b' ' && *first < 128 && *first != b'"' && *first != b'\\' {
         Some((char::from(*first), rest))
     } else {
         None
     }
 }
 
-/// Whether a byte is an ASCII character that needs no escape.
-fn is_plain(byte: u8) -> bool
-    ensures { OnTrue result ((32 ≤ byte) × (byte < 128) × (byte ≢ 34) × (byte ≢ 92)) }
-{
-    byte >= b' ' && byte < 128 && byte != b'"' && byte != b'\\'
-}
-
 /// A character by its escape of one letter, and what stands behind it.
 fn short_escape(bytes: &[u8]) -> Option<(char, &[u8])>
     ensures { IfSome result (λ p. BeginsWithCharacter bytes.now p.0 p.1.now) }
 {
-    let Some(rest) = after_byte(bytes, b'\\') else {
-        return None;
-    };
-    let Some((letter, behind)) = rest.split_first() else {
-        return None;
-    };
-    let Some(ch) = of_letter(*letter) else {
-        return None;
-    };
+    let rest = after_byte(bytes, b'\\')?;
+    let (letter, behind) = rest.split_first()?;
+    let ch = of_letter(*letter)?;
     Some((ch, behind))
 }
 
@@ -141,15 +121,11 @@ fn wide_character(bytes: &[u8]) -> Option<(char, &[u8])>
         224..=239 => 3,
         _ => 4,
     };
-    let Some((front, rest)) = bytes.split_at_checked(width) else {
-        return None;
-    };
+    let (front, rest) = bytes.split_at_checked(width)?;
     let Ok(text) = str::from_utf8(front) else {
         return None;
     };
-    let Some(ch) = only_char(text) else {
-        return None;
-    };
+    let ch = only_char(text)?;
     if u32::from(ch) < 128 {
         None
     } else {
@@ -162,9 +138,7 @@ fn wide_character(bytes: &[u8]) -> Option<(char, &[u8])>
 pub(crate) fn number(bytes: &[u8]) -> Option<(u64, &[u8])>
     ensures { IfSome result (λ p. bytes.now ≡ decimal p.0 ++ p.1.now) }
 {
-    let Some((first, behind)) = bytes.split_first() else {
-        return None;
-    };
+    let (first, behind) = bytes.split_first()?;
     if *first == b'0' {
         return Some((0, behind));
     }
@@ -191,9 +165,7 @@ pub(crate) fn number(bytes: &[u8]) -> Option<(u64, &[u8])>
 fn number_behind(bytes: &[u8], byte: u8) -> Option<(u64, &[u8])>
     ensures { IfSome result (λ p. bytes.now ≡ byte ∷ (decimal p.0 ++ p.1.now)) }
 {
-    let Some(rest) = after_byte(bytes, byte) else {
-        return None;
-    };
+    let rest = after_byte(bytes, byte)?;
     number(rest)
 }
 
@@ -203,39 +175,19 @@ fn is_digit(byte: u8) -> bool
     byte >= b'0' && byte <= b'9'
 }
 
-/// Two numbers between brackets behind the literal, with which the bytes begin, and what stands
-/// behind them.
+/// The identifier of an element, or the root, between brackets behind the literal, with which the
+/// bytes begin, and what stands behind it.
 #[inline(always)]
-pub(crate) fn pair_after<'a, const N: usize>(
+pub(crate) fn id_after<'a, const N: usize>(
     bytes: &'a [u8],
     literal: &[u8; N],
-) -> Option<(u64, u16, &'a [u8])>
-    ensures { IfSome result (λ p.
-        bytes.now ≡ literal.now ++ (pair_text (identifier p.0 p.1) ++ p.2.now)) }
+) -> Option<(Id, &'a [u8])>
+    ensures { IfSome result (λ p. BeginsWithIdentifier bytes.now literal.now p.0 p.1.now) }
 {
-    match after_literal(bytes, literal) {
-        Some(rest) => pair(rest),
-        None => None,
-    }
-}
-
-/// Two numbers between brackets, with which the bytes begin, and what stands behind them.
-#[inline(always)]
-fn pair(bytes: &[u8]) -> Option<(u64, u16, &[u8])>
-    ensures { IfSome result (λ p.
-        bytes.now ≡ pair_text (identifier p.0 p.1) ++ p.2.now) }
-{
-    let Some((counter, rest)) = number_behind(bytes, b'[') else {
-        return None;
-    };
-    let Some((replica, rest)) = number_behind(rest, b',') else {
-        return None;
-    };
-    let Some(rest) = after_byte(rest, b']') else {
-        return None;
-    };
-    let Ok(replica) = u16::try_from(replica) else {
-        return None;
-    };
-    Some((counter, replica, rest))
+    let rest = after_literal(bytes, literal)?;
+    let (counter, rest) = number_behind(rest, b'[')?;
+    let (replica, rest) = number_behind(rest, b',')?;
+    let rest = after_byte(rest, b']')?;
+    let id = element_or_root(counter, u16::try_from(replica).ok()?)?;
+    Some((id, rest))
 }

@@ -26,15 +26,9 @@ const VERSION: u64 = 2;
 pub fn line_of(alloc: Global, value: &Value) -> Result<Line, LineFault>
     ensures { result ≢ Err Memory → result ≡ value_line (view value.now) }
 {
-    let Some(count) = count(value) else {
-        return Err(LineFault::Kind);
-    };
-    let Some(op) = value.get("op") else {
-        return Err(LineFault::Member);
-    };
-    let Some(name) = op.as_str() else {
-        return Err(LineFault::Kind);
-    };
+    let count = count(value).ok_or(LineFault::Kind)?;
+    let op = value.get("op").ok_or(LineFault::Member)?;
+    let name = op.as_str().ok_or(LineFault::Kind)?;
     named(alloc, name, count, value)
 }
 
@@ -72,23 +66,15 @@ fn insertion(members: usize, value: &Value) -> Result<Line, LineFault>
     if members != 4 {
         return Err(LineFault::Member);
     }
-    let (Some(text), Some(id), Some(parent)) = (
-        value.get("char"),
-        value.get("id"),
-        value.get("parent"),
-    ) else {
-        return Err(LineFault::Member);
-    };
-    let (Some(text), Some(id), Some(parent)) = (text.as_str(), id.as_array(), parent.as_array())
-    else {
-        return Err(LineFault::Kind);
-    };
-    let (Some(id), Some(parent)) = (element_of(id), parent_of(parent)) else {
-        return Err(LineFault::Id);
-    };
-    let Some(ch) = only_char(text) else {
-        return Err(LineFault::Char);
-    };
+    let text = value.get("char").ok_or(LineFault::Member)?;
+    let id = value.get("id").ok_or(LineFault::Member)?;
+    let parent = value.get("parent").ok_or(LineFault::Member)?;
+    let text = text.as_str().ok_or(LineFault::Kind)?;
+    let id = id.as_array().ok_or(LineFault::Kind)?;
+    let parent = parent.as_array().ok_or(LineFault::Kind)?;
+    let id = element_of(id).ok_or(LineFault::Id)?;
+    let parent = parent_of(parent).ok_or(LineFault::Id)?;
+    let ch = only_char(text).ok_or(LineFault::Char)?;
     if id.counter() <= parent.counter() {
         Err(LineFault::Order)
     } else {
@@ -102,16 +88,10 @@ fn deletion(members: usize, value: &Value) -> Result<Line, LineFault>
     if members != 2 {
         return Err(LineFault::Member);
     }
-    let Some(id) = value.get("id") else {
-        return Err(LineFault::Member);
-    };
-    let Some(id) = id.as_array() else {
-        return Err(LineFault::Kind);
-    };
-    match element_of(id) {
-        Some(id) => Ok(Line::One(Op::Delete { id })),
-        None => Err(LineFault::Id),
-    }
+    let id = value.get("id").ok_or(LineFault::Member)?;
+    let id = id.as_array().ok_or(LineFault::Kind)?;
+    let id = element_of(id).ok_or(LineFault::Id)?;
+    Ok(Line::One(Op::Delete { id }))
 }
 
 /// A run, by an object of so many members.
@@ -121,20 +101,14 @@ fn run(alloc: Global, members: usize, value: &Value) -> Result<Line, LineFault>
     if members != 4 {
         return Err(LineFault::Member);
     }
-    let (Some(id), Some(parent), Some(text)) = (
-        value.get("id"),
-        value.get("parent"),
-        value.get("text"),
-    ) else {
-        return Err(LineFault::Member);
-    };
-    let (Some(text), Some(id), Some(parent)) = (text.as_str(), id.as_array(), parent.as_array())
-    else {
-        return Err(LineFault::Kind);
-    };
-    let (Some(id), Some(parent)) = (element_of(id), parent_of(parent)) else {
-        return Err(LineFault::Id);
-    };
+    let id = value.get("id").ok_or(LineFault::Member)?;
+    let parent = value.get("parent").ok_or(LineFault::Member)?;
+    let text = value.get("text").ok_or(LineFault::Member)?;
+    let text = text.as_str().ok_or(LineFault::Kind)?;
+    let id = id.as_array().ok_or(LineFault::Kind)?;
+    let parent = parent.as_array().ok_or(LineFault::Kind)?;
+    let id = element_of(id).ok_or(LineFault::Id)?;
+    let parent = parent_of(parent).ok_or(LineFault::Id)?;
     run_of(alloc, id, parent, text)
 }
 
@@ -142,9 +116,7 @@ fn run(alloc: Global, members: usize, value: &Value) -> Result<Line, LineFault>
 fn run_of(alloc: Global, id: Id, parent: Id, text: &str) -> Result<Line, LineFault>
     ensures { result ≢ Err Memory → result ≡ with_run_end id parent (chars text.now) }
 {
-    let Ok(chars) = characters(alloc, text) else {
-        return Err(LineFault::Memory);
-    };
+    let chars = characters(alloc, text)?;
     let count = chars.len();
     if id.counter() + count as u64 > Id::MAX_COUNTER + 1 {
         return Err(LineFault::Id);
@@ -159,8 +131,8 @@ fn run_of(alloc: Global, id: Id, parent: Id, text: &str) -> Result<Line, LineFau
     }
 }
 
-/// The characters of a text.
-fn characters(alloc: Global, text: &str) -> Result<Vec<char>, LineFault>
+/// The characters of a text. `Memory` is the only refusal.
+pub fn characters(alloc: Global, text: &str) -> Result<Vec<char>, LineFault>
     ensures ok { IfOk result (λ v. v.items ≡ chars text.now) }
     ensures fault { IfErr result (λ e. e ≡ Memory) }
 {
@@ -174,15 +146,11 @@ fn deletions(members: usize, value: &Value) -> Result<Line, LineFault>
     if members != 3 {
         return Err(LineFault::Member);
     }
-    let (Some(count), Some(id)) = (value.get("count"), value.get("id")) else {
-        return Err(LineFault::Member);
-    };
-    let (Some(count), Some(id)) = (count.as_u64(), id.as_array()) else {
-        return Err(LineFault::Kind);
-    };
-    let Some(id) = element_of(id) else {
-        return Err(LineFault::Id);
-    };
+    let count = value.get("count").ok_or(LineFault::Member)?;
+    let id = value.get("id").ok_or(LineFault::Member)?;
+    let count = count.as_u64().ok_or(LineFault::Kind)?;
+    let id = id.as_array().ok_or(LineFault::Kind)?;
+    let id = element_of(id).ok_or(LineFault::Id)?;
     if u128::from(id.counter()) + u128::from(count) > u128::from(Id::MAX_COUNTER + 1) {
         return Err(LineFault::Id);
     }
@@ -199,9 +167,7 @@ fn heading(members: usize, value: &Value) -> Result<Line, LineFault>
     if members != 2 {
         return Err(LineFault::Member);
     }
-    let Some(version) = value.get("version") else {
-        return Err(LineFault::Member);
-    };
+    let version = value.get("version").ok_or(LineFault::Member)?;
     match version.as_u64() {
         Some(VERSION) => Ok(Line::Head),
         _ => Err(LineFault::Kind),
@@ -215,52 +181,33 @@ fn ending(members: usize, value: &Value) -> Result<Line, LineFault>
     if members != 2 {
         return Err(LineFault::Member);
     }
-    let Some(operations) = value.get("count") else {
-        return Err(LineFault::Member);
-    };
-    match operations.as_u64() {
-        Some(count) => Ok(Line::Last(count)),
-        None => Err(LineFault::Kind),
-    }
+    let count = value.get("count").ok_or(LineFault::Member)?;
+    let count = count.as_u64().ok_or(LineFault::Kind)?;
+    Ok(Line::Last(count))
 }
 
-fn two_numbers(items: &Vec<Value>) -> Option<(u64, u64)>
+/// The whole numbers of an array of exactly two. `None` where it is another.
+pub fn two_numbers(items: &Vec<Value>) -> Option<(u64, u64)>
     ensures { result ≡ two_numbers (items_view items.now.items) }
 {
-    let [counter, replica] = items.as_slice() else {
+    let [first, second] = items.as_slice() else {
         return None;
     };
-    let Some(counter) = counter.as_u64() else {
-        return None;
-    };
-    let Some(replica) = replica.as_u64() else {
-        return None;
-    };
-    Some((counter, replica))
+    Some((first.as_u64()?, second.as_u64()?))
 }
 
 /// The identifier of an element.
 fn element_of(items: &Vec<Value>) -> Option<Id>
     ensures { result ≡ element_of (items_view items.now.items) }
 {
-    let Some((counter, replica)) = two_numbers(items) else {
-        return None;
-    };
-    let Ok(replica) = u16::try_from(replica) else {
-        return None;
-    };
-    element(counter, replica)
+    let (counter, replica) = two_numbers(items)?;
+    element(counter, u16::try_from(replica).ok()?)
 }
 
-/// The identifier of an element, or the root.
-fn parent_of(items: &Vec<Value>) -> Option<Id>
+/// The identifier of an element, or the root. `None` where the array is neither.
+pub fn parent_of(items: &Vec<Value>) -> Option<Id>
     ensures { result ≡ parent_of (items_view items.now.items) }
 {
-    let Some((counter, replica)) = two_numbers(items) else {
-        return None;
-    };
-    let Ok(replica) = u16::try_from(replica) else {
-        return None;
-    };
-    element_or_root(counter, replica)
+    let (counter, replica) = two_numbers(items)?;
+    element_or_root(counter, u16::try_from(replica).ok()?)
 }

@@ -1,7 +1,6 @@
-use Rattle.std.proofs.Common.{◌≡◌, ◌+◌, ◌-◌, ◌++◌, ℕ, List, take, drop, length, sym, ap, ◌∙◌, arith, append_assoc, take_at, drop-drop}
-use borrow.Rule.Slice.PartMut.{post_of}
-use Rattle.rga_ops.specs.Splice.{spliced}
+use Rattle.rga_doc.proofs.Prelude.{◌≡◌, ◌+◌, ◌-◌, ◌++◌, ℕ, List, take, drop, length, sym, ap, ◌∙◌, arith, append_assoc, take_at, drop-drop, spliced}
 use Rattle.rga_doc.proofs.SplicedCharacters.{length-spliced}
+use borrow.Rule.Slice.PartMut.{post_of}
 use Rattle.rga_doc.proofs.characters.overwrite.Goals as goal
 
 -- what is put stands between what stands before it and behind it

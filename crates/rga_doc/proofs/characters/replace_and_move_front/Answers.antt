@@ -1,5 +1,4 @@
-use Rattle.std.proofs.Common.{◌≡◌, ◌+◌, ◌-◌, ◌≤◌, max, ℕ, List, take, drop, length, sym, ap, ◌∙◌, arith}
-use Rattle.rga_ops.specs.Splice.{spliced}
+use Rattle.rga_doc.proofs.Prelude.{◌≡◌, ◌+◌, ◌-◌, ◌≤◌, max, ℕ, List, take, drop, length, sym, ap, ◌∙◌, arith, spliced}
 use Rattle.rga_doc.proofs.SplicedCharacters.{part}
 use Rattle.rga_doc.proofs.CharacterLaws.{front_moved, still_behind}
 use Rattle.rga_doc.proofs.characters.replace_and_move_front.Goals as goal

@@ -1,5 +1,4 @@
-use Rattle.std.proofs.Common.{sym, ap, ◌∙◌}
-use Rattle.rga_ops.specs.Splice.{Splice}
+use Rattle.rga_doc.proofs.Prelude.{sym, ap, ◌∙◌, Splice}
 use Rattle.rga_doc.proofs.ExcerptLaws.{begin_at_last}
 use Rattle.rga_doc.proofs.edit.begin_of.Goals as goal
 

@@ -1,8 +1,4 @@
-use Rattle.std.proofs.Common.{rules, ◌≡◌, Some, List, [], ◌∷◌, ◌++◌, map, take, drop, sym, ap, ◌∙◌, arith, take_all}
-use Rattle.rga_ops.specs.Content.{Content, element_at}
-use Rattle.rga_ops.specs.Order.{text}
-use Rattle.rga_ops.specs.Places.{visible, character}
-use Rattle.rga_ops.specs.Identifier.{Identifier}
+use Rattle.rga_doc.proofs.Prelude.{rules, ◌≡◌, Some, List, [], ◌∷◌, ◌++◌, map, take, drop, sym, ap, ◌∙◌, arith, take_all, Content, element_at, text, visible, character, Identifier}
 use Rattle.rga_ops.proofs.SpliceLaws.{same_characters}
 use Rattle.rga_doc.proofs.RereadingLaws.{part_of_text, read_more}
 use Rattle.rga_doc.proofs.rereading.characters_between.Goals as goal

@@ -1,6 +1,4 @@
-use Rattle.std.proofs.Common.{◌≡◌, map, take}
-use Rattle.std.specs.Prelude.{Some}
-use Rattle.rga_ops.specs.Places.{character}
+use Rattle.rga_doc.proofs.Prelude.{◌≡◌, map, take, Some, character}
 use Rattle.rga_doc.proofs.rereading.characters_between.Given as goal
 
 -- the characters of the elements so far

@@ -1,14 +1,4 @@
-use Rattle.std.proofs.Common.{◌≡◌, ℕ, ◌+◌, ◌&&◌, true, false, drop, inr, sym, ap, ◌∙◌}
-use Rattle.std.proofs.lemmas.Bool.{not-true}
-use Rattle.std.proofs.Math.Bool.{and-true}
-use Rattle.std.specs.List.{list_any}
-use Rattle.indexmap.specs.IndexSet.{contains}
-use Rattle.rga_ops.specs.Identifier.{Identifier, is_id}
-use Rattle.rga_ops.specs.Content.{Content}
-use Rattle.rga_ops.specs.RootPath.{is_complete}
-use Rattle.rga_doc.specs.LocalEdit.{place_answer}
-use Rattle.rga_doc.specs.Revert.{are_restorable}
-use Rattle.rga_ops.proofs.ListSteps.{from}
+use Rattle.rga_doc.proofs.Prelude.{◌≡◌, ℕ, ◌+◌, ◌&&◌, true, false, drop, inr, sym, ap, ◌∙◌, not-true, and-true, list_any, contains, Identifier, is_id, Content, is_complete, place_answer, are_restorable, from}
 use Rattle.rga_doc.proofs.RevertSets.{left_able, none_at_first, able_on, not_complete}
 use Rattle.rga_doc.proofs.revert.check_restorable.Goals as goal
 

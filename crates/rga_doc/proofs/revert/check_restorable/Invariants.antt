@@ -1,7 +1,4 @@
-use Rattle.std.proofs.Common.{◌≡◌, drop}
-use Rattle.indexmap.specs.IndexSet.{contains}
-use Rattle.rga_ops.specs.Identifier.{is_id}
-use Rattle.rga_doc.specs.Revert.{are_restorable}
+use Rattle.rga_doc.proofs.Prelude.{◌≡◌, drop, contains, is_id, are_restorable}
 use Rattle.rga_doc.proofs.RevertSets.{left_able}
 use Rattle.rga_doc.proofs.revert.check_restorable.Given as goal
 

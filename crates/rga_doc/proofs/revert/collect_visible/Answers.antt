@@ -1,17 +1,7 @@
-use Rattle.std.proofs.Common.{◌≡◌, ◌+◌, ◌&&◌, Bool, true, false, not, List, [], ◌∷◌, ◌++◌, filter, drop, sym, ap, ◌∙◌, append_assoc, append-nil}
-use Rattle.std.specs.FinSet as finite_set
-use Rattle.std.proofs.lemmas.Bool.{not-true, not-false}
-use Rattle.std.proofs.lemmas.List.{drop_all}
-use Rattle.std.proofs.Math.Bool.{and-false}
-use Rattle.std.specs.List.{list_any}
-use Rattle.indexmap.specs.IndexSet.{contains}
-use Rattle.rga_ops.specs.Identifier.{Identifier, is_id}
-use Rattle.rga_ops.specs.Content.{Content}
-use Rattle.rga_ops.specs.RootPath.{is_complete}
-use Rattle.rga_ops.specs.Places.{is_visible}
-use Rattle.rga_doc.specs.Revert.{distinct_elements}
-use Rattle.rga_ops.proofs.ListSteps.{from}
+use Rattle.rga_doc.proofs.Prelude.{◌≡◌, ◌+◌, ◌&&◌, Bool, true, false, not, List, [], ◌∷◌, ◌++◌, filter, drop, sym, ap, ◌∙◌, append_assoc, append-nil, not-true, not-false, drop_all, and-false, list_any, contains, Identifier, is_id, Content}
+use Rattle.rga_doc.proofs.Prelude.{is_complete, is_visible, distinct_elements, from}
 use Rattle.rga_doc.proofs.RevertSets.{new_only, all_new, not_kept, kept_met, kept_new}
+use Rattle.std.specs.FinSet as finite_set
 use Rattle.rga_doc.proofs.revert.collect_visible.Goals as goal
 
 pub loop-id-init : goal.loop-id-init

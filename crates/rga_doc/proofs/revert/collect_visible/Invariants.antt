@@ -1,8 +1,4 @@
-use Rattle.std.proofs.Common.{◌≡◌, ◌++◌, filter, drop}
-use Rattle.indexmap.specs.IndexSet.{contains}
-use Rattle.rga_ops.specs.Identifier.{is_id}
-use Rattle.rga_ops.specs.Places.{is_visible}
-use Rattle.rga_doc.specs.Revert.{distinct_elements}
+use Rattle.rga_doc.proofs.Prelude.{◌≡◌, ◌++◌, filter, drop, contains, is_id, is_visible, distinct_elements}
 use Rattle.rga_doc.proofs.RevertSets.{new_only}
 use Rattle.rga_doc.proofs.revert.collect_visible.Given as goal
 

@@ -1,12 +1,8 @@
-use Rattle.std.proofs.Common.{◌≡◌, false, not, ◌&&◌, ◌||◌, is_some, refl, sym, ap, ◌∙◌}
-use Rattle.std.specs.Prelude.{Option, Some, None}
-use Rattle.std.specs.FinMap as finite_map
-use Rattle.rga_ops.specs.Identifier.{is_root}
-use Rattle.rga_ops.specs.Content.{Element, Content}
-use Rattle.rga_ops.specs.RootPath.{is_complete, root_path}
+use Rattle.rga_doc.proofs.Prelude.{◌≡◌, false, not, ◌&&◌, ◌||◌, is_some, refl, sym, ap, ◌∙◌, Option, Some, None, is_root, Element, Content, is_complete, root_path}
 use Rattle.rga_store.proofs.ElementSteps.{pair_of}
 use Rattle.rga_doc.proofs.CompleteLaws.{inserted_complete}
 use Rattle.rga_doc.proofs.PlaceLaws.{stands_is}
+use Rattle.std.specs.FinMap as finite_map
 use Rattle.rga_doc.proofs.revert.is_in_order.Goals as goal
 
 inserted : (o : Option Element) → is_some (pair_of o) ≡ is_some o

@@ -1,5 +1,4 @@
-use Rattle.std.proofs.Common.{[], refl}
-use Rattle.rga_lines.specs.Stream.{splitting_with}
+use Rattle.rga_lines.proofs.Prelude.{[], refl, splitting_with}
 use Rattle.rga_lines.proofs.SplitterLemmas.{ends}
 use Rattle.rga_lines.proofs.laws.lines_do_not_depend_on_the_cutting.Goals as goal
 

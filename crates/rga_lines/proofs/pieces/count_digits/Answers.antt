@@ -1,5 +1,4 @@
-use Rattle.std.proofs.Common.{arith}
-use Rattle.itoa.proofs.Decimal.{length_four}
+use Rattle.rga_lines.proofs.Prelude.{arith, length_four}
 use Rattle.rga_lines.proofs.DigitsLemmas.{at_most_twenty}
 use Rattle.rga_lines.proofs.pieces.count_digits.Goals as goal
 

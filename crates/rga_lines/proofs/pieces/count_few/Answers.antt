@@ -1,5 +1,4 @@
-use Rattle.std.proofs.Common.{◌/◌, sym, arith}
-use Rattle.itoa.proofs.Decimal.{length_one, length_two, length_pair}
+use Rattle.rga_lines.proofs.Prelude.{◌/◌, sym, arith, length_one, length_two, length_pair}
 use Rattle.rga_lines.proofs.pieces.count_few.Goals as goal
 
 pub returns-then-number-lt10 : goal.returns-then-number-lt10

@@ -1,5 +1,4 @@
-use Rattle.std.proofs.Common.{◌∷◌, ◌++◌, take, sym, ap, ◌∙◌}
-use Rattle.std.proofs.lemmas.Fmt.{decimal_digit}
+use Rattle.rga_lines.proofs.Prelude.{◌∷◌, ◌++◌, take, sym, ap, ◌∙◌, decimal_digit}
 use Rattle.rga_lines.proofs.pieces.put_replica.Goals as goal
 
 pub returns-then-replica-lt10-clause-put : goal.returns-then-replica-lt10-clause-put

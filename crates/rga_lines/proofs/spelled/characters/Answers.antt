@@ -1,5 +1,4 @@
-use Rattle.std.proofs.Common.{rules, ◌≡◌}
-use Rattle.rga_ops.specs.Identifier.{identifier}
+use Rattle.rga_lines.proofs.Prelude.{rules, ◌≡◌, identifier}
 use Rattle.rga_lines.proofs.RunLemmas.{shorter, read_to_next, read_to_end}
 use Rattle.rga_lines.proofs.spelled.characters.Goals as goal
 

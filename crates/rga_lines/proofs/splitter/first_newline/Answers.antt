@@ -1,5 +1,4 @@
-use Rattle.std.proofs.Common.{ap, ◌∙◌, position}
-use Rattle.std.proofs.lemmas.List.{take_rest}
+use Rattle.rga_lines.proofs.Prelude.{ap, ◌∙◌, position, take_rest}
 use Rattle.rga_lines.proofs.StreamLemmas.{is_newline, position_is, position-past, position-past_none}
 use Rattle.rga_lines.proofs.splitter.first_newline.Goals as goal
 

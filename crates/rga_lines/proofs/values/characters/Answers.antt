@@ -1,5 +1,4 @@
-use Rattle.std.proofs.Common.{rules}
-use Rattle.std.proofs.lemmas.Str.{chars_from_encodes}
+use Rattle.rga_lines.proofs.Prelude.{rules, chars_from_encodes}
 use Rattle.rga_lines.proofs.values.characters.Goals as goal
 
 pub returns-clause-ok : goal.returns-clause-ok

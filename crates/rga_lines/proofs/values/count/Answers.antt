@@ -1,5 +1,4 @@
-use Rattle.std.proofs.Common.{Some, sym, ap, ◌∙◌, option_map}
-use Rattle.serde_json.specs.Events.{members_len}
+use Rattle.rga_lines.proofs.Prelude.{Some, sym, ap, ◌∙◌, option_map, members_len}
 use Rattle.serde_json.proofs.Views.{members_len-members_view}
 use Rattle.rga_lines.proofs.values.count.Goals as goal
 

@@ -1,7 +1,4 @@
-use Rattle.std.proofs.Common.{◌≡◌, ◌++◌, length, string_bytes}
-use Rattle.std.specs.Char.{IsScalar}
-use Rattle.std.specs.List.{flat_map, AllByRecursion}
-use Rattle.rga_lines.specs.Spelling.{escaped}
+use Rattle.rga_lines.proofs.Prelude.{◌≡◌, ◌++◌, length, string_bytes, IsScalar, flat_map, AllByRecursion, escaped}
 use Rattle.rga_lines.proofs.writing.push_all.Given as goal
 
 abbrev pub invariant-chars : goal.invariant-chars

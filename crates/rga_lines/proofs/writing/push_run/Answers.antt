@@ -1,6 +1,5 @@
-use Rattle.std.proofs.Common.{◌++◌, codes, string_bytes, ap, ◌∙◌}
-use Rattle.std.specs.List.{flat_map}
-use Rattle.rga_lines.specs.Spelling.{escaped, pair_text, run_line}
+use Rattle.rga_lines.proofs.Prelude.{◌++◌, codes, string_bytes, ap, ◌∙◌, flat_map, escaped, pair_text}
+use Rattle.rga_lines.specs.Spelling.{run_line}
 use Rattle.rga_lines.proofs.AddedLemmas.{five_parts}
 use Rattle.rga_lines.proofs.writing.push_run.Goals as goal
 

@@ -1,5 +1,4 @@
-use Rattle.std.proofs.Common.{◌≡◌, ◌+◌, ℕ, List, drop, length, length-drop, ap, ◌∙◌, arith}
-use Rattle.rga_ops.specs.Splice.{spliced}
+use Rattle.rga_doc.proofs.Prelude.{◌≡◌, ◌+◌, ℕ, List, drop, length, length-drop, ap, ◌∙◌, arith, spliced}
 use Rattle.rga_doc.specs.Characters.{CharacterList}
 use Rattle.rga_doc.proofs.CharacterLaws.{splice_behind}
 use Rattle.rga_doc.proofs.characters.Characters.replace.Goals as goal

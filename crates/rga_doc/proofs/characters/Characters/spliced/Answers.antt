@@ -1,5 +1,4 @@
-use Rattle.std.proofs.Common.{◌≡◌, ◌≤◌, ◌-◌, ◌++◌, ℕ, List, take, drop, length, sym, ap, ◌∙◌, arith, take_all}
-use Rattle.rga_ops.specs.Splice.{Splice, text_after, are_falling, end_of}
+use Rattle.rga_doc.proofs.Prelude.{◌≡◌, ◌≤◌, ◌-◌, ◌++◌, ℕ, List, take, drop, length, sym, ap, ◌∙◌, arith, take_all, Splice, text_after, are_falling, end_of}
 use Rattle.rga_doc.proofs.AnewLaws.{IsNext, is_next, falling_end, falling_to_end, text_more, text_whole}
 use Rattle.rga_doc.proofs.characters.Characters.spliced.Goals as goal
 

@@ -1,5 +1,4 @@
-use Rattle.std.proofs.Common.{◌≡◌, ◌≤◌, true, take, drop, length}
-use Rattle.rga_ops.specs.Splice.{text_after, are_falling, end_of}
+use Rattle.rga_doc.proofs.Prelude.{◌≡◌, ◌≤◌, true, take, drop, length, text_after, are_falling, end_of}
 use Rattle.rga_doc.proofs.characters.Characters.spliced.Given as goal
 
 -- what stood up to the end of the splices that were done is listed anew, as they leave it

@@ -1,10 +1,4 @@
-use Rattle.std.proofs.Common.{◌≤◌, length, Some, ap, sym, ◌∙◌, arith}
-use Rattle.rga_ops.specs.Content.{Content}
-use Rattle.rga_ops.specs.Order.{text}
-use Rattle.rga_ops.specs.Places.{visible, place}
-use Rattle.rga_ops.proofs.VisibleLaws.{text_long}
-use Rattle.rga_doc.specs.Document.{Document}
-use Rattle.rga_doc.specs.LocalEdit.{element_behind}
+use Rattle.rga_doc.proofs.Prelude.{◌≤◌, length, Some, ap, sym, ◌∙◌, arith, Content, text, visible, place, text_long, Document, element_behind}
 use Rattle.rga_doc.proofs.AnchorLaws.{left_behind, left_place}
 use Rattle.rga_doc.proofs.doc.Doc.anchor_within.Goals as goal
 

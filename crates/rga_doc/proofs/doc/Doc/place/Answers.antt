@@ -1,16 +1,7 @@
-use Rattle.std.proofs.Common.{◌≡◌, true, false, cond, not, ◌&&◌, filter, length, is_some, sym, ap, ◌∙◌}
-use Rattle.std.specs.Prelude.{Ok, Some, None}
-use Rattle.std.specs.FinMap as finite_map
-use Rattle.std.proofs.lemmas.Option.{same_Some, none-some}
-use Rattle.rga_ops.specs.Identifier.{Identifier, is_root}
-use Rattle.rga_ops.specs.Content.{Content, element_at}
-use Rattle.rga_ops.specs.Order.{order}
-use Rattle.rga_ops.specs.Places.{is_visible, up_to, place}
-use Rattle.rga_ops.specs.RootPath.{is_complete}
-use Rattle.rga_ops.proofs.PathLaws.{root_path-absent}
-use Rattle.rga_ops.proofs.VisibleLaws.{no_place}
+use Rattle.rga_doc.proofs.Prelude.{◌≡◌, true, false, cond, not, ◌&&◌, filter, length, is_some, sym, ap, ◌∙◌, Ok, Some, None, same_Some, none-some, Identifier, is_root, Content, element_at, order, is_visible, up_to, place, is_complete}
+use Rattle.rga_doc.proofs.Prelude.{root_path-absent, no_place, Document}
 use Rattle.rga_store.proofs.ElementSteps.{found_none}
-use Rattle.rga_doc.specs.Document.{Document}
+use Rattle.std.specs.FinMap as finite_map
 use Rattle.rga_doc.proofs.doc.Doc.place.Goals as goal
 
 root_place : (c : Content) (id : Identifier) → is_root id ≡ true → place c id ≡ Some 0

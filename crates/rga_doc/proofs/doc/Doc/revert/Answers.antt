@@ -1,7 +1,4 @@
-use Rattle.std.proofs.Common.{ap, ◌∙◌}
-use Rattle.rga_ops.specs.Content.{Content, join, content_of}
-use Rattle.rga_ops.specs.Order.{order}
-use Rattle.rga_doc.specs.Document.{Document}
+use Rattle.rga_doc.proofs.Prelude.{ap, ◌∙◌, Content, join, content_of, order, Document}
 use Rattle.rga_doc.proofs.RevertLaws.{revert_order}
 use Rattle.rga_doc.proofs.doc.Doc.revert.Goals as goal
 

@@ -1,6 +1,4 @@
-use Rattle.std.proofs.Common.{rules, ◌≡◌, ap, ◌∙◌}
-use Rattle.rga_ops.specs.ListAnswer.{list_answer}
-use Rattle.rga_doc.specs.Document.{Document}
+use Rattle.rga_doc.proofs.Prelude.{rules, ◌≡◌, ap, ◌∙◌, list_answer, Document}
 use Rattle.rga_doc.proofs.EditLaws.{splices_taken}
 use Rattle.rga_doc.proofs.doc.Doc.take_or_forget.Goals as goal
 

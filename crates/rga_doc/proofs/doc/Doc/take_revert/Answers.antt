@@ -1,13 +1,5 @@
-use Rattle.std.proofs.Common.{◌≡◌, ◌-◌, ℕ, List, take, drop, length, sym, ap, ◌∙◌, subst, arith}
-use Rattle.std.specs.Prelude.{Ok}
-use Rattle.rga_ops.specs.Identifier.{Identifier}
-use Rattle.rga_ops.specs.Content.{Content, clock_of, join, content_of}
-use Rattle.rga_ops.specs.ListAnswer.{list_answer}
-use Rattle.rga_ops.specs.Order.{text}
-use Rattle.rga_ops.specs.declared.op.Op.{Op}
-use Rattle.rga_doc.specs.Document.{Document}
-use Rattle.rga_doc.specs.Relisting.{AllBetween, AgreeOutside}
-use Rattle.rga_doc.specs.Revert.{restorations, revert_operations, revert_answer}
+use Rattle.rga_doc.proofs.Prelude.{◌≡◌, ◌-◌, ℕ, List, take, drop, length, sym, ap, ◌∙◌, subst, arith, Ok, Identifier, Content, clock_of, join, content_of, list_answer, text, Op, Document, AllBetween, AgreeOutside, restorations, revert_operations}
+use Rattle.rga_doc.proofs.Prelude.{revert_answer}
 use Rattle.rga_doc.proofs.RevertLaws.{revert_taken}
 use Rattle.rga_doc.proofs.RereadingLaws.{both_say, revert_long, revert_deletions, revert_insertions, revert_agrees}
 use Rattle.rga_doc.proofs.doc.Doc.take_revert.Goals as goal

@@ -1,11 +1,4 @@
-use Rattle.std.proofs.Common.{◌≡◌, ◌≤◌, length, sym, ap, ◌∙◌, arith}
-use Rattle.std.specs.Prelude.{Ok}
-use Rattle.rga_ops.specs.Content.{Content, join, content_of}
-use Rattle.rga_ops.specs.ListAnswer.{list_answer}
-use Rattle.rga_ops.specs.Order.{order, text}
-use Rattle.rga_ops.specs.Splice.{spliced}
-use Rattle.rga_doc.specs.Document.{Document}
-use Rattle.rga_doc.specs.LocalEdit.{splice_answer, splice_operations}
+use Rattle.rga_doc.proofs.Prelude.{◌≡◌, ◌≤◌, length, sym, ap, ◌∙◌, arith, Ok, Content, join, content_of, list_answer, order, text, spliced, Document, splice_answer, splice_operations}
 use Rattle.rga_doc.proofs.EditLaws.{splice_taken, splice_text, splice_order}
 use Rattle.rga_doc.proofs.EditAnswers.{splice_places}
 use Rattle.rga_doc.proofs.doc.Doc.take_splice.Goals as goal

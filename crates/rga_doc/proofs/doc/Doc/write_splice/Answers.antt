@@ -1,12 +1,4 @@
-use Rattle.std.proofs.Common.{rules, ◌≡◌, ◌++◌, ◌≤◌, ◌+◌, length, ap, ◌∙◌, arith}
-use Rattle.rga_ops.specs.Content.{Content, clock_of}
-use Rattle.rga_ops.specs.Order.{text}
-use Rattle.rga_ops.specs.Places.{visible}
-use Rattle.rga_ops.proofs.VisibleLaws.{text_long}
-use Rattle.rga_ops.specs.declared.id.TheConstants.Id.{MAX_COUNTER}
-use Rattle.rga_doc.specs.Document.{Document}
-use Rattle.rga_doc.specs.Excerpt.{Excerpted}
-use Rattle.rga_doc.specs.LocalEdit.{splice_operations, splice_operations_at}
+use Rattle.rga_doc.proofs.Prelude.{rules, ◌≡◌, ◌++◌, ◌≤◌, ◌+◌, length, ap, ◌∙◌, arith, Content, clock_of, text, visible, text_long, MAX_COUNTER, Document, Excerpted, splice_operations, splice_operations_at}
 use Rattle.rga_doc.proofs.EditAnswers.{splice_places, splice_counters}
 use Rattle.rga_doc.proofs.ExcerptLaws.{splice_by_excerpt, excerpt_long}
 use Rattle.rga_doc.proofs.doc.Doc.write_splice.Goals as goal

@@ -1,14 +1,4 @@
-use Rattle.std.proofs.Common.{◌≡◌, ◌≤◌, ℕ, ◌+◌, List, length, ap, ◌∙◌, arith}
-use Rattle.std.specs.Prelude.{Ok}
-use Rattle.std.proofs.lemmas.Result.{IfOk-weaker}
-use Rattle.rga_ops.specs.Content.{Content, clock_of}
-use Rattle.rga_ops.specs.Order.{text}
-use Rattle.rga_ops.specs.Places.{visible}
-use Rattle.rga_ops.specs.Splice.{Splice, are_falling, new_characters}
-use Rattle.rga_ops.specs.declared.id.TheConstants.Id.{MAX_COUNTER}
-use Rattle.rga_doc.specs.Document.{Document}
-use Rattle.rga_doc.specs.Excerpt.{Excerpted, excerpt}
-use Rattle.rga_doc.specs.LocalEdit.{splices_answer, splices_operations}
+use Rattle.rga_doc.proofs.Prelude.{◌≡◌, ◌≤◌, ℕ, ◌+◌, List, length, ap, ◌∙◌, arith, Ok, IfOk-weaker, Content, clock_of, text, visible, Splice, are_falling, new_characters, MAX_COUNTER, Document, Excerpted, excerpt, splices_answer, splices_operations}
 use Rattle.rga_doc.proofs.EditLaws.{allowed_counters}
 use Rattle.rga_doc.proofs.EditAnswers.{counters_suffice}
 use Rattle.rga_doc.proofs.ExcerptLaws.{splices_by_excerpt, falls_in_excerpt}

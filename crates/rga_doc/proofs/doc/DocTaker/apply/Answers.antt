@@ -1,5 +1,4 @@
-use Rattle.std.proofs.Common.{rules, ◌≡◌, sym, ◌∙◌}
-use Rattle.std.specs.Prelude.{Ok}
+use Rattle.rga_doc.proofs.Prelude.{rules, ◌≡◌, sym, ◌∙◌, Ok}
 use Rattle.rga_ops.specs.declared.refusal.Taken.TheVariants.{New}
 use Rattle.rga_doc.proofs.doc.DocTaker.apply.Goals as goal
 

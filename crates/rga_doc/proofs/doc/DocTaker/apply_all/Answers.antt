@@ -1,9 +1,5 @@
-use Rattle.std.proofs.Common.{rules, ◌≡◌, Ok, length, sym, ap, ◌∙◌, arith}
+use Rattle.rga_doc.proofs.Prelude.{rules, ◌≡◌, Ok, length, sym, ap, ◌∙◌, arith, nil_from_length, Content, join, content_of, join_nothing, text}
 use Rattle.std.proofs.lemmas.Grind.{common_steps}
-use Rattle.std.proofs.lemmas.List.{nil_from_length}
-use Rattle.rga_ops.specs.Content.{Content, join, content_of}
-use Rattle.rga_ops.proofs.ContentLaws.{join_nothing}
-use Rattle.rga_ops.specs.Order.{text}
 use Rattle.rga_doc.proofs.doc.DocTaker.apply_all.Goals as goal
 
 -- where nothing was taken, the content is the same

@@ -1,10 +1,5 @@
-use Rattle.std.proofs.Common.{◌≡◌, ℕ, ◌+◌, List, [], ◌∷◌, ◌++◌, drop, sym, ap, ◌∙◌, append_assoc, arith}
-use Rattle.rga_ops.specs.Identifier.{Identifier, identifier, is_in_range}
-use Rattle.rga_ops.specs.declared.op.Op.{Op}
-use Rattle.rga_ops.specs.declared.op.Op.TheVariants.{Insert}
-use Rattle.rga_doc.specs.Revert.{restorations}
+use Rattle.rga_doc.proofs.Prelude.{◌≡◌, ℕ, ◌+◌, List, [], ◌∷◌, ◌++◌, drop, sym, ap, ◌∙◌, append_assoc, arith, Identifier, identifier, is_in_range, Op, Insert, restorations, from}
 use Rattle.rga_doc.proofs.EditAnswers.{made_as_asked}
-use Rattle.rga_ops.proofs.ListSteps.{from}
 use Rattle.rga_doc.proofs.draft.Draft.restore.Goals as goal
 
 pub loop-element-preserved : goal.loop-element-preserved

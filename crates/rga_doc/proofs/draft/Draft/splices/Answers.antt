@@ -1,7 +1,4 @@
-use Rattle.std.proofs.Common.{◌≡◌, ◌≤◌, ℕ, ◌+◌, List, drop, length, ap, ◌∙◌, arith}
-use Rattle.rga_ops.specs.Splice.{Splice, new_characters}
-use Rattle.rga_ops.specs.declared.id.TheConstants.Id.{MAX_COUNTER}
-use Rattle.rga_doc.specs.Excerpt.{begin_of}
+use Rattle.rga_doc.proofs.Prelude.{◌≡◌, ◌≤◌, ℕ, ◌+◌, List, drop, length, ap, ◌∙◌, arith, Splice, new_characters, MAX_COUNTER, begin_of}
 use Rattle.rga_doc.proofs.ExcerptLaws.{begins_first, begins_at}
 use Rattle.rga_doc.proofs.EditAnswers.{falls_within}
 use Rattle.rga_doc.proofs.FallingLaws.{fewer, characters_left}

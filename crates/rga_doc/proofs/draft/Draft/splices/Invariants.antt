@@ -1,6 +1,4 @@
-use Rattle.std.proofs.Common.{◌≡◌, ◌++◌, ◌+◌, drop}
-use Rattle.rga_ops.specs.Splice.{new_characters}
-use Rattle.rga_doc.specs.LocalEdit.{draft_operations}
+use Rattle.rga_doc.proofs.Prelude.{◌≡◌, ◌++◌, ◌+◌, drop, new_characters, draft_operations}
 use Rattle.rga_doc.proofs.draft.Draft.splices.Given as goal
 
 -- the operations that are left complete those that were wanted

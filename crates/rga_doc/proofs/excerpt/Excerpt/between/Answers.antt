@@ -1,7 +1,4 @@
-use Rattle.std.proofs.Common.{◌≡◌, ◌≤◌, ◌+◌, ◌-◌, ℕ, List, ◌++◌, take, drop, replicate, sym, ap, ◌∙◌, arith, drop_at, drop-drop}
-use Rattle.std.proofs.lemmas.List.{length-replicate}
-use Rattle.rga_ops.specs.Identifier.{Identifier, root}
-use Rattle.rga_doc.specs.Excerpt.{Excerpted}
+use Rattle.rga_doc.proofs.Prelude.{◌≡◌, ◌≤◌, ◌+◌, ◌-◌, ℕ, List, ◌++◌, take, drop, replicate, sym, ap, ◌∙◌, arith, drop_at, drop-drop, length-replicate, Identifier, root, Excerpted}
 use Rattle.rga_doc.proofs.SplicedCharacters.{part}
 use Rattle.rga_doc.proofs.excerpt.Excerpt.between.Goals as goal
 

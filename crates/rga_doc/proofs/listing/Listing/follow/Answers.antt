@@ -1,7 +1,4 @@
-use Rattle.std.proofs.Common.{subst}
-use Rattle.std.specs.Prelude.{IfSome}
-use Rattle.rga_ops.specs.Content.{Content}
-use Rattle.rga_doc.specs.Relisting.{WillAgreeOutside}
+use Rattle.rga_doc.proofs.Prelude.{subst, IfSome, Content, WillAgreeOutside}
 use Rattle.rga_doc.proofs.listing.Listing.follow.Goals as goal
 
 -- the narrower margins hold, as those did that were narrowed

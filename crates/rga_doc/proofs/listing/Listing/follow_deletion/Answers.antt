@@ -1,6 +1,4 @@
-use Rattle.std.proofs.Common.{rules, ◌≡◌, length, arith}
-use Rattle.rga_ops.specs.Content.{Content}
-use Rattle.rga_ops.specs.Places.{visible}
+use Rattle.rga_doc.proofs.Prelude.{rules, ◌≡◌, length, arith, Content, visible}
 use Rattle.rga_doc.proofs.FollowingLaws.{deleted_within, cut_is_listed, deletion_is_hidden}
 use Rattle.rga_doc.proofs.listing.Listing.follow_deletion.Goals as goal
 

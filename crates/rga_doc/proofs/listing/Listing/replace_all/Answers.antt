@@ -1,6 +1,4 @@
-use Rattle.std.proofs.Common.{◌≡◌, ◌≤◌, ◌+◌, ℕ, List, ◌∷◌, drop, length, sym, ap, ◌∙◌, arith}
-use Rattle.std.proofs.lemmas.List.{drop_more}
-use Rattle.rga_ops.specs.Splice.{Splice, spliced, text_after, are_falling, new_characters}
+use Rattle.rga_doc.proofs.Prelude.{◌≡◌, ◌≤◌, ◌+◌, ℕ, List, ◌∷◌, drop, length, sym, ap, ◌∙◌, arith, drop_more, Splice, spliced, text_after, are_falling, new_characters}
 use Rattle.rga_doc.proofs.SplicedCharacters.{long-spliced}
 use Rattle.rga_doc.proofs.FallingLaws.{falls_first, characters_left, falls_wider}
 use Rattle.rga_doc.proofs.listing.Listing.replace_all.Goals as goal

@@ -1,5 +1,4 @@
-use Rattle.std.proofs.Common.{◌≡◌, ◌≤◌, true, drop, length}
-use Rattle.rga_ops.specs.Splice.{text_after, are_falling, new_characters}
+use Rattle.rga_doc.proofs.Prelude.{◌≡◌, ◌≤◌, true, drop, length, text_after, are_falling, new_characters}
 use Rattle.rga_doc.proofs.listing.Listing.replace_all.Given as goal
 
 -- the splices that are left complete those that were wanted, and find their places and room

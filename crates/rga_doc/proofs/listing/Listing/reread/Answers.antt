@@ -1,8 +1,4 @@
-use Rattle.std.proofs.Common.{◌≡◌, ◌≤◌, ◌-◌, ◌+◌, ℕ, List, length, leb-true, sym, ap, ◌∙◌, arith}
-use Rattle.rga_ops.specs.Content.{Content}
-use Rattle.rga_ops.specs.Order.{text}
-use Rattle.rga_ops.specs.Splice.{spliced}
-use Rattle.rga_ops.proofs.VisibleLaws.{text_long}
+use Rattle.rga_doc.proofs.Prelude.{◌≡◌, ◌≤◌, ◌-◌, ◌+◌, ℕ, List, length, leb-true, sym, ap, ◌∙◌, arith, Content, text, spliced, text_long}
 use Rattle.rga_doc.proofs.RereadingLaws.{read_anew}
 use Rattle.rga_doc.proofs.listing.Listing.reread.Goals as goal
 

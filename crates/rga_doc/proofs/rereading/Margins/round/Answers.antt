@@ -1,8 +1,4 @@
-use Rattle.std.proofs.Common.{◌≡◌, ◌≤◌, ◌-◌, ℕ, suc, sym, ap, ◌∙◌, subst, arith}
-use Rattle.std.specs.Prelude.{Some}
-use Rattle.rga_ops.specs.Content.{Content}
-use Rattle.rga_ops.specs.Operation.{id_of}
-use Rattle.rga_doc.specs.Relisting.{StandsBetween}
+use Rattle.rga_doc.proofs.Prelude.{◌≡◌, ◌≤◌, ◌-◌, ℕ, suc, sym, ap, ◌∙◌, subst, arith, Some, Content, id_of, StandsBetween}
 use Rattle.rga_doc.proofs.RereadingLaws.{between_more}
 use Rattle.rga_doc.proofs.rereading.Margins.round.Goals as goal
 

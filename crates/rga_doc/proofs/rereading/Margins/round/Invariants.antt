@@ -1,5 +1,4 @@
-use Rattle.std.proofs.Common.{◌≤◌, take}
-use Rattle.rga_doc.specs.Relisting.{AllBetween}
+use Rattle.rga_doc.proofs.Prelude.{◌≤◌, take, AllBetween}
 use Rattle.rga_doc.proofs.rereading.Margins.round.Given as goal
 
 -- the elements so far stand between

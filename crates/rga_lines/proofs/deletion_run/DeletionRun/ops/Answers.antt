@@ -1,7 +1,4 @@
-use Rattle.std.proofs.Common.{rules, ◌≡◌, ◌+◌, ◌-◌, [], ◌∷◌, ◌++◌, sym, ap, ◌∙◌}
-use Rattle.rga_ops.specs.Identifier.{identifier}
-use Rattle.rga_ops.specs.declared.op.Op.TheVariants.{Delete}
-use Rattle.rga_lines.specs.Runs.{deletions_from}
+use Rattle.rga_lines.proofs.Prelude.{rules, ◌≡◌, ◌+◌, ◌-◌, [], ◌∷◌, ◌++◌, sym, ap, ◌∙◌, identifier, Delete, deletions_from}
 use Rattle.rga_lines.proofs.NextDeletion.{next_deletion}
 use Rattle.rga_lines.proofs.deletion_run.DeletionRun.ops.Goals as goal
 

@@ -1,6 +1,4 @@
-use Rattle.std.proofs.Common.{◌≡◌, ◌++◌}
-use Rattle.rga_ops.specs.Identifier.{identifier}
-use Rattle.rga_lines.specs.Runs.{deletions_from, run_deletions}
+use Rattle.rga_lines.proofs.Prelude.{◌≡◌, ◌++◌, identifier, deletions_from, run_deletions}
 use Rattle.rga_lines.proofs.deletion_run.DeletionRun.ops.Given as goal
 
 abbrev pub invariant-deletions : goal.invariant-deletions

@@ -1,5 +1,4 @@
-use Rattle.std.proofs.Common.{◌≡◌, ◌∷◌, ◌++◌, [], take, length, decimal, refl, sym, ap, ◌∙◌, arith}
-use Rattle.std.proofs.lemmas.Fmt.{decimal_digit}
+use Rattle.rga_lines.proofs.Prelude.{◌≡◌, ◌∷◌, ◌++◌, [], take, length, decimal, refl, sym, ap, ◌∙◌, arith, decimal_digit}
 use Rattle.rga_lines.proofs.FrontLemmas.{front_stays}
 use Rattle.rga_lines.proofs.hundred.Hundred.behind.Goals as goal
 

@@ -1,6 +1,4 @@
-use Rattle.std.proofs.Common.{◌≡◌, ◌+◌, ◌-◌, ◌/◌, ◌++◌, take, length, decimal, ap, ◌∙◌, arith, length-append}
-use Rattle.std.proofs.lemmas.List.{length-take}
-use Rattle.itoa.proofs.Decimal.{pair, PAIRS_at}
+use Rattle.rga_lines.proofs.Prelude.{◌≡◌, ◌+◌, ◌-◌, ◌/◌, ◌++◌, take, length, decimal, ap, ◌∙◌, arith, length-append, length-take, pair, PAIRS_at}
 use Rattle.rga_lines.specs.declared.hundred.TheConstants.{ROOM}
 use Rattle.rga_lines.proofs.DigitsLemmas.{at_most_eighteen}
 use Rattle.rga_lines.proofs.FrontLemmas.{part_put, hundred_put}

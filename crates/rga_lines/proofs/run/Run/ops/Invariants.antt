@@ -1,6 +1,4 @@
-use Rattle.std.proofs.Common.{◌≡◌, ◌++◌, length}
-use Rattle.rga_ops.specs.Identifier.{identifier}
-use Rattle.rga_lines.specs.Runs.{run_operations, stretch_operations}
+use Rattle.rga_lines.proofs.Prelude.{◌≡◌, ◌++◌, length, identifier, run_operations, stretch_operations}
 use Rattle.rga_lines.proofs.run.Run.ops.Given as goal
 
 abbrev pub invariant-chars : goal.invariant-chars

@@ -1,6 +1,4 @@
-use Rattle.std.proofs.Common.{◌∙◌, ap, sym, refl, drop, length, arith}
-use Rattle.std.proofs.lemmas.List.{length-drop}
-use Rattle.rga_lines.specs.Stream.{Splitting}
+use Rattle.rga_lines.proofs.Prelude.{◌∙◌, ap, sym, refl, drop, length, arith, length-drop, Splitting}
 use Rattle.rga_lines.proofs.NextLine.{line_waits, none_waits, none_before, none_among, index_within, long_line_waits, long_rest_waits}
 use Rattle.rga_lines.proofs.splitter.Splitter.find_line.Goals.{in_default-via-in-Some+else-end-le-MAX_LINE, in_default-via-in-None+else-waiting-le-MAX_LINE}
 use Rattle.rga_lines.proofs.splitter.Splitter.find_line.Goals as goal

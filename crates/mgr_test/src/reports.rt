@@ -1,5 +1,5 @@
 //! What reports say, and what bytes lead to, in words.
-use crate::{Event, Reader, Report, read_report};
+use mg_events::{Event, LineFault, REPORT, Reader, Report, read_report};
 use std::alloc::{AllocError, Global};
 
 /// A report's line, and what it says.
@@ -172,10 +172,10 @@ fn keys_and_reports_are_told_apart(rt: HostRuntime) {
 fn the_longest_line(rt: HostRuntime) {
     for (count, wanted) in [
         (65536, Event::Line),
-        (65537, Event::Refused(crate::LineFault::Long)),
+        (65537, Event::Refused(LineFault::Long)),
     ] {
         let mut reader = Reader::new(rt.alloc());
-        let _begun = reader.read(crate::REPORT);
+        let _begun = reader.read(REPORT);
         for _ in 0..count {
             let _held = reader.read(b'x');
         }

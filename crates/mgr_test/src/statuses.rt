@@ -1,5 +1,5 @@
 //! A whole status.
-use crate::{
+use mg_events::{
     Asking, BufferStatus, PlaceStatus, PointStatus, PromptStatus, RefusedReport, Saved, Status,
     WindowStatus, status_line,
 };
