@@ -1,5 +1,5 @@
 -- Blocks of a text that have no newline.
-use Rattle.std.proofs.Common.{◌≡◌, ℕ, zero, suc, ◌+◌, ◌-◌, ◌≤◌, ◌<◌, List, length, take, drop, get_or, arith, ap, sym, ◌∙◌, Bool, false, not, count_by, length-drop}
+use Rattle.std.proofs.Common.{◌≡◌, ℕ, zero, suc, ◌+◌, ◌≤◌, ◌<◌, List, length, take, drop, get_or, arith, ap, sym, ◌∙◌, Bool, false, not, count_by, length-drop}
 use Rattle.std.specs.List.{position_or_len}
 use Rattle.std.proofs.lemmas.List.{get_or-drop}
 use Rattle.std.proofs.lemmas.List.Sums.{suffix_len-take_yes, prefix_len-drop_yes, count_by_more_yes, count_by_more_no}

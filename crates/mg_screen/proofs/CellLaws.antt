@@ -1,5 +1,5 @@
 -- Cells of a line that is read from its front, and the longest beginning.
-use Rattle.std.proofs.Common.{◌≡◌, ℕ, ◌+◌, ◌-◌, ◌≤◌, ◌<◌, List, [], ◌∷◌, ◌++◌, length, take, drop, refl, sym, ◌∙◌, ap, arith, append_assoc, encode_utf8_all, encode_utf8, replicate, zero, suc, get_or}
+use Rattle.std.proofs.Common.{◌≡◌, ℕ, ◌+◌, ◌-◌, ◌≤◌, ◌<◌, List, [], ◌∷◌, ◌++◌, length, drop, refl, sym, ◌∙◌, ap, arith, append_assoc, encode_utf8_all, encode_utf8, replicate, suc, get_or}
 use Rattle.std.proofs.lemmas.List.{at_drop_more}
 use Rattle.std.proofs.lemmas.Str.{encodes-append}
 use Rattle.std.proofs.lemmas.Bool.Decides.{nat_tests}
@@ -41,9 +41,7 @@ beginning_width_on line most column i d w inside met is room fits sofar = omega 
 -- bytes of a row, with one cell more
 pub row_on : (row before all more rest old : List ℕ) → before ≡ row ++ encode_utf8_all more → all ≡ more ++ rest
     → row ++ encode_utf8_all all ≡ old → before ++ encode_utf8_all rest ≡ old
-row_on row before all more rest old is parts told =
-    ap (λ b. b ++ encode_utf8_all rest) is ∙ append_assoc row (encode_utf8_all more) (encode_utf8_all rest)
-    ∙ ap (λ b. row ++ b) (sym (encodes-append more rest)) ∙ ap (λ xs. row ++ encode_utf8_all xs) (sym parts) ∙ told
+row_on row before all more rest old is parts told = grind (arith, append_assoc, encodes-append)
 
 -- all cells have room
 whole_on : (most : ℕ) (x : Cell) (cs : List Cell) → (width_of cs ≤ most - x.width → cells_within (most - x.width) cs ≡ cs) → width_of (x ∷ cs) ≤ most → cells_within most (x ∷ cs) ≡ x ∷ cs
@@ -55,19 +53,7 @@ beginning_whole most (x ∷ cs) fits = whole_on most x cs (beginning_whole (most
 
 -- one cell more in the longest beginning, or none
 longest_on : (most : ℕ) (x : Cell) (xs : List Cell) → IsLongest (most - x.width) xs (cells_within (most - x.width) xs) → IsLongest most (x ∷ xs) (cells_within most (x ∷ xs))
-longest_on most x xs rest = record {
-  begins = grind (arith, nat_tests);
-  fits = grind (arith, nat_tests);
-  longest = λ k. by_count k;
-}
-  where
-    by_count : (k : ℕ) → length (cells_within most (x ∷ xs)) < k → k ≤ length (x ∷ xs) → most < width_of (take k (x ∷ xs))
-    by_count zero more within = absurd (omega (arith, more))
-    by_count (suc k) more within = over k (rest.longest k) more within
-      where
-        over : (k : ℕ) → (length (cells_within (most - x.width) xs) < k → k ≤ length xs → most - x.width < width_of (take k xs))
-            → length (cells_within most (x ∷ xs)) < suc k → suc k ≤ length (x ∷ xs) → most < x.width + width_of (take k xs)
-        over k rest more within = grind (arith, nat_tests)
+longest_on most x xs rest = grind arith
 
 pub is_longest : (most : ℕ) (all : List Cell) → IsLongest most all (cells_within most all)
 is_longest most [] = record { begins = refl; fits = omega arith; longest = λ k more within. absurd (omega (arith, more, within)) }

@@ -1,5 +1,5 @@
 -- The cursor, and the frame that it stands in.
-use Rattle.std.proofs.Common.{◌≡◌, ℕ, zero, suc, ◌+◌, ◌-◌, ◌/◌, ◌≤◌, ◌<◌, List, [], ◌∷◌, ◌++◌, length, take, drop, get_or, arith, refl, sym, ◌∙◌, ap, true, Option, Some, None, slice_get, chars, append_assoc, append-nil, take-take, cond, nat_le, set}
+use Rattle.std.proofs.Common.{◌≡◌, ℕ, zero, suc, ◌+◌, ◌-◌, ◌≤◌, ◌<◌, List, [], ◌∷◌, ◌++◌, length, take, drop, get_or, arith, refl, sym, ◌∙◌, ap, true, Some, slice_get, chars, append_assoc, append-nil, take-take, cond, nat_le, set}
 use Rattle.std.proofs.lemmas.List.{drop-drop, take_all, drop_more, get_or_append_left, set_split, set-get_or}
 use Rattle.std.proofs.lemmas.List.Sums.{sum_by-take-le}
 use Rattle.std.proofs.lemmas.List.Splits.{length-slice_split}
@@ -7,7 +7,7 @@ use Rattle.std.proofs.lemmas.Option.{slice_get_within, get_or_from_slice_get}
 use Rattle.std.proofs.lemmas.Bool.Decides.{nat_tests}
 use Rattle.mg_screen.specs.declared.screen.Position.{Position}
 use Rattle.mg_screen.specs.Screen.{Pane, Screen}
-use Rattle.mg_screen.specs.Lines.{ends_line, lines, line_index, column_of, first_line, shows_line}
+use Rattle.mg_screen.specs.Lines.{lines, line_index, column_of, first_line, shows_line}
 use Rattle.mg_screen.specs.Cells.{Cell, cell, cell_of, cells, cells_from, width_of, shown_cells}
 use Rattle.mg_screen.specs.Rows.{text_row, filled_row}
 use Rattle.mg_screen.specs.Frame.{first_row, text_rows, pane_rows, frame_rows, mode_text}
@@ -81,9 +81,7 @@ text_row_at columns (suc n) ls (suc i) inside =
 
 -- the line of a place is one of the text
 lines_at : (text : List ℕ) (place : ℕ) → drop (line_index text place) (lines text) ≡ place_line text place ∷ drop (line_index text place + 1) (lines text)
-lines_at text place =
-    let inside : line_index text place < length (lines text) = omega (arith, length-slice_split ends_line text, sum_by-take-le (λ c. cond (ends_line c) 1 0) text place) in
-    drop_more (lines text) (line_index text place) [] inside
+lines_at text place = grind (arith, length-slice_split, sum_by-take-le, drop_more)
 
 -- the row of a place in its window
 pub plain_row : (columns place : ℕ) (p : Pane) → p.first ≤ line_index p.text place → line_index p.text place < p.first + p.height
@@ -113,9 +111,7 @@ cursor_in columns s index p at found is = grind (arith, nat_tests, stands_in)
 -- the cursor is in the frame
 pub cursor_within : (columns : ℕ) (s : Screen) (index : ℕ) (at : Position) → 0 < columns → cursor columns s index ≡ Some at
     → (at.row < length (frame_rows columns s)) × (at.column < columns)
-cursor_within columns s index at some is =
-    let within = λ (p : Pane). window_within (pane_rows columns) columns s index p (length-pane_rows columns) in
-    grind (arith, nat_tests, within)
+cursor_within columns s index at some is = grind (arith, window_within, length-pane_rows, nat_tests)
 
 pub echo_within : (columns : ℕ) (s : Screen) → 0 < columns → ((echo_cursor columns s).row + 1 ≡ length (frame_rows columns s)) × ((echo_cursor columns s).column < columns)
 echo_within columns s some = grind (arith, length-rows_by (pane_rows columns) columns s (length-pane_rows columns))
@@ -132,10 +128,7 @@ pub cursor_on_cell : (columns : ℕ) (s : Screen) (index : ℕ) (p : Pane) (at :
     → slice_get (row_cells columns (place_line p.text p.point)) (column_of p.text p.point) ≡ Some x
     → width_of (take (column_of p.text p.point) (row_cells columns (place_line p.text p.point))) < columns
     → ShowsAt (get_or (frame_rows columns s) at.row []) at.column x
-cursor_on_cell columns s index p at x found is cell inside =
-    let stands = cursor_in columns s index p at found is in
-    let shows = row_shows_cell columns (place_line p.text p.point) (column_of p.text p.point) x cell inside in
-    (shows.0, shows.1, shows.2 ∙ sym stands.column, cursor_row columns s index p at found stands ∙ shows.3)
+cursor_on_cell columns s index p at x found is cell inside = grind (arith, cursor_in, row_shows_cell, cursor_row)
 
 pub cursor_on_sign : (columns : ℕ) (s : Screen) (index : ℕ) (p : Pane) (at : Position) → slice_get s.panes index ≡ Some p → cursor columns s index ≡ Some at
     → columns < width_of (cells (place_line p.text p.point)) → length (row_cells columns (place_line p.text p.point)) ≤ column_of p.text p.point

@@ -20,9 +20,7 @@ pub record BeginsLine (text : List ℕ) (place : ℕ) : Type 0 where
   pub same : line_index text (place - column_of text place) ≡ line_index text place
 
 pub column_within : (text : List ℕ) (place : ℕ) → column_of text place ≤ place
-column_within text place =
-    let some = suffix_len-le-length (λ c. not (ends_line c)) (take place text) in
-    omega (arith, some, length-take place text, min-le_left place (length text))
+column_within text place = grind (arith, suffix_len-le-length, length-take, min-le_left)
 
 -- the line of a place ends at the first newline behind its begin
 ends_at : (text : List ℕ) (n : ℕ) → n < length text → ends_line (get_or text n 0) ≡ true → BeginsLine text n
@@ -77,16 +75,7 @@ next_place text n inside before = by_char (ends_line (get_or text n 0)) refl
             ap (λ j. ends_line (get_or text j 0)) is ∙ e
 
 pub line_begin : (text : List ℕ) (place : ℕ) → place ≤ length text → BeginsLine text place
-line_begin text zero within =
-    let start : 0 - column_of text 0 ≡ 0 = omega arith in
-    let some : nat_le 0 (length text) ≡ true = grind (arith, nat_tests) in
-    let whole : lines_on text 0 ≡ lines text = rw some refl in
-    record {
-      begins = ap (lines_on text) start ∙ whole;
-      clear = λ k _ before. absurd (omega (arith, before));
-      first = ap (column_of text) start;
-      same = ap (line_index text) start;
-    }
+line_begin text zero within = grind (arith, nat_tests)
 line_begin text (suc n) within =
     let one : n + 1 ≡ suc n = omega arith in
     subst (BeginsLine text) one (next_place text n (omega (arith, within)) (line_begin text n (omega (arith, within))))
@@ -100,10 +89,7 @@ first_left ls rest n l is =
 -- the line of a place, from its begin to its end
 pub line_is : (text : List ℕ) (place start end : ℕ) → place ≤ length text → start ≡ place - column_of text place
     → end ≡ start + position_or_len ends_line (drop start text) → take (end - start) (drop start text) ≡ place_line text place
-line_is text place start end within begin is =
-    let parts = next_line text start end (omega (arith, begin, within)) is in
-    let left : drop (line_index text place) (lines text) ≡ lines_on text start = sym ((line_begin text place within).begins) ∙ ap (lines_on text) (sym begin) in
-    sym (first_left (lines text) (lines_on text (end + 1)) (line_index text place) (take (end - start) (drop start text)) (left ∙ parts))
+line_is text place start end within begin is = grind (arith, next_line, line_begin, first_left)
 
 -- a place is not behind the end of its line
 pub place_in_line : (text : List ℕ) (place start end : ℕ) → place ≤ length text → start ≡ place - column_of text place
@@ -127,13 +113,7 @@ place_in_line text place start end within begin is = by_end (nat_le place end) r
 -- what stands before a place in its line is as long as its column
 pub column_in_line : (text : List ℕ) (place start end : ℕ) → place ≤ length text → start ≡ place - column_of text place
     → end ≡ start + position_or_len ends_line (drop start text) → end ≤ length text → column_of text place ≤ length (take (end - start) (drop start text))
-column_in_line text place start end within begin is inside =
-    let before = place_in_line text place start end within begin is in
-    let column = column_within text place in
-    let taken = length-take (end - start) (drop start text) in
-    let long = length-drop start text in
-    let all : length (take (end - start) (drop start text)) ≡ end - start = taken ∙ min-eq_left (omega (arith, long, inside)) in
-    omega (arith, all, before, begin, column)
+column_in_line text place start end within begin is inside = grind (arith, place_in_line, column_within, length-take, length-drop, min-eq_left)
 
 -- behind a place at which a line begins, where it is not the first, stands a newline that is the end of the line above
 pub line_above : (text : List ℕ) (begin : ℕ) → begin ≤ length text → column_of text begin ≡ 0 → 0 < line_index text begin

@@ -1,5 +1,5 @@
 -- The rows of the screen, one after another.
-use Rattle.std.proofs.Common.{◌≡◌, ℕ, ◌+◌, ◌<◌, ◌≤◌, List, [], ◌∷◌, ◌++◌, length, drop, take, map, arith, refl, sym, ◌∙◌, ap, ap₂, set, suc, zero, ◌-◌, append_assoc, encode_utf8_all, string_bytes, sum_by, chars, get_or, length-append, length-set, Option, Some, None, slice_get}
+use Rattle.std.proofs.Common.{◌≡◌, ℕ, ◌+◌, ◌<◌, ◌≤◌, List, [], ◌∷◌, ◌++◌, length, drop, take, map, arith, refl, sym, ◌∙◌, ap, ap₂, set, suc, zero, ◌-◌, append_assoc, encode_utf8_all, string_bytes, sum_by, chars, get_or, length-append, length-set, Some, slice_get}
 use Rattle.std.specs.List.{flat_map}
 use Rattle.std.proofs.lemmas.List.{map-append, take_more, length-map, flat_map_more, get_or_append_left, map-set, set-append_right}
 use Rattle.std.proofs.lemmas.List.Concat.{length-flat_map, get_or-flat_map}
@@ -8,9 +8,8 @@ use Rattle.std.proofs.lemmas.Option.{slice_get_within, get_or_from_slice_get}
 use Rattle.std.specs.declared.string.String.{String}
 use Rattle.std.specs.declared.alloc.Global.{Global}
 use Rattle.mg_screen.specs.Screen.{Pane, Screen}
-use Rattle.mg_screen.specs.Lines.{lines}
-use Rattle.mg_screen.specs.Rows.{cut_row, filled_row}
-use Rattle.mg_screen.specs.Frame.{first_row, text_rows, mode_text, pane_rows, rows_by, screen_rows}
+use Rattle.mg_screen.specs.Rows.{cut_row}
+use Rattle.mg_screen.specs.Frame.{first_row, text_rows, pane_rows, rows_by, screen_rows}
 use Rattle.mg_screen.specs.Cursor.{place_line, rows_above}
 use Rattle.mg_screen.specs.Sideways.{column_beyond, point_row, sideways_row, moved_rows, pane_rows_at_point}
 use Rattle.mg_screen.specs.Written.{utf8}
@@ -37,22 +36,13 @@ abbrev pub HasRows : (Pane → List (List ℕ)) → Type 0
 HasRows rows = (p : Pane) → length (rows p) ≡ p.height + 1
 
 pub length-pane_rows : (columns : ℕ) → HasRows (pane_rows columns)
-length-pane_rows columns p =
-    length-append (text_rows columns p.height (drop p.first (lines p.text))) (filled_row columns (chars (mode_text p)) ∷ [])
-    ∙ ap (λ n. n + 1) (length-text_rows columns p.height (drop p.first (lines p.text)))
+length-pane_rows columns p = grind (arith, length-append, length-text_rows)
 
 pub length-pane_rows_at_point : (columns : ℕ) → HasRows (pane_rows_at_point columns)
-length-pane_rows_at_point columns p = by_column (column_beyond columns p)
-  where
-    by_column : (o : Option ℕ) → length (moved_rows columns p o) ≡ p.height + 1
-    by_column None = length-pane_rows columns p
-    by_column (Some column) = length-set (pane_rows columns p) (point_row p) (sideways_row columns column (place_line p.text p.point)) ∙ length-pane_rows columns p
+length-pane_rows_at_point columns p = grind (arith, length-pane_rows, length-set)
 
 length-panes : (rows : Pane → List (List ℕ)) (ps : List Pane) → HasRows rows → length (flat_map rows ps) ≡ sum_by (λ p. p.height + 1) ps
-length-panes rows ps has =
-    let most = sum_by-le-sum_by (λ p. length (rows p)) (λ (p : Pane). p.height + 1) ps (λ p. omega (arith, has p)) in
-    let least = sum_by-le-sum_by (λ (p : Pane). p.height + 1) (λ p. length (rows p)) ps (λ p. omega (arith, has p)) in
-    omega (arith, most, least, length-flat_map rows ps)
+length-panes rows ps has = grind (arith, sum_by-le-sum_by, length-flat_map)
 
 -- a frame has these, and the echo line
 pub length-rows_by : (rows : Pane → List (List ℕ)) (columns : ℕ) (s : Screen) → HasRows rows → length (rows_by rows columns s) ≡ screen_rows s
@@ -90,9 +80,7 @@ row_at rows columns s index i p has is inside =
 -- it is one of those that were written
 pub row_inside : (old mid : List (String Global)) (columns above index : ℕ) (p : Pane) → map string_bytes mid ≡ map string_bytes old ++ utf8 (pane_rows columns p)
     → above ≡ length old → index ≡ above + point_row p → point_row p < p.height → index < length mid
-row_inside old mid columns above index p is begin at inside =
-    let all = ap length is ∙ length-append (map string_bytes old) (utf8 (pane_rows columns p)) in
-    omega (arith, all, length-map mid string_bytes, length-map old string_bytes, length-map (pane_rows columns p) encode_utf8_all, length-pane_rows columns p, begin, at, inside)
+row_inside old mid columns above index p is begin at inside = grind (arith, length-append, length-map, length-pane_rows)
 
 -- it was put in the place of the plain one
 pub rows_moved : (old mid new : List (String Global)) (columns above index column : ℕ) (p : Pane) (row line : List ℕ) → Some column ≡ column_beyond columns p

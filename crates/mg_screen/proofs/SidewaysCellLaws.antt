@@ -114,21 +114,11 @@ row_of_shows n (y ∷ front) rest x inside =
 -- the cells behind some columns, parted at a cell that is among them
 width_behind : (n : ℕ) (cs : List Cell) → width_of (cells_behind n cs) ≡ width_of cs - n
 width_behind n [] = omega arith
-width_behind n (x ∷ cs) = on x cs (width_behind (n - x.width) cs)
-  where
-    on : (x : Cell) (cs : List Cell) → width_of (cells_behind (n - x.width) cs) ≡ width_of cs - (n - x.width) → width_of (cells_behind n (x ∷ cs)) ≡ width_of (x ∷ cs) - n
-    on x cs rest = grind (arith, nat_tests)
+width_behind n (x ∷ cs) = grind (arith, nat_tests, width_behind (n - x.width) cs)
 
 behind_splits : (n : ℕ) (front rest : List Cell) (x : Cell) → 0 < x.width → n ≤ width_of front → cells_behind n (front ++ x ∷ rest) ≡ cells_behind n front ++ x ∷ rest
-behind_splits n [] rest x some within = first n rest x some within
-  where
-    first : (n : ℕ) (rest : List Cell) (x : Cell) → 0 < x.width → n ≤ 0 → cells_behind n (x ∷ rest) ≡ x ∷ rest
-    first n rest x some within = grind (arith, nat_tests)
-behind_splits n (y ∷ front) rest x some within = on y front (behind_splits (n - y.width) front rest x some) within
-  where
-    on : (y : Cell) (front : List Cell) → (n - y.width ≤ width_of front → cells_behind (n - y.width) (front ++ x ∷ rest) ≡ cells_behind (n - y.width) front ++ x ∷ rest)
-        → n ≤ width_of (y ∷ front) → cells_behind n (y ∷ (front ++ x ∷ rest)) ≡ cells_behind n (y ∷ front) ++ x ∷ rest
-    on y front parts within = grind (arith, nat_tests)
+behind_splits n [] rest x some within = grind (arith, nat_tests)
+behind_splits n (y ∷ front) rest x some within = grind (arith, nat_tests, behind_splits (n - y.width) front rest x some)
 
 plain_shows : (columns count k : ℕ) (line : List ℕ) (x : Cell) → slice_get (cells line) count ≡ Some x → column_before (row_end columns (cells line)) (width_before count line) ≡ Some k
     → ShowsAt (text_row columns line) k x

@@ -1,18 +1,17 @@
 -- The cursor at point and other places, in the frame in which each window shows point.
-use Rattle.std.proofs.Common.{◌≡◌, ℕ, suc, ◌+◌, ◌-◌, ◌/◌, ◌%◌, ◌≤◌, ◌<◌, List, [], ◌∷◌, ◌++◌, length, take, arith, refl, ap, subst, true, Option, Some, None, slice_get, chars, ◌∙◌, nat_eq}
+use Rattle.std.proofs.Common.{◌≡◌, ℕ, suc, ◌+◌, ◌-◌, ◌/◌, ◌≤◌, ◌<◌, List, [], ◌∷◌, ◌++◌, length, arith, refl, ap, subst, Some, None, slice_get, chars, ◌∙◌}
 use Rattle.std.specs.List.{All, flat_map}
 use Rattle.std.proofs.lemmas.Option.{slice_get_within, get_or_from_slice_get}
 use Rattle.std.proofs.lemmas.Bool.Decides.{nat_tests}
-use Rattle.std.proofs.Math.Nat.{mod-lt, mod-le, mod-eq-sub-mod}
 use Rattle.mg_screen.specs.declared.screen.Position.{Position}
 use Rattle.mg_screen.specs.Size.{least_columns}
 use Rattle.mg_screen.specs.Screen.{Pane, Screen}
 use Rattle.mg_screen.specs.Lines.{line_index, column_of}
-use Rattle.mg_screen.specs.Cells.{cells, width_of}
+use Rattle.mg_screen.specs.Cells.{cells}
 use Rattle.mg_screen.specs.Rows.{cut_row}
 use Rattle.mg_screen.specs.Frame.{pane_rows, frame_rows}
-use Rattle.mg_screen.specs.Cursor.{place_line, pane_cursor, rows_above, cursor, column_behind}
-use Rattle.mg_screen.specs.Sideways.{width_before, left_of, cells_right, column_beyond, point_row, moved_rows, pane_rows_at_point, rows_at_point, cursor_at_point, row_end, column_before, shown_column, beyond_with, place_shown, pane_cell, cell_of_place, IsNear}
+use Rattle.mg_screen.specs.Cursor.{place_line, rows_above, cursor, column_behind}
+use Rattle.mg_screen.specs.Sideways.{width_before, left_of, cells_right, column_beyond, point_row, moved_rows, pane_rows_at_point, rows_at_point, cursor_at_point, row_end, column_before, shown_column, place_shown, pane_cell, cell_of_place, IsNear}
 use Rattle.mg_screen.proofs.CellLaws.{is_longest}
 use Rattle.mg_screen.proofs.ScreenLaws.{length-pane_rows_at_point, window_within}
 use Rattle.mg_screen.proofs.CursorLaws.{width_of-take, cells_taken}
@@ -44,10 +43,7 @@ near_cursor columns index s near =
 
 pub middle_half : (columns column : ℕ) → least_columns ≤ columns → columns ≤ column + 1
     → (columns / 4 ≤ column - left_of columns column) × (column - left_of columns column + 1 < columns) × (left_of columns column < column)
-middle_half columns column wide beyond =
-    let half : columns / 2 ≤ column = omega (arith, wide, beyond) in
-    let some : 0 < columns / 2 = omega (arith, wide) in
-    grind (arith, mod-lt column some, mod-le (column - columns / 2) (columns / 2), mod-eq-sub-mod half)
+middle_half columns column wide beyond = grind arith
 
 -- what the column of point says where it is beyond
 pub record StandsBeyond (columns : ℕ) (p : Pane) (column : ℕ) : Type 0 where

@@ -15,11 +15,7 @@ row_whole n cs o is some = grind (arith, nat_tests, beginning_whole n cs)
 
 pub row_cut : (n less : ℕ) (cs : List Cell) (o : Option ℕ) (old mid new : List ℕ) → o ≡ width_if cs n → is_some o ≡ false → less ≡ n - 1
     → mid ≡ old ++ encode_utf8_all (shown_cells (cells_within less cs)) → new ≡ mid ++ encode_utf8 36 → new ≡ old ++ encode_utf8_all (row_of n cs)
-row_cut n less cs o old mid new is none one was cut =
-    let front : List ℕ = shown_cells (cells_within less cs) in
-    let part : row_of n cs ≡ shown_cells (cells_within less cs) ++ 36 ∷ [] = grind (arith, nat_tests) in
-    rw (part, encodes-append front (36 ∷ []), cut, was)
-    (append_assoc old (encode_utf8_all front) (encode_utf8 36) ∙ ap (λ t. old ++ (encode_utf8_all front ++ t)) (sym (append-nil (encode_utf8 36))))
+row_cut n less cs o old mid new is none one was cut = grind (arith, nat_tests, encodes-append, append_assoc, append-nil)
 
 -- the first cell of a row that has room for more
 pub row-cons : (n : ℕ) (x : Cell) (cs : List Cell) → x.width < n → row_of n (x ∷ cs) ≡ x.shown ++ row_of (n - x.width) cs
@@ -35,17 +31,10 @@ row_end_within columns cs = grind (arith, nat_tests, (is_longest (columns - 1) c
 pub row-rest : (n b column : ℕ) (line : List ℕ) → b < n → row_of n (rest_cells b column line) ≡ replicate b 32 ++ row_of (n - b) (cells_from column line)
 row-rest n b column line few = grind (arith, nat_tests, row-cons)
 
-pub end-rest : (n b column : ℕ) (line : List ℕ) → b < n → row_end n (rest_cells b column line) ≡ b + row_end (n - b) (cells_from column line)
-end-rest n b column line few = grind (arith, nat_tests, end-cons)
-
 -- a row with the sign and the blanks in front
 pub sideways_made : (r0 r1 r2 r3 : List ℕ) (n b column room : ℕ) (line : List ℕ) (cs : List Cell) → r0 ≡ [] → r1 ≡ r0 ++ encode_utf8 36 → r2 ≡ r1 ++ encode_utf8_all (replicate b 32)
     → r3 ≡ r2 ++ encode_utf8_all (row_of room (cells_from column line)) → rest_cells b column line ≡ cs → b < n → room ≡ n - b → r3 ≡ encode_utf8_all (36 ∷ row_of n cs)
-sideways_made r0 r1 r2 r3 n b column room line cs empty sign first more rest few is =
-    let end : List ℕ = row_of room (cells_from column line) in
-    let row : row_of n cs ≡ replicate b 32 ++ row_of room (cells_from column line) =
-    ap (row_of n) (sym rest) ∙ row-rest n b column line few ∙ ap (λ k. replicate b 32 ++ row_of k (cells_from column line)) (sym is) in
-    rw (more, first, sign, empty, row, encodes-append (replicate b 32) end) (append_assoc (encode_utf8 36) (encode_utf8_all (replicate b 32)) (encode_utf8_all end))
+sideways_made r0 r1 r2 r3 n b column room line cs empty sign first more rest few is = grind (arith, row-rest, encodes-append, append_assoc)
 
 -- cells of characters depend on their column by the tab stops alone
 pub cells_same : (a b : ℕ) (line : List ℕ) → a % tab_stop ≡ b % tab_stop → cells_from a line ≡ cells_from b line
@@ -59,23 +48,10 @@ cells_same a b (c ∷ cs) same =
 -- a cell that begins behind the columns is left whole
 pub whole_left : (line : List ℕ) (column skip : ℕ) → column ≡ skip → 0 < length line → skip - column < width_of (cells_from column (take 1 line))
     → cells_from (column % tab_stop) line ≡ cells_behind (skip - column) (cells_from column line)
-whole_left [] column skip is some to = absurd (omega (arith, some))
-whole_left (c ∷ cs) column skip is some to = cells_same (column % tab_stop) column (c ∷ cs) (mod-mod column tab_stop) ∙ left (cell_of column c) (cells_from (column + (cell_of column c).width) cs) to
-  where
-    left : (x : Cell) (xs : List Cell) → skip - column < x.width + 0 → x ∷ xs ≡ cells_behind (skip - column) (x ∷ xs)
-    left x xs to = grind (arith, nat_tests)
+whole_left zp1 column skip is some to = grind (arith, cells_same, mod-mod, nat_tests)
 
 -- a cell that begins within the columns is left as blanks
 pub part_left : (line : List ℕ) (column skip w d : ℕ) → column < skip → 0 < length line → skip - column < width_of (cells_from column (take 1 line))
     → d ≡ get_or line 0 d → w ≡ (cell_of column d).width
     → rest_cells (w - (skip - column)) (column % tab_stop + w) (take (length line - 1) (drop 1 line)) ≡ cells_behind (skip - column) (cells_from column line)
-part_left [] column skip w d from some to met is = absurd (omega (arith, some))
-part_left (c ∷ cs) column skip w d from some to met is =
-    let wide : w ≡ (cell_of column c).width = is ∙ ap (λ k. (cell_of column k).width) met in
-    let all : take (length (c ∷ cs) - 1) cs ≡ cs = take_all (length (c ∷ cs) - 1) cs (omega arith) in
-    ap (rest_cells (w - (skip - column)) (column % tab_stop + w)) all
-    ∙ left (cell_of column c) wide to (cells_same (column % tab_stop + w) (column + w) cs (mod-add-mod column tab_stop w))
-  where
-    left : (x : Cell) → w ≡ x.width → skip - column < x.width + 0 → cells_from (column % tab_stop + w) cs ≡ cells_from (column + w) cs
-        → rest_cells (w - (skip - column)) (column % tab_stop + w) cs ≡ cells_behind (skip - column) (x ∷ cells_from (column + x.width) cs)
-    left x wide to on = grind (arith, nat_tests)
+part_left zp1 column skip w d from some to met is = grind (arith, take_all, cells_same, mod-add-mod, nat_tests)

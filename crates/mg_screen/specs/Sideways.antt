@@ -1,5 +1,5 @@
 -- Rows that begin further right, so that they show point, and the cursors in them.
-use Rattle.std.specs.Prelude.{◌≡◌, ◌≤◌, ◌<◌, ℕ, ◌+◌, ◌-◌, ◌/◌, ◌%◌, Bool, zero, suc, List, [], ◌∷◌, ◌++◌, length, take, slice_set, replicate, Option, Some, None, chars, slice_get, if◌then◌else◌, nat_le, nat_lt, nat_eq, ◌&&◌, ◌||◌}
+use Rattle.std.specs.Prelude.{◌≡◌, ◌≤◌, ◌<◌, ℕ, ◌+◌, ◌-◌, ◌/◌, ◌%◌, Bool, List, [], ◌∷◌, length, take, slice_set, replicate, Option, Some, None, slice_get, if◌then◌else◌, nat_le, nat_lt, nat_eq, ◌&&◌, ◌||◌}
 use Rattle.std.specs.Option.{option_and_then}
 use Rattle.mg_screen.specs.declared.screen.Position.{Position}
 use Rattle.mg_screen.specs.Screen.{Pane, Screen}
