@@ -1,9 +1,9 @@
 -- Filling touches no word.
-use Rattle.std.proofs.Common.{Bool, List, None, Option, Some, [], ap, arith, false, filter, if◌then◌else◌, inl, inr, length, not, option_map, refl, reverse, subst, suc, sym, true, zero, ℕ, ◌++◌, ◌+◌, ◌-◌, ◌<◌, ◌∷◌, ◌≡◌, ◌≤◌, ◌⊎◌}
+use Rattle.std.proofs.Common.{Bool, List, None, Option, Some, [], ap, arith, false, filter, if◌then◌else◌, inl, length, not, option_map, refl, reverse, subst, suc, sym, true, zero, ℕ, ◌++◌, ◌+◌, ◌-◌, ◌<◌, ◌∷◌, ◌≡◌, ◌≤◌, ◌⊎◌}
 use Rattle.std.proofs.lemmas.List.{reverse-append}
 use Rattle.rga_ops.specs.Splice.{Splice}
 use Rattle.mg_plain.specs.Characters.{newline_character, space}
-use Rattle.mg_plain.specs.Gaps.{alters, columns, filling, fits, gaps, joint}
+use Rattle.mg_plain.specs.Gaps.{alters, columns, filling, gaps, joint}
 use Rattle.mg_plain.specs.Layout.{AreOfBlanks, IsOfBlanks}
 use Rattle.mg_plain.specs.Paragraphs.{begins_paragraph, ends_paragraph, is_nonblank, next_word, paragraph, word_at, words}
 use Rattle.mg_plain.specs.Scans.{least, least_from}
@@ -12,11 +12,7 @@ use Rattle.mg_plain.proofs.RangeLaws.{greatest_up_to-within, least_found, least_
 use Rattle.mg_plain.proofs.ScanLaws.{scan_on}
 
 of_joint : (column : ℕ) (used : Option ℕ) (w : Span) → (joint column used w ≡ []) ⊎ ((joint column used w ≡ space ∷ []) ⊎ (joint column used w ≡ newline_character ∷ []))
-of_joint column None w = inl refl
-of_joint column (Some used) w = elim (fits column used w) as (λ b. ((if b then space else newline_character) ∷ [] ≡ []) ⊎ (((if b then space else newline_character) ∷ [] ≡ space ∷ []) ⊎ ((if b then space else newline_character) ∷ [] ≡ newline_character ∷ []))) [
-  | true ↦ inr (inl refl)
-  | false ↦ inr (inr refl)
-]
+of_joint column used w = grind arith
 
 gaps_of_blanks : (column : ℕ) (text : List ℕ) (hi left at : ℕ) (used : Option ℕ) → at ≤ hi → hi ≤ length text → length text ≤ left + at → AreOfBlanks text (gaps column used at hi (span_chain (next_word text hi) left at))
 gaps_of_blanks column text hi zero at used up within enough = (record { gone = λ k lo below. absurd (omega (arith, lo, below, within, enough)); put = inl refl }, tt)
@@ -32,11 +28,12 @@ gaps_of_blanks column text hi (suc left) at used up within enough =
           (record { gone = λ k lo hi. found.least k lo hi; put = of_joint column used w }, gaps_of_blanks column text hi left w.hi (Some (columns column used w)) (omega (arith, one, ends.1)) within (omega (arith, one, ends.0, enough, found.from)))
     ] refl
 
+filtered_on : (text : List ℕ) (p : Splice → Bool) (c : Splice) (cs : List Splice) → AreOfBlanks text (filter p cs) → IsOfBlanks text c → AreOfBlanks text (filter p (c ∷ cs))
+filtered_on text p c cs rest here = grind arith
+
 filtered : (text : List ℕ) (p : Splice → Bool) (cs : List Splice) → AreOfBlanks text cs → AreOfBlanks text (filter p cs)
 filtered text p [] a = tt
-filtered text p (c ∷ cs) a =
-    let rest = filtered text p cs a.1 in
-    elim (p c) as (λ b. AreOfBlanks text (if b then c ∷ filter p cs else filter p cs)) [ true ↦ (a.0, rest) | false ↦ rest ]
+filtered text p (c ∷ cs) a = filtered_on text p c cs (filtered text p cs a.1) a.0
 
 one_more : (text : List ℕ) (cs : List Splice) (c : Splice) → AreOfBlanks text cs → IsOfBlanks text c → AreOfBlanks text (cs ++ c ∷ [])
 one_more text [] c a h = (h, tt)

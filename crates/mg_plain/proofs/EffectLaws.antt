@@ -1,10 +1,11 @@
 -- What each command does stays within the text.
-use Rattle.std.proofs.Common.{Bool, List, None, Option, Some, [], ap, arith, drop, false, filter, if◌then◌else◌, inl, inr, length, map, max, min, nat_eq, option_map, refl, replicate, subst, suc, sym, take, true, zero, ℕ, ◌&&◌, ◌++◌, ◌+◌, ◌-◌, ◌<◌, ◌∙◌, ◌∷◌, ◌≡◌, ◌≤◌}
+use Rattle.std.proofs.Common.{Bool, List, None, Option, Some, [], arith, drop, false, filter, if◌then◌else◌, length, map, max, min, nat_eq, option_map, refl, replicate, subst, suc, take, true, zero, ℕ, ◌&&◌, ◌++◌, ◌+◌, ◌-◌, ◌<◌, ◌∙◌, ◌∷◌, ◌≡◌, ◌≤◌}
 use Rattle.std.specs.Prelude.{Err, Ok, Result, nat_le, nat_lt}
 use Rattle.std.specs.List.{slice_index, slice_range}
 use Rattle.std.specs.Option.{ForSome, ok_or}
-use Rattle.std.proofs.lemmas.Bool.{and_parts, cases_Bool, eqb-false, eqb-true, leb-true, ltb-true}
+use Rattle.std.proofs.lemmas.Bool.{and_parts, eqb-false, leb-true, ltb-true}
 use Rattle.std.proofs.lemmas.Option.{none-some, same_Some}
+use Rattle.std.proofs.lemmas.Bool.Decides.{nat_tests}
 use Rattle.rga_ops.specs.Splice.{Splice, text_after}
 use Rattle.mg_plain.specs.declared.cases.Casing.{Casing}
 use Rattle.mg_plain.specs.declared.cases.Casing.TheVariants.{Capital, Lower, Upper}
@@ -24,8 +25,7 @@ use Rattle.mg_plain.specs.Splices.{splice}
 use Rattle.mg_plain.specs.Gaps.{alters, columns, filling, gaps}
 use Rattle.mg_plain.specs.Insertions.{indentation, insert, insertion_effect, newline_and_indent, open_line, typing, yank}
 use Rattle.mg_plain.specs.Kills.{deletion_effect, kill_after, kill_effect, kill_region, kill_so_far, kill_up_to}
-use Rattle.mg_plain.specs.Lines.{at_goal}
-use Rattle.mg_plain.specs.LineEnds.{begins_line, line_begin, line_end}
+use Rattle.mg_plain.specs.LineEnds.{at_goal, begins_line, line_begin, line_end}
 use Rattle.mg_plain.specs.Matches.{first_match, last_match, match_at, matches, next_match, stands_at}
 use Rattle.mg_plain.specs.Motions.{by_lines, by_words, end_notice, goal_of, scroll, to_line, vertical_motion}
 use Rattle.mg_plain.specs.Paragraphs.{begins_paragraph, ends_paragraph, has_nonblank, next_word, paragraph, words}
@@ -33,7 +33,7 @@ use Rattle.mg_plain.specs.Replacement.{all_matches, current_match, last_end, rep
 use Rattle.mg_plain.specs.Situation.{IsView, Situation}
 use Rattle.mg_plain.specs.Spans.{AreRisingSpans, Span}
 use Rattle.mg_plain.specs.Steps.{step, steps, steps_up_to}
-use Rattle.mg_plain.specs.Words.{begins_word, ends_word, word_begin, word_end}
+use Rattle.mg_plain.specs.Words.{begins_word, ends_word, word_end}
 use Rattle.mg_plain.proofs.FallingLaws.{AreFalling, IsInside, RiseBetween, edit-within, falls, filter-rising, last_end-within, length_made, motion-within, one_splice-falling, place_after-within, raise, replacement-rising, reverse-falling, weaken}
 use Rattle.mg_plain.proofs.MatchLaws.{last_is, stands_within}
 use Rattle.mg_plain.proofs.RangeLaws.{FindsWithin, span_chain-rising, greatest_up_to-within, least_found, least_from-within}
@@ -52,12 +52,10 @@ by_ok : (s : Situation) (x e : Effect) → IsInside s x → ◌≡◌ {A = Resul
 by_ok s x e w h = subst (IsInside s) (ok_is h) w
 
 by_if : (s : Situation) (t : Bool) (x : Effect) (n : Notice) (e : Effect) → (t ≡ true → IsInside s x) → ◌≡◌ {A = Result Effect Notice} (if t then Ok x else Err n) (Ok e) → IsInside s e
-by_if s true x n e w h = by_ok s x e (w refl) h
-by_if s false x n e w h = absurd (err_ok h)
+by_if s t x n e w h = grind arith
 
 by_find : (s : Situation) (o : Option ℕ) (f : ℕ → Effect) (n : Notice) (e : Effect) → ((q : ℕ) → o ≡ Some q → IsInside s (f q)) → ok_or (option_map f o) n ≡ Ok e → IsInside s e
-by_find s None f n e w h = absurd (err_ok h)
-by_find s (Some q) f n e w h = by_ok s (f q) e (w q refl) h
+by_find s o f n e w h = grind arith
 
 unless : (s : Situation) (t : Bool) (n : Notice) (r : Result Effect Notice) (e : Effect) → (r ≡ Ok e → t ≡ false → IsInside s e) → ◌≡◌ {A = Result Effect Notice} (if t then Err n else r) (Ok e) → IsInside s e
 unless s true n r e w h = absurd (err_ok h)
@@ -75,42 +73,10 @@ word_end-within : (text : List ℕ) (q : ℕ) → q < length text → (q + 1 ≤
 word_end-within text q up = least_from-within (ends_word text) (q + 1) (length text) (omega (arith, up))
 
 lines-within : (direction : Direction) (text : List ℕ) → StaysWithin (step Line direction text) (length text)
-lines-within Forward text = λ q m up h. elim (cases_Bool (nat_lt (line_end text q) (length text))) [
-  | inl more ↦
-      let e : ◌≡◌ {A = Option ℕ} (Some (line_end text q + 1)) (Some m) = sym (ap (λ b. if b then Some (line_end text q + 1) else None) more) ∙ h in
-      let f : line_end text q + 1 ≡ m = same_Some _ _ e in
-      let l : line_end text q < length text = ltb-true (line_end text q) (length text) more in
-      omega (arith, f, l)
-  | inr last ↦ absurd (none-some _ (sym (ap (λ b. if b then Some (line_end text q + 1) else None) last) ∙ h))
-]
-lines-within Backward text = λ q m up h. elim (cases_Bool (nat_eq q 0)) [
-  | inl first ↦ absurd (none-some _ (sym (ap (λ b. if b then None else Some (line_begin text (q - 1))) first) ∙ h))
-  | inr later ↦
-      let e : ◌≡◌ {A = Option ℕ} (Some (line_begin text (q - 1))) (Some m) = sym (ap (λ b. if b then None else Some (line_begin text (q - 1))) later) ∙ h in
-      let f : line_begin text (q - 1) ≡ m = same_Some _ _ e in
-      let l : line_begin text (q - 1) ≤ q - 1 = greatest_up_to-within (begins_line text) (q - 1) in
-      omega (arith, f, l, up)
-]
+lines-within direction text = λ q m up h. grind (arith, nat_tests, greatest_up_to-within (begins_line text) (q - 1))
 
 words-within : (direction : Direction) (text : List ℕ) → StaysWithin (step Word direction text) (length text)
-words-within Forward text = λ q m up h. elim (cases_Bool (nat_eq q (length text))) [
-  | inl last ↦ absurd (none-some _ (sym (ap (λ b. if b then None else Some (word_end text q)) last) ∙ h))
-  | inr more ↦
-      let e : ◌≡◌ {A = Option ℕ} (Some (word_end text q)) (Some m) = sym (ap (λ b. if b then None else Some (word_end text q)) more) ∙ h in
-      let f : word_end text q ≡ m = same_Some _ _ e in
-      let n : q ≡ length text → ⊥ = eqb-false q (length text) more in
-      let k : q + 1 ≤ length text = below q (length text) up n in
-      let l = word_end-within text q (omega (arith, k)) in
-      omega (arith, f, l.1)
-]
-words-within Backward text = λ q m up h. elim (cases_Bool (nat_eq q 0)) [
-  | inl first ↦ absurd (none-some _ (sym (ap (λ b. if b then None else Some (word_begin text q)) first) ∙ h))
-  | inr later ↦
-      let e : ◌≡◌ {A = Option ℕ} (Some (word_begin text q)) (Some m) = sym (ap (λ b. if b then None else Some (word_begin text q)) later) ∙ h in
-      let f : word_begin text q ≡ m = same_Some _ _ e in
-      let l : word_begin text q ≤ q - 1 = greatest_up_to-within (begins_word text) (q - 1) in
-      omega (arith, f, l, up)
-]
+words-within direction text = λ q m up h. grind (arith, nat_tests, least_from-within (ends_word text) (q + 1) (length text), greatest_up_to-within (begins_word text) (q - 1))
 
 -- ---- motions
 
@@ -148,16 +114,7 @@ insertion_effect-within : (s : Situation) (put : List ℕ) → IsView s → IsIn
 insertion_effect-within s put seen = edit-within s (one_splice s.point s.point put) seen (one_splice-falling s.point s.point (length s.text) put (omega arith) seen.point)
 
 typing_point : (text put : List ℕ) (p : ℕ) → p ≤ length text → p + length put ≤ length (text_after text (one_splice p p put))
-typing_point text put p up = elim (cases_Bool (nat_eq p p && nat_eq (length put) 0)) [
-  | inl nothing ↦
-      let e : length (text_after text (one_splice p p put)) ≡ length text = ap (λ b. length (text_after text (if b then [] else splice p p put ∷ []))) nothing in
-      let z : length put ≡ 0 = eqb-true (length put) 0 (and_parts (nat_eq p p) (nat_eq (length put) 0) nothing).1 in
-      omega (arith, e, z, up)
-  | inr something ↦
-      let e : length (text_after text (one_splice p p put)) ≡ length (take p text ++ put ++ drop p text) = ap (λ b. length (text_after text (if b then [] else splice p p put ∷ []))) something in
-      let l = length_made text (splice p p put) (omega arith) up in
-      omega (arith, e, l)
-]
+typing_point text put p up = grind (arith, nat_tests, length_made text (splice p p put))
 
 typing-within : (s : Situation) (put : List ℕ) → IsView s → IsInside s (typing s put)
 typing-within s put seen =
@@ -192,14 +149,12 @@ region s f e seen w h = marked s.mark seen.mark h
 
 -- ---- case
 
+recased_on : (new : ℕ → ℕ → ℕ) (text : List ℕ) (lo count bound : ℕ) → lo + suc count ≤ bound → ((b : ℕ) → lo + count ≤ b → AreFalling b (character_splices new text lo count)) → AreFalling bound (character_splices new text lo (suc count))
+recased_on new text lo count bound up rest = grind (arith, nat_tests)
+
 recased : (new : ℕ → ℕ → ℕ) (text : List ℕ) (lo count bound : ℕ) → lo + count ≤ bound → AreFalling bound (character_splices new text lo count)
 recased new text lo zero bound up = tt
-recased new text lo (suc count) bound up =
-    let rest = recased new text lo count in
-    elim (nat_eq (new (lo + count) (slice_index text (lo + count))) (slice_index text (lo + count))) as (λ b. AreFalling bound (if b then character_splices new text lo count else splice (lo + count) (lo + count + 1) (new (lo + count) (slice_index text (lo + count)) ∷ []) ∷ character_splices new text lo count)) [
-      | true ↦ rest bound (omega (arith, up))
-      | false ↦ (omega arith, omega (arith, up), rest (lo + count) (omega arith))
-    ]
+recased new text lo (suc count) bound up = recased_on new text lo count bound up (recased new text lo count)
 
 recased_length : (new : ℕ → ℕ → ℕ) (text old : List ℕ) (lo count : ℕ) → lo + count ≤ length old → length (text_after old (character_splices new text lo count)) ≡ length old
 recased_length new text old lo zero up = refl
@@ -359,30 +314,18 @@ abbrev Takes : Situation → Effect → Type 0
 Takes s e = kill_after s.last s.kill e.kind e.kill ≡ kill_so_far s.last s.kill Killing ++ removed_characters s.text e.splices
 
 kill-takes : (s : Situation) (lo hi : ℕ) → Takes s (kill_effect s lo hi)
-kill-takes s lo hi = elim (nat_eq lo hi && nat_eq (length {A = ℕ} []) 0) as (λ b. (nat_eq lo hi && nat_eq (length {A = ℕ} []) 0) ≡ b → (kill_so_far s.last s.kill Killing ++ slice_range s.text lo hi) ≡ (kill_so_far s.last s.kill Killing ++ removed_characters s.text (if b then [] else splice lo hi [] ∷ []))) [
-  | true ↦ λ h.
-      let same : lo ≡ hi = eqb-true lo hi (and_parts (nat_eq lo hi) true h).0 in
-      let none : hi - lo ≡ 0 = omega (arith, same) in
-      ap (λ k. kill_so_far s.last s.kill Killing ++ take k (drop lo s.text)) none
-  | false ↦ λ h. refl
-] refl
+kill-takes s lo hi = grind (arith, nat_tests)
 
 pub kill_up_to-takes : (s : Situation) (hi : ℕ) (e : Effect) → kill_up_to s hi ≡ Ok e → Takes s e
-kill_up_to-takes s hi e h = elim (nat_lt s.point (length s.text)) as (λ b. ◌≡◌ {A = Result Effect Notice} (if b then Ok (kill_effect s s.point hi) else Err EndOfBuffer) (Ok e) → Takes s e) [
-  | true ↦ λ g. subst (Takes s) (ok_is g) (kill-takes s s.point hi)
-  | false ↦ λ g. absurd (err_ok g)
-] h
+kill_up_to-takes s hi e h = let same : kill_effect s s.point hi ≡ e = grind arith in subst (Takes s) same (kill-takes s s.point hi)
 
 pub kill_region-takes : (s : Situation) (e : Effect) → kill_region s ≡ Ok e → Takes s e
-kill_region-takes s e h = elim s.mark as (λ o. ◌≡◌ {A = Result Effect Notice} (elim o [ None ↦ Err NoMark | Some m ↦ Ok (kill_effect s (min s.point m) (max s.point m)) ]) (Ok e) → Takes s e) [
-  | None ↦ λ g. absurd (err_ok g)
-  | Some m ↦ λ g. subst (Takes s) (ok_is g) (kill-takes s (min s.point m) (max s.point m))
-] h
+kill_region-takes s e h = marked s.mark h
+  where
+    marked : (o : Option ℕ) → ◌≡◌ {A = Result Effect Notice} (elim o [ None ↦ Err NoMark | Some m ↦ Ok (kill_effect s (min s.point m) (max s.point m)) ]) (Ok e) → Takes s e
+    marked None g = absurd (err_ok g)
+    marked (Some m) g = subst (Takes s) (ok_is g) (kill-takes s (min s.point m) (max s.point m))
 
 pub recasing-keeps : (casing : Casing) (s : Situation) (e : Effect) → IsView s → recasing casing s ≡ Ok e → length (text_after s.text e.splices) ≡ length s.text
-recasing-keeps casing s e seen h = elim (nat_lt s.point (length s.text)) as (λ b. nat_lt s.point (length s.text) ≡ b → ◌≡◌ {A = Result Effect Notice} (if b then Ok (recasing_up_to casing s (word_end s.text s.point)) else Err EndOfBuffer) (Ok e) → length (text_after s.text e.splices) ≡ length s.text) [
-  | true ↦ λ t g.
-      let ends = word_end-within s.text s.point (ltb-true s.point (length s.text) t) in
-      subst (λ (x : Effect). length (text_after s.text x.splices) ≡ length s.text) (ok_is g) (recased_length (recased_char casing (first_word_character s.text s.point)) s.text s.text s.point (word_end s.text s.point - s.point) (omega (arith, ends.0, ends.1)))
-  | false ↦ λ t g. absurd (err_ok g)
-] refl h
+recasing-keeps casing s e seen h =
+    grind (arith, nat_tests, word_end-within s.text s.point, recased_length (recased_char casing (first_word_character s.text s.point)) s.text s.text s.point (word_end s.text s.point - s.point))

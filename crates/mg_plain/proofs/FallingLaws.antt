@@ -1,13 +1,11 @@
 -- Splices that fall, and places carried over them.
-use Rattle.std.proofs.Common.{Bool, List, None, Option, Some, [], ap, arith, drop, false, filter, if◌then◌else◌, inl, inr, length, length-append, length-drop, length-take-le, map, nat_eq, option_map, refl, reverse, subst, sym, take, true, ℕ, ◌&&◌, ◌++◌, ◌+◌, ◌-◌, ◌∙◌, ◌∷◌, ◌≡◌, ◌≤◌}
-use Rattle.std.specs.Prelude.{nat_le}
+use Rattle.std.proofs.Common.{Bool, List, Some, [], arith, drop, false, filter, if◌then◌else◌, length, length-append, length-drop, length-take-le, map, option_map, refl, reverse, subst, sym, take, true, ℕ, ◌&&◌, ◌++◌, ◌+◌, ◌-◌, ◌∷◌, ◌≡◌, ◌≤◌}
 use Rattle.std.specs.Option.{ForSome}
-use Rattle.std.proofs.lemmas.Bool.{cases_Bool, le-leb, leb-true}
+use Rattle.std.proofs.lemmas.Bool.{le-leb}
 use Rattle.std.proofs.lemmas.List.{reverse-append}
-use Rattle.std.proofs.lemmas.Option.{none-some, same_Some}
+use Rattle.std.proofs.lemmas.Bool.Decides.{nat_tests}
 use Rattle.rga_ops.specs.Splice.{Splice, are_falling, text_after}
 use Rattle.mg_plain.specs.Effect.{Effect, carried_place, edit_effect, motion, one_splice, place_after}
-use Rattle.mg_plain.specs.Splices.{splice}
 use Rattle.mg_plain.specs.Replacement.{last_end, replacement}
 use Rattle.mg_plain.specs.Situation.{IsView, Situation}
 use Rattle.mg_plain.specs.Spans.{AreRisingSpans, Span}
@@ -33,31 +31,11 @@ weaken a b (c ∷ cs) up f = (f.0, omega (arith, up, f.1), f.2)
 
 pub length_made : (text : List ℕ) (c : Splice) → c.lo ≤ c.hi → c.hi ≤ length text → length (take c.lo text ++ c.put ++ drop c.hi text) ≡ c.lo + length c.put + (length text - c.hi)
 length_made text c up within =
-    let front : length (take c.lo text) ≡ c.lo = length-take-le c.lo text (omega (arith, up, within)) in
-    let whole = length-append (take c.lo text ++ c.put) (drop c.hi text) in
-    let begin = length-append (take c.lo text) c.put in
-    let rest = length-drop c.hi text in
-    omega (arith, front, whole, begin, rest)
+    grind (arith, length-take-le c.lo text, length-append (take c.lo text ++ c.put) (drop c.hi text), length-append (take c.lo text) c.put, length-drop c.hi text)
 
 -- a place of the text goes to a place of the new one
 carried_place-within : (c : Splice) (q n : ℕ) → c.lo ≤ c.hi → c.hi ≤ n → q ≤ n → carried_place c q ≤ c.lo + length c.put + (n - c.hi)
-carried_place-within c q n up within place = elim (cases_Bool (nat_le q c.lo)) [
-  | inl low ↦
-      let e : carried_place c q ≡ q = ap (λ b. if b then q else if nat_le c.hi q then q - (c.hi - c.lo) + length c.put else c.lo + length c.put) low in
-      let l : q ≤ c.lo = leb-true q c.lo low in
-      omega (arith, e, l)
-  | inr high ↦
-      let e : carried_place c q ≡ (if nat_le c.hi q then q - (c.hi - c.lo) + length c.put else c.lo + length c.put) = ap (λ b. if b then q else if nat_le c.hi q then q - (c.hi - c.lo) + length c.put else c.lo + length c.put) high in
-      elim (cases_Bool (nat_le c.hi q)) [
-        | inl behind ↦
-            let f : carried_place c q ≡ q - (c.hi - c.lo) + length c.put = e ∙ ap (λ b. if b then q - (c.hi - c.lo) + length c.put else c.lo + length c.put) behind in
-            let l : c.hi ≤ q = leb-true c.hi q behind in
-            omega (arith, f, l, up, within, place)
-        | inr inside ↦
-            let f : carried_place c q ≡ c.lo + length c.put = e ∙ ap (λ b. if b then q - (c.hi - c.lo) + length c.put else c.lo + length c.put) inside in
-            omega (arith, f)
-      ]
-]
+carried_place-within c q n up within place = grind (arith, nat_tests)
 
 pub place_after-within : (text : List ℕ) (cs : List Splice) (q : ℕ) → AreFalling (length text) cs → q ≤ length text → place_after cs q ≤ length (text_after text cs)
 place_after-within text [] q f place = place
@@ -72,21 +50,17 @@ pub edit-within : (s : Situation) (cs : List Splice) → IsView s → AreFalling
 edit-within s cs seen f = record {
   falling = f;
   point = place_after-within s.text cs s.point f seen.point;
-  mark = λ m h. carried_mark s.mark m h seen.mark;
+  mark = λ m h. carried_mark m h (λ k here. place_after-within s.text cs k f (seen.mark k here));
 }
   where
-    carried_mark : (o : Option ℕ) (m : ℕ) → option_map (place_after cs) o ≡ Some m → ForSome o (λ k. k ≤ length s.text) → m ≤ length (text_after s.text cs)
-    carried_mark None m h seen = absurd (none-some _ h)
-    carried_mark (Some k) m h seen =
-        let e : place_after cs k ≡ m = same_Some _ _ h in
-        let w = place_after-within s.text cs k f (seen k refl) in
-        omega (arith, e, w)
+    carried_mark : (m : ℕ) → option_map (place_after cs) s.mark ≡ Some m → ((k : ℕ) → s.mark ≡ Some k → place_after cs k ≤ length (text_after s.text cs)) → m ≤ length (text_after s.text cs)
+    carried_mark m h within = grind arith
 
 pub motion-within : (s : Situation) (q : ℕ) → IsView s → q ≤ length s.text → IsInside s (motion s q)
 motion-within s q seen place = record { falling = tt; point = place; mark = seen.mark }
 
 pub one_splice-falling : (lo hi n : ℕ) (put : List ℕ) → lo ≤ hi → hi ≤ n → AreFalling n (one_splice lo hi put)
-one_splice-falling lo hi n put up within = elim (nat_eq lo hi && nat_eq (length put) 0) as (λ b. AreFalling n (if b then [] else splice lo hi put ∷ [])) [ true ↦ tt | false ↦ (up, within, tt) ]
+one_splice-falling lo hi n put up within = grind arith
 
 -- splices that rise from one place to another, and their reverse
 abbrev pub RiseBetween : ℕ → ℕ → List Splice → Type 0

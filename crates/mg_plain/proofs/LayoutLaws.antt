@@ -1,8 +1,9 @@
 -- Filling makes the layout.
 use Rattle.std.proofs.Common.{List, None, Some, [], ap, arith, drop, false, if◌then◌else◌, inl, inr, length, length-take-le, map, refl, replicate, subst, suc, sum, sym, take, true, zero, ℕ, ◌++◌, ◌+◌, ◌-◌, ◌<◌, ◌∙◌, ◌∷◌, ◌≡◌, ◌≤◌, ◌⊎◌}
 use Rattle.std.specs.Prelude.{nat_le}
-use Rattle.std.proofs.lemmas.Bool.{le-leb, leb-false, leb-true, lt-leb}
+use Rattle.std.proofs.lemmas.Bool.{leb-false, leb-true}
 use Rattle.std.proofs.lemmas.List.Sums.{sum_by-cons}
+use Rattle.std.proofs.lemmas.Bool.Decides.{nat_tests}
 use Rattle.mg_plain.specs.Characters.{newline_character, space}
 use Rattle.mg_plain.specs.Splices.{splice}
 use Rattle.mg_plain.specs.Gaps.{gaps}
@@ -19,10 +20,10 @@ pub record IsRest (column used : ℕ) (ls : List ℕ) (r : ℕ) : Type 0 where
   pub full : r < length ls → column < used + (r + 1) + sum (take (suc r) ls)
 
 first_fits : (column used : ℕ) (w : Span) (at end : ℕ) (ws : List Span) → used + 1 + word_length w ≤ column → gaps column (Some used) at end (w ∷ ws) ≡ splice at w.lo (space ∷ []) ∷ gaps column (Some (used + 1 + word_length w)) w.hi end ws
-first_fits column used w at end ws h = ap (λ b. splice at w.lo ((if b then space else newline_character) ∷ []) ∷ gaps column (Some (if b then used + 1 + (w.hi - w.lo) else w.hi - w.lo)) w.hi end ws) (le-leb (used + 1 + (w.hi - w.lo)) column h)
+first_fits column used w at end ws h = grind (arith, nat_tests)
 
 first_does_not : (column used : ℕ) (w : Span) (at end : ℕ) (ws : List Span) → column < used + 1 + word_length w → gaps column (Some used) at end (w ∷ ws) ≡ splice at w.lo (newline_character ∷ []) ∷ gaps column (Some (word_length w)) w.hi end ws
-first_does_not column used w at end ws h = ap (λ b. splice at w.lo ((if b then space else newline_character) ∷ []) ∷ gaps column (Some (if b then used + 1 + (w.hi - w.lo) else w.hi - w.lo)) w.hi end ws) (lt-leb (used + 1 + (w.hi - w.lo)) column h)
+first_does_not column used w at end ws h = grind (arith, nat_tests)
 
 take_sum : (r l : ℕ) (ls : List ℕ) → sum (take (suc r) (l ∷ ls)) ≡ l + sum (take r ls)
 take_sum r l ls = sum_by-cons (λ x. x) l (take r ls)

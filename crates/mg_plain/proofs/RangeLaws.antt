@@ -1,46 +1,22 @@
 -- What lies within what: scans, chains.
-use Rattle.std.proofs.Common.{Bool, None, Option, Some, [], ap, arith, false, if◌then◌else◌, inl, inr, refl, suc, sym, true, zero, ℕ, ◌+◌, ◌-◌, ◌<◌, ◌∙◌, ◌∷◌, ◌≡◌, ◌≤◌, ◌⊎◌}
+use Rattle.std.proofs.Common.{Bool, None, Option, Some, [], ap, arith, false, inl, inr, refl, suc, true, zero, ℕ, ◌+◌, ◌-◌, ◌<◌, ◌∷◌, ◌≡◌, ◌≤◌, ◌⊎◌}
 use Rattle.std.specs.Option.{unwrap_or}
-use Rattle.std.proofs.lemmas.Bool.{cases_Bool, cases_lt}
-use Rattle.std.proofs.lemmas.Option.{none-some, same_Some}
 use Rattle.mg_plain.specs.Scans.{IsGreatest, IsLeast, greatest_passing, greatest_up_to, least, least_from}
 use Rattle.mg_plain.specs.Spans.{AreRisingSpans, Span, span_chain}
 
+least_on : (p : ℕ → Bool) (n count q : ℕ) → least p n (suc count) ≡ Some q → (least p (n + 1) count ≡ Some q → IsLeast p (n + 1) (n + 1 + count) q) → IsLeast p n (n + suc count) q
+least_on p n count q h rest = grind arith
+
 pub least_found : (p : ℕ → Bool) (n count q : ℕ) → least p n count ≡ Some q → IsLeast p n (n + count) q
-least_found p n zero q h = absurd (none-some _ h)
-least_found p n (suc count) q h = elim (cases_Bool (p n)) [
-  | inl here ↦
-      let e : ◌≡◌ {A = Option ℕ} (Some n) (Some q) = sym (ap (λ b. if b then Some n else least p (n + 1) count) here) ∙ h in
-      let same : n ≡ q = same_Some _ _ e in
-      record { from = omega (arith, same); below = omega (arith, same); passes = ap p (sym same) ∙ here; least = λ k lo hi. absurd (omega (arith, lo, hi, same)) }
-  | inr not_here ↦
-      let later : least p (n + 1) count ≡ Some q = sym (ap (λ b. if b then Some n else least p (n + 1) count) not_here) ∙ h in
-      let rest = least_found p (n + 1) count q later in
-      record {
-        from = omega (arith, rest.from);
-        below = omega (arith, rest.below);
-        passes = rest.passes;
-        least = λ k lo hi. elim (at_or_past k n lo) [
-          | inl at ↦ ap p at ∙ not_here
-          | inr past ↦ rest.least k past hi
-        ];
-      }
-]
-  where
-    at_or_past : (k n : ℕ) → n ≤ k → (k ≡ n) ⊎ (n + 1 ≤ k)
-    at_or_past k n lo = elim (cases_lt n k) [ inl below ↦ inr (omega (arith, below)) | inr above ↦ inl (omega (arith, lo, above)) ]
+least_found p n zero q h = absurd cc
+least_found p n (suc count) q h = least_on p n count q h (least_found p (n + 1) count q)
+
+none_on : (p : ℕ → Bool) (n count k : ℕ) → least p n (suc count) ≡ None → n ≤ k → k < n + suc count → (least p (n + 1) count ≡ None → n + 1 ≤ k → k < n + 1 + count → p k ≡ false) → p k ≡ false
+none_on p n count k h lo hi rest = grind arith
 
 pub none_found : (p : ℕ → Bool) (n count : ℕ) → least p n count ≡ None → (k : ℕ) → n ≤ k → k < n + count → p k ≡ false
 none_found p n zero h k lo hi = absurd (omega (arith, lo, hi))
-none_found p n (suc count) h k lo hi = elim (cases_Bool (p n)) [
-  | inl here ↦ absurd (none-some _ (sym h ∙ (ap (λ b. if b then Some n else least p (n + 1) count) here)))
-  | inr not_here ↦
-      let later : least p (n + 1) count ≡ None = sym (ap (λ b. if b then Some n else least p (n + 1) count) not_here) ∙ h in
-      elim (cases_lt n k) [
-        | inl below ↦ none_found p (n + 1) count later k (omega (arith, below)) (omega (arith, hi))
-        | inr above ↦ let at : k ≡ n = omega (arith, lo, above) in ap p at ∙ not_here
-      ]
-]
+none_found p n (suc count) h k lo hi = none_on p n count k h lo hi (λ g. none_found p (n + 1) count g k)
 
 -- a scan stays between its begin and its bound
 pub least_from-within : (p : ℕ → Bool) (n bound : ℕ) → n ≤ bound → (n ≤ least_from p n bound) × (least_from p n bound ≤ bound)
@@ -49,25 +25,12 @@ least_from-within p n bound up = elim (least p n (bound - n)) as (λ o. least p 
   | Some q ↦ λ h. let found = least_found p n (bound - n) q h in (found.from, omega (arith, found.below, up))
 ] refl
 
+greatest_on : (p : ℕ → Bool) (n q : ℕ) → greatest_passing p (suc n) ≡ Some q → (greatest_passing p n ≡ Some q → IsGreatest p n q) → IsGreatest p (suc n) q
+greatest_on p n q h rest = grind arith
+
 pub greatest_is : (p : ℕ → Bool) (n q : ℕ) → greatest_passing p n ≡ Some q → IsGreatest p n q
-greatest_is p zero q h = absurd (none-some _ h)
-greatest_is p (suc n) q h = elim (cases_Bool (p n)) [
-  | inl here ↦
-      let e : ◌≡◌ {A = Option ℕ} (Some n) (Some q) = sym (ap (λ b. if b then Some n else greatest_passing p n) here) ∙ h in
-      let same : n ≡ q = same_Some _ _ e in
-      record { below = omega (arith, same); passes = ap p (sym same) ∙ here; greatest = λ k lo hi. absurd (omega (arith, lo, hi, same)) }
-  | inr not_here ↦
-      let later : greatest_passing p n ≡ Some q = sym (ap (λ b. if b then Some n else greatest_passing p n) not_here) ∙ h in
-      let rest = greatest_is p n q later in
-      record {
-        below = omega (arith, rest.below);
-        passes = rest.passes;
-        greatest = λ k lo hi. elim (cases_lt k n) [
-          | inl under ↦ rest.greatest k lo under
-          | inr over ↦ let at : k ≡ n = omega (arith, over, hi) in ap p at ∙ not_here
-        ];
-      }
-]
+greatest_is p zero q h = absurd cc
+greatest_is p (suc n) q h = greatest_on p n q h (greatest_is p n q)
 
 pub greatest_up_to-within : (p : ℕ → Bool) (n : ℕ) → greatest_up_to p n ≤ n
 greatest_up_to-within p n = elim (greatest_passing p (suc n)) as (λ o. greatest_passing p (suc n) ≡ o → unwrap_or o 0 ≤ n) [
@@ -85,17 +48,12 @@ span_chain-rising find to finds (suc most) from up = elim (find from) as (λ o. 
   | Some s ↦ λ e. let f = finds from s up e in (f.0, f.1, f.2, span_chain-rising find to finds most s.hi f.2)
 ] refl
 
+no_more : (p : ℕ → Bool) (n k : ℕ) → greatest_passing p (suc n) ≡ None → k < suc n → (greatest_passing p n ≡ None → k < n → p k ≡ false) → p k ≡ false
+no_more p n k h hi rest = grind arith
+
 pub none_is : (p : ℕ → Bool) (n : ℕ) → greatest_passing p n ≡ None → (k : ℕ) → k < n → p k ≡ false
 none_is p zero h k hi = absurd (omega (arith, hi))
-none_is p (suc n) h k hi = elim (cases_Bool (p n)) [
-  | inl here ↦ absurd (none-some _ (sym h ∙ (ap (λ b. if b then Some n else greatest_passing p n) here)))
-  | inr not_here ↦
-      let later : greatest_passing p n ≡ None = sym (ap (λ b. if b then Some n else greatest_passing p n) not_here) ∙ h in
-      elim (cases_lt k n) [
-        | inl under ↦ none_is p n later k under
-        | inr over ↦ let at : k ≡ n = omega (arith, over, hi) in ap p at ∙ not_here
-      ]
-]
+none_is p (suc n) h k hi = no_more p n k h hi (λ g. none_is p n g k)
 
 -- a scan ends at its bound or where the test passes, and passes nowhere before
 pub least_from-is : (p : ℕ → Bool) (n bound : ℕ) → n ≤ bound → ((least_from p n bound ≡ bound) ⊎ (p (least_from p n bound) ≡ true)) × ((k : ℕ) → n ≤ k → k < least_from p n bound → p k ≡ false)
@@ -111,7 +69,7 @@ greatest_up_to-is p n = elim (greatest_passing p (suc n)) as (λ o. greatest_pas
 ] refl
 
 pub chain_more : (find : ℕ → Option Span) (most from : ℕ) (s : Span) → find from ≡ Some s → span_chain find (suc most) from ≡ s ∷ span_chain find most s.hi
-chain_more find most from s h = ap (λ (o : Option Span). elim o [ None ↦ [] | Some r ↦ r ∷ span_chain find most r.hi ]) h
+chain_more find most from s h = grind arith
 
 pub chain_ends : (find : ℕ → Option Span) (most from : ℕ) → find from ≡ None → span_chain find most from ≡ []
 chain_ends find zero from h = refl

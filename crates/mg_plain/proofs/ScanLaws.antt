@@ -1,29 +1,17 @@
 -- Scans for the least number from a place on, and for the greatest up to it.
-use Rattle.std.proofs.Common.{Bool, None, Some, ap, arith, false, if◌then◌else◌, refl, subst, suc, sym, true, zero, ℕ, ◌+◌, ◌-◌, ◌<◌, ◌∙◌, ◌≡◌, ◌≤◌}
+use Rattle.std.proofs.Common.{Bool, None, Some, ap, arith, false, suc, true, zero, ℕ, ◌+◌, ◌-◌, ◌<◌, ◌≡◌, ◌≤◌}
 use Rattle.std.specs.Option.{unwrap_or}
-use Rattle.mg_plain.specs.Scans.{greatest_passing, greatest_up_to, least, least_from}
-
-least-first : (p : ℕ → Bool) (n count : ℕ) → p n ≡ true → least p n (suc count) ≡ Some n
-least-first p n count h = ap (λ b. if b then Some n else least p (n + 1) count) h
-
-least-later : (p : ℕ → Bool) (n count : ℕ) → p n ≡ false → least p n (suc count) ≡ least p (n + 1) count
-least-later p n count h = ap (λ b. if b then Some n else least p (n + 1) count) h
+use Rattle.mg_plain.specs.Scans.{greatest_up_to, least, least_from}
 
 -- a scan of `least` up to a bound
 pub found_here : (p : ℕ → Bool) (n bound : ℕ) → n < bound → p n ≡ true → least p n (bound - n) ≡ Some n
-found_here p n bound inside h =
-    let e : bound - n ≡ suc (bound - suc n) = omega (arith, inside) in
-    ap (least p n) e ∙ least-first p n (bound - suc n) h
+found_here p n bound inside h = let e : bound - n ≡ suc (bound - (n + 1)) = omega (arith, inside) in grind (arith, e)
 
 pub found_later : (p : ℕ → Bool) (n bound : ℕ) → n < bound → p n ≡ false → least p n (bound - n) ≡ least p (n + 1) (bound - (n + 1))
-found_later p n bound inside h =
-    let e : bound - n ≡ suc (bound - (n + 1)) = omega (arith, inside) in
-    ap (least p n) e ∙ least-later p n (bound - (n + 1)) h
+found_later p n bound inside h = let e : bound - n ≡ suc (bound - (n + 1)) = omega (arith, inside) in grind (arith, e)
 
 pub found_nowhere : (p : ℕ → Bool) (n bound : ℕ) → bound ≤ n → least p n (bound - n) ≡ None
-found_nowhere p n bound out =
-    let e : bound - n ≡ zero = omega (arith, out) in
-    ap (least p n) e
+found_nowhere p n bound out = let e : bound - n ≡ zero = omega (arith, out) in ap (least p n) e
 
 pub scan_here : (p : ℕ → Bool) (n bound : ℕ) → n < bound → p n ≡ true → least_from p n bound ≡ n
 scan_here p n bound inside h = ap (λ o. unwrap_or o bound) (found_here p n bound inside h)
@@ -32,7 +20,4 @@ pub scan_on : (p : ℕ → Bool) (n bound : ℕ) → n < bound → p n ≡ false
 scan_on p n bound inside h = ap (λ o. unwrap_or o bound) (found_later p n bound inside h)
 
 pub back_step : (p : ℕ → Bool) (q : ℕ) → 0 < q → p q ≡ false → greatest_up_to p q ≡ greatest_up_to p (q - 1)
-back_step p q some h =
-    let e : q ≡ suc (q - 1) = omega (arith, some) in
-    let g : p (suc (q - 1)) ≡ false = subst (λ k. p k ≡ false) e h in
-    ap (greatest_up_to p) e ∙ ap (λ b. unwrap_or (if b then Some (suc (q - 1)) else greatest_passing p (suc (q - 1))) 0) g
+back_step p q some h = let e : q ≡ suc (q - 1) = omega (arith, some) in grind (arith, e)

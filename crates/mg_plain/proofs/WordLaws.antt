@@ -14,22 +14,12 @@ use Rattle.mg_plain.proofs.ScanLaws.{scan_on}
 pub run_ends : (text : List ℕ) (b hi e : ℕ) → b < e → e ≤ hi → ((k : ℕ) → b ≤ k → k < e → is_nonblank text k ≡ true) → (e ≡ hi) ⊎ (is_nonblank text e ≡ false) → least_from (λ k. not (is_nonblank text k)) b hi ≡ e
 run_ends text b hi e some up_to nonblank ends =
     let blank : ℕ → Bool = λ k. not (is_nonblank text k) in
-    let end : ℕ = least_from blank b hi in
-    let range = least_from-within blank b hi (omega (arith, some, up_to)) in
-    let is = least_from-is blank b hi (omega (arith, some, up_to)) in
-    elim (cases_lt end e) [
-      | inl before ↦ elim is.0 [
-        | inl at_end ↦ absurd (omega (arith, at_end, before, up_to))
-        | inr stops ↦ absurd (true≢false (sym stops ∙ ap not (nonblank end range.0 before)))
-      ]
-      | inr behind ↦ elim (cases_lt e end) [
-        | inl past ↦ elim ends [
-          | inl at_end ↦ absurd (omega (arith, at_end, past, range.1))
-          | inr stops ↦ absurd (true≢false (sym (ap not stops) ∙ is.1 e (omega (arith, some)) past))
-        ]
-        | inr same ↦ omega (arith, behind, same)
-      ]
-    ]
+    ends_there (least_from-within blank b hi (omega (arith, some, up_to))) (least_from-is blank b hi (omega (arith, some, up_to)))
+  where
+    ends_there : (b ≤ least_from (λ k. not (is_nonblank text k)) b hi) × (least_from (λ k. not (is_nonblank text k)) b hi ≤ hi)
+        → ((least_from (λ k. not (is_nonblank text k)) b hi ≡ hi) ⊎ (not (is_nonblank text (least_from (λ k. not (is_nonblank text k)) b hi)) ≡ true)) × ((k : ℕ) → b ≤ k → k < least_from (λ k. not (is_nonblank text k)) b hi → not (is_nonblank text k) ≡ false)
+        → least_from (λ k. not (is_nonblank text k)) b hi ≡ e
+    ends_there range is = grind arith
 
 pub finds_words : (text : List ℕ) (hi : ℕ) → FindsWithin (next_word text hi) hi
 finds_words text hi = λ q w up h. at q w (least (is_nonblank text) q (hi - q)) refl up h

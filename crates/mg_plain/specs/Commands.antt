@@ -14,7 +14,7 @@ use Rattle.mg_plain.specs.Kills.{delete_char, delete_backward_char, kill_line, k
 use Rattle.mg_plain.specs.Mark.{copy_region_as_kill, set_mark_command, exchange_point_and_mark, mark_whole_buffer}
 use Rattle.mg_plain.specs.Cases.{transpose_chars, recasing}
 use Rattle.mg_plain.specs.Replacement.{search_forward, search_backward, replace_one, replace_all, replace_range}
-use Rattle.mg_plain.specs.Filling.{fill_paragraph}
+use Rattle.mg_plain.specs.Gaps.{fill_paragraph}
 
 -- the effect of a command with the argument `n` and a fill column, or why it is not done
 abbrev pub effect : Command → ℕ → Situation → ℕ → Result Effect Notice

@@ -4,6 +4,8 @@ use Rattle.std.specs.List.{slice_range, filter}
 use lib.Pointwise.{pointwise}
 use Rattle.rga_ops.specs.Splice.{Splice}
 use Rattle.mg_plain.specs.Spans.{Span}
+use Rattle.mg_plain.specs.Situation.{Situation}
+use Rattle.mg_plain.specs.Effect.{Effect, edit_effect}
 use Rattle.mg_plain.specs.Splices.{splice}
 use Rattle.mg_plain.specs.Characters.{space, newline_character}
 use Rattle.mg_plain.specs.LineEnds.{line_begin}
@@ -40,3 +42,6 @@ filling column text p = reverse (filter (alters text) (gaps column None p.lo p.h
 -- on a line that holds nothing but spaces and tabs nothing is done
 abbrev pub paragraph_filling : ℕ → List ℕ → ℕ → List Splice
 paragraph_filling column text point = if has_nonblank text (line_begin text point) then filling column text (paragraph text point) else []
+
+abbrev pub fill_paragraph : ℕ → Situation → Effect
+fill_paragraph column s = edit_effect s (paragraph_filling column s.text s.point)

@@ -10,7 +10,6 @@ pub mod Situation
 pub mod Effect
 pub mod Answer
 pub mod NoticeMessage
-pub mod Lines
 pub mod Words
 pub mod Steps
 pub mod Matches
@@ -20,6 +19,5 @@ pub mod Kills
 pub mod Mark
 pub mod Cases
 pub mod Replacement
-pub mod Filling
 pub mod Commands
 pub mod Examples

@@ -10,8 +10,7 @@ use Rattle.mg_plain.specs.declared.steps.Direction.TheVariants.{Forward, Backwar
 use Rattle.mg_plain.specs.declared.steps.Piece.TheVariants.{Line, Word}
 use Rattle.mg_plain.specs.Situation.{Situation}
 use Rattle.mg_plain.specs.Effect.{Effect, motion}
-use Rattle.mg_plain.specs.LineEnds.{line_begin, line_end}
-use Rattle.mg_plain.specs.Lines.{at_goal}
+use Rattle.mg_plain.specs.LineEnds.{at_goal, line_begin, line_end}
 use Rattle.mg_plain.specs.Steps.{step, steps, steps_up_to}
 
 -- ---- by characters and to ends

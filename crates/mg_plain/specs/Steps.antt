@@ -3,7 +3,7 @@ use Rattle.std.specs.Prelude.{ℕ, zero, suc, List, Option, Some, None}
 use Rattle.mg_plain.specs.declared.steps.Direction.{Direction}
 use Rattle.mg_plain.specs.declared.steps.Piece.{Piece}
 use Rattle.mg_plain.specs.declared.steps.Piece.TheVariants.{Line, Word}
-use Rattle.mg_plain.specs.Lines.{line_step}
+use Rattle.mg_plain.specs.LineEnds.{line_step}
 use Rattle.mg_plain.specs.Words.{word_step}
 
 -- one piece on or back

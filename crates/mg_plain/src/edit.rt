@@ -1,14 +1,24 @@
 //! Splices, and what they do to places.
-ghost use Rattle.std.specs.Prelude.{◌≡◌, ◌∷◌, [], Ok, IfSome};
+ghost use Rattle.std.specs.Prelude.{◌≡◌, ◌∷◌, [], Ok, IfOk, IfSome};
 ghost use Rattle.mg_plain.specs.Splices.{splice};
 ghost use Rattle.mg_plain.specs.Answer.{IsEffectAnswer};
 ghost use Rattle.mg_plain.specs.Effect.{one_splice, carried_place, place_after, edit_effect};
 
 use crate::outcome::{Notice, Plan};
-use crate::splice;
 use crate::view::{Kind, View};
 use rga_ops::Splice;
-use std::alloc::Global;
+use std::alloc::{AllocError, Global};
+
+/// The splice that puts a copy of those characters there.
+pub fn splice(alloc: Global, lo: usize, hi: usize, put: &[char]) -> Result<Splice, AllocError>
+    ensures { IfOk result (λ s. s ≡ splice lo hi put.now) }
+{
+    Ok(Splice {
+        lo,
+        hi,
+        put: Vec::from_slice(alloc, put)?,
+    })
+}
 
 /// Where a place goes as a splice is done; none past the greatest number.
 fn carry(splice: &Splice, q: usize) -> Option<usize>

@@ -1,13 +1,16 @@
 //! Filling: the words of a paragraph into lines.
 ghost use Rattle.std.specs.Prelude.{◌≡◌, ◌≤◌, ◌<◌, ◌++◌, ◌∷◌, ◌^◌, length, [], Ok, IfOk, filter, nat_eq};
+ghost use Rattle.mg_plain.specs.Answer.{IsEffectAnswer};
 ghost use lib.Pointwise.{pointwise};
 ghost use Rattle.mg_plain.specs.Splices.{splice};
 ghost use Rattle.mg_plain.specs.Gaps as spec;
 ghost use Rattle.mg_plain.specs.Spans.{Span};
 
+use crate::edit::{edit, splice};
 use crate::line_ends::line_begin;
+use crate::outcome::{Notice, Plan};
 use crate::paragraphs::{first_nonblank, has_nonblank, paragraph_begin, paragraph_end, run_end};
-use crate::splices::splice;
+use crate::view::View;
 use rga_ops::Splice;
 use std::alloc::{AllocError, Global};
 
@@ -126,4 +129,11 @@ pub fn paragraph_splices(
     let lo = paragraph_begin(text, point);
     let hi = paragraph_end(text, point);
     fill_between(alloc, text, lo, hi, column)
+}
+
+pub(crate) fn fill_paragraph(alloc: Global, view: &View<'_>, column: u16) -> Result<Plan, Notice>
+    ensures { IsEffectAnswer result (Ok (spec.fill_paragraph column view.now)) }
+{
+    let splices = paragraph_splices(alloc, view.text, view.point, usize::from(column))?;
+    edit(view, splices)
 }

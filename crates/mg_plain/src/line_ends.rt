@@ -1,8 +1,10 @@
 //! Lines of a text.
-ghost use Rattle.std.specs.Prelude.{◌≡◌, ◌≤◌, ◌<◌, length};
+ghost use Rattle.std.specs.Prelude.{◌≡◌, ◌≤◌, ◌<◌, length, IfSome};
 ghost use Rattle.std.specs.List.{slice_index};
 ghost use Rattle.mg_plain.specs.Characters.{is_newline};
 ghost use Rattle.mg_plain.specs.LineEnds as spec;
+
+use crate::steps::Direction;
 
 /// Whether a newline stands there.
 pub(crate) fn has_newline(text: &[char], q: usize) -> bool
@@ -45,4 +47,24 @@ pub fn line_begin(text: &[char], point: usize) -> usize
         q -= 1;
     }
     q
+}
+
+/// From the begin of a line to the begin of the next one or of the one before.
+pub(crate) fn line_step(text: &[char], begin: usize, direction: Direction) -> Option<usize>
+    requires { begin ≤ length text.now }
+    ensures step { result ≡ spec.line_step direction text.now begin }
+    ensures within { IfSome result (λ b. b ≤ length text.now) }
+{
+    match direction {
+        Direction::Forward => {
+            let end = line_end(text, begin);
+            if end < text.len() {
+                Some(end + 1)
+            } else {
+                None
+            }
+        }
+        Direction::Backward if begin == 0 => None,
+        Direction::Backward => Some(line_begin(text, begin - 1)),
+    }
 }

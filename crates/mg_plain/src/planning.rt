@@ -6,14 +6,15 @@ ghost use Rattle.mg_plain.specs.declared.outcome.Notice.TheVariants.{Memory};
 
 use crate::cases::{Casing, recase_word, transpose_chars};
 use crate::command::Command;
-use crate::filling::fill_paragraph;
+use crate::gaps::fill_paragraph;
 use crate::insertions::{insert, newline_and_indent, open_line, type_in, yank};
 use crate::kills::{delete_backward_char, delete_char, kill_line, kill_region, kill_word};
 use crate::mark::{copy_region_as_kill, exchange_point_and_mark, mark_at};
 use crate::motions::{backward_char, by_lines, by_words, forward_char, move_to, scroll};
 use crate::outcome::{Notice, Plan};
-use crate::replacement::{replace_all, replace_one, replace_range};
-use crate::search::{search_backward, search_forward};
+use crate::replacement::{
+    replace_all, replace_one, replace_range, search_backward, search_forward,
+};
 use crate::steps::Direction;
 use crate::view::View;
 use crate::{line_begin, line_end};

@@ -1,15 +1,45 @@
-//! Replacements of matches, and of a range.
+//! Searches, which take no memory, and replacements of matches and of a range.
 ghost use Rattle.std.specs.Prelude.{◌≡◌, ◌≤◌, ◌<◌, length, true, Ok, IfOk};
 ghost use Rattle.mg_plain.specs.Answer.{IsEffectAnswer};
 ghost use Rattle.mg_plain.specs.Replacement as spec;
 
 use crate::edit::{carry_over, change, edit, edit_once};
-use crate::matching::{first_match, stands_at};
+use crate::matching::{find, first_match, stands_at};
+use crate::motions::move_to;
 use crate::outcome::{Notice, Plan};
 use crate::splice;
+use crate::steps::Direction;
 use crate::view::View;
 use rga_ops::Splice;
 use std::alloc::{AllocError, Global};
+
+pub(crate) fn search_forward(
+    alloc: Global,
+    view: &View<'_>,
+    pattern: &[char],
+    start: usize,
+) -> Result<Plan, Notice>
+    ensures { result ≡ spec.search_forward pattern.now start view.now }
+{
+    match find(Direction::Forward, view.text, pattern, start) {
+        None => Err(Notice::SearchFailed),
+        Some(i) => Ok(move_to(alloc, view, i + pattern.len())),
+    }
+}
+
+pub(crate) fn search_backward(
+    alloc: Global,
+    view: &View<'_>,
+    pattern: &[char],
+    start: usize,
+) -> Result<Plan, Notice>
+    ensures { result ≡ spec.search_backward pattern.now start view.now }
+{
+    match find(Direction::Backward, view.text, pattern, start) {
+        None => Err(Notice::SearchFailed),
+        Some(i) => Ok(move_to(alloc, view, i)),
+    }
+}
 
 /// Whether a match ends at point, of a pattern that is not empty.
 fn stands_before_point(pattern: &[char], view: &View<'_>) -> bool

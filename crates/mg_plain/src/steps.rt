@@ -2,7 +2,7 @@
 ghost use Rattle.std.specs.Prelude.{◌≡◌, ◌≤◌, length, IfSome};
 ghost use Rattle.mg_plain.specs.Steps as spec;
 
-use crate::lines::line_step;
+use crate::line_ends::line_step;
 use crate::words::word_step;
 
 /// Which way through a text.

@@ -1,5 +1,5 @@
 -- Windows as they are kept: their heights, and beside these what they show.
-use Rattle.std.proofs.Common.{◌≡◌, ℕ, ◌+◌, ◌-◌, ◌/◌, ◌≤◌, ◌<◌, List, [], ◌∷◌, length, take, drop, map, arith, refl, sym, ◌∙◌, ap, ap₂, subst, suc, zero, get_or, set, insert, remove, sum_by, nat_lt, true, false}
+use Rattle.std.proofs.Common.{◌≡◌, ℕ, ◌+◌, ◌-◌, ◌/◌, ◌≤◌, ◌<◌, List, [], ◌∷◌, length, take, drop, map, arith, refl, sym, ◌∙◌, ap, subst, suc, zero, get_or, set, insert, remove, sum_by}
 use Rattle.std.proofs.lemmas.List.Sums.{sum_by-cons, sum_by-remove, get_or-le-sum_by}
 use Rattle.std.proofs.lemmas.Bool.Decides.{nat_tests}
 use Rattle.std.proofs.lemmas.List.Edits.{length-remove, length-insert}
@@ -56,9 +56,7 @@ windows-topmost h [] ss e more is = absurd (omega (arith, more))
 windows-topmost h (a ∷ []) ss e more is = absurd (omega (arith, more))
 windows-topmost h (a ∷ b ∷ hs) [] e more is = absurd (omega (arith, e))
 windows-topmost h (a ∷ b ∷ hs) (s ∷ []) e more is = absurd (omega (arith, e))
-windows-topmost h (a ∷ b ∷ hs) (s ∷ t ∷ ss) e more is =
-    let height : b + (h + 1) ≡ b + a + 1 = omega (arith, is) in
-    ap (λ k. window k t ∷ windows_of hs ss) height
+windows-topmost h (a ∷ b ∷ hs) (s ∷ t ∷ ss) e more is = grind (arith)
 
 -- without one that has another above it
 pub windows-removed : {T : Type 0} (i h : ℕ) (hs : List ℕ) (ss : List T) → length hs ≡ length ss → suc i < length hs → h ≡ get_or hs (suc i) 0
@@ -67,9 +65,7 @@ windows-removed i h [] ss e inside is = absurd (omega (arith, inside))
 windows-removed i h (a ∷ []) ss e inside is = absurd (omega (arith, inside))
 windows-removed i h (a ∷ b ∷ hs) [] e inside is = absurd (omega (arith, e))
 windows-removed i h (a ∷ b ∷ hs) (s ∷ []) e inside is = absurd (omega (arith, e))
-windows-removed zero h (a ∷ b ∷ hs) (s ∷ t ∷ ss) e inside is =
-    let height : a + (h + 1) ≡ a + b + 1 = omega (arith, is) in
-    ap (λ k. window k s ∷ windows_of hs ss) height
+windows-removed zero h (a ∷ b ∷ hs) (s ∷ t ∷ ss) e inside is = grind (arith)
 windows-removed (suc i) h (a ∷ b ∷ hs) (s ∷ t ∷ ss) e inside is =
     ap (λ ws. window a s ∷ ws) (windows-removed i h (b ∷ hs) (t ∷ ss) (omega (arith, e)) (omega (arith, inside)) is)
 
@@ -88,34 +84,17 @@ windows-only {T} i n hs ss s e inside met is = ap (λ k. window k s ∷ []) is �
 -- a split, as it is made
 pub split_made : {T : Type 0} (i n : ℕ) (hs gs : List ℕ) (ss ts : List T) (s : T) → i < length hs → length hs ≡ length ss → n ≡ get_or hs i 0 → s ≡ get_or ss i s
     → gs ≡ insert hs i ((n - 1) / 2) → ts ≡ insert ss i s → windows_of (set gs (i + 1) (n - 1 - (n - 1) / 2)) ts ≡ split_at i (windows_of hs ss)
-split_made {T} i n hs gs ss ts s inside e is met grown also =
-    let next : i + 1 ≡ suc i = omega arith in
-    ap₂ (λ xs (ys : List T). windows_of (set xs (i + 1) (n - 1 - (n - 1) / 2)) ys) grown also
-    ∙ ap₂ (λ j k. windows_of (set (insert hs i ((k - 1) / 2)) j (k - 1 - (k - 1) / 2)) (insert ss i s)) next is
-    ∙ windows-split i hs ss s inside e met
+split_made {T} i n hs gs ss ts s inside e is met grown also = grind (arith, windows-split)
 
 -- a removal, as it is made
 pub removal_made : {T : Type 0} (i j h k : ℕ) (hs gs : List ℕ) (ss ts : List T) → j ≡ i - 1 → 1 < length hs → i < length hs → length hs ≡ length ss → h ≡ get_or hs i 0
     → gs ≡ remove hs i → ts ≡ remove ss i → k ≡ get_or gs j 0 → windows_of (set gs j (k + (h + 1))) ts ≡ remove_at i (windows_of hs ss)
-removal_made {T} zero j h k hs gs ss ts heir several inside e is less also read =
-    let first : j ≡ zero = omega (arith, heir) in
-    let height : k ≡ get_or (remove hs zero) zero 0 = read ∙ ap₂ (λ xs n. get_or xs n 0) less first in
-    ap₂ (λ xs (ys : List T). windows_of (set xs j (k + (h + 1))) ys) less also
-    ∙ ap₂ (λ n m. windows_of (set (remove hs zero) n (m + (h + 1))) (remove ss zero)) first height
-    ∙ windows-topmost h hs ss e several is
-removal_made {T} (suc i) j h k hs gs ss ts heir several inside e is less also read =
-    let before : j ≡ i = omega (arith, heir) in
-    let height : k ≡ get_or (remove hs (suc i)) i 0 = read ∙ ap₂ (λ xs n. get_or xs n 0) less before in
-    ap₂ (λ xs (ys : List T). windows_of (set xs j (k + (h + 1))) ys) less also
-    ∙ ap₂ (λ n m. windows_of (set (remove hs (suc i)) n (m + (h + 1))) (remove ss (suc i))) before height
-    ∙ windows-removed i h hs ss e inside is
+removal_made {T} zero j h k hs gs ss ts heir several inside e is less also read = grind (arith, windows-topmost)
+removal_made {T} (suc i) j h k hs gs ss ts heir several inside e is less also read = grind (arith, windows-removed)
 
 -- the window that takes over the rows of another one is there
 pub heir_within : (i j : ℕ) (hs gs : List ℕ) → j ≡ i - 1 → 1 < length hs → i < length hs → gs ≡ remove hs i → j < length gs
-heir_within i j hs gs heir several inside less =
-    let short = length-remove hs i inside in
-    let long = ap length less in
-    omega (arith, heir, several, inside, short, long)
+heir_within i j hs gs heir several inside less = grind (arith, length-remove)
 
 -- the text rows of a window, and what it takes over
 pub rows_joined : (i j h k most : ℕ) (hs gs : List ℕ) → i < length hs → gs ≡ remove hs i → j < length gs → h ≡ get_or hs i 0 → k ≡ get_or gs j 0
@@ -129,13 +108,7 @@ rows_joined i j h k most hs gs inside less here is read few =
 -- what is kept of windows of which the first so many rows hold
 pub kept : {T : Type 0} (hs gs : List ℕ) (ss ts : List T) (i j rows : ℕ) → AreKeptWindows hs ss i rows → length gs ≡ length ts → j < length gs
     → rows_of (windows_of gs ts) ≡ rows_of (windows_of hs ss) → IsTall (windows_of gs ts) → AreKeptWindows gs ts j rows
-kept hs gs ss ts i j rows old paired here same tall = record {
-  paired = paired;
-  here = here;
-  tall = tall;
-  whole = ap (λ n. n + 1) same ∙ old.whole;
-  few = old.few;
-}
+kept hs gs ss ts i j rows old paired here same tall = grind (arith)
 
 pub height_of : {T : Type 0} (hs : List ℕ) (ss : List T) (i : ℕ) → length hs ≡ length ss → get_or (heights (windows_of hs ss)) i 0 ≡ get_or hs i 0
 height_of hs ss i e = ap (λ xs. get_or xs i 0) (heights-windows_of hs ss e)
@@ -146,70 +119,34 @@ sum-windows_of hs ss i rows old = omega (arith, rows-windows_of hs ss old.paired
 
 pub split_keeps : {T : Type 0} (hs gs : List ℕ) (ss ts : List T) (i rows : ℕ) → AreKeptWindows hs ss i rows → 3 ≤ get_or hs i 0 → length gs ≡ length ts → length gs ≡ length hs + 1
     → windows_of gs ts ≡ split_at i (windows_of hs ss) → AreKeptWindows gs ts i rows
-split_keeps hs gs ss ts i rows old large paired longer is =
-    let tall_height = height_of hs ss i old.paired in
-    kept hs gs ss ts i i rows old paired (omega (arith, longer, old.here)) (ap rows_of is ∙ rows-split i (windows_of hs ss) old.tall)
-    (subst IsTall (sym is) (tall-split i (windows_of hs ss) old.tall (omega (arith, large, tall_height))))
+split_keeps hs gs ss ts i rows old large paired longer is = grind (arith, height_of, kept, rows-split, tall-split)
 
 pub removal_keeps : {T : Type 0} (hs gs : List ℕ) (ss ts : List T) (i j rows : ℕ) → AreKeptWindows hs ss i rows → 1 < length hs → length gs ≡ length ts → length gs + 1 ≡ length hs → j ≡ i - 1
     → windows_of gs ts ≡ remove_at i (windows_of hs ss) → AreKeptWindows gs ts j rows
-removal_keeps hs gs ss ts i j rows old several paired less heir is =
-    kept hs gs ss ts i j rows old paired (omega (arith, less, old.here, several, heir)) (ap rows_of is ∙ rows-remove i (windows_of hs ss))
-    (subst IsTall (sym is) (tall-remove i (windows_of hs ss) old.tall))
+removal_keeps hs gs ss ts i j rows old several paired less heir is = grind (arith, kept, rows-remove, tall-remove)
 
 -- the next window
 pub next_window : {T : Type 0} (hs : List ℕ) (ss : List T) (i : ℕ) → length hs ≡ length ss → i + 1 < length hs → layout (windows_of hs ss) (i + 1) ≡ other_layout (layout (windows_of hs ss) i)
-next_window hs ss i e inside =
-    let count = length-windows_of hs ss e in
-    let more : nat_lt (i + 1) (length (windows_of hs ss)) ≡ true = grind (arith, nat_tests, count) in
-    rw more refl
+next_window hs ss i e inside = grind (arith, length-windows_of, nat_tests)
 
 pub first_window : {T : Type 0} (hs : List ℕ) (ss : List T) (i : ℕ) → length hs ≡ length ss → length hs ≤ i + 1 → layout (windows_of hs ss) 0 ≡ other_layout (layout (windows_of hs ss) i)
-first_window hs ss i e outside =
-    let count = length-windows_of hs ss e in
-    let none : nat_lt (i + 1) (length (windows_of hs ss)) ≡ false = grind (arith, nat_tests, count) in
-    rw none refl
+first_window hs ss i e outside = grind (arith, length-windows_of, nat_tests)
 
 -- one window alone, as it is made
 pub only_made : {T : Type 0} (hs gs : List ℕ) (ss ts : List T) (i rows : ℕ) (s : T) → AreKeptWindows hs ss i rows → s ≡ get_or ss i s → gs ≡ take 1 hs → ts ≡ take 1 ss
     → layout (windows_of (set gs 0 (rows - 2)) (set ts 0 s)) 0 ≡ only_layout (layout (windows_of hs ss) i)
-only_made {T} hs gs ss ts i rows s old met cut also =
-    ap₂ (λ xs (ys : List T). layout (windows_of (set xs 0 (rows - 2)) (set ys 0 s)) 0) cut also ∙ by_lists hs ss old met
-  where
-    by_lists : (ks : List ℕ) (bs : List T) → AreKeptWindows ks bs i rows → s ≡ get_or bs i s
-        → layout (windows_of (set (take 1 ks) 0 (rows - 2)) (set (take 1 bs) 0 s)) 0 ≡ only_layout (layout (windows_of ks bs) i)
-    by_lists [] bs old met = absurd (omega (arith, old.here))
-    by_lists (a ∷ ks) [] old met = absurd (omega (arith, old.paired))
-    by_lists (a ∷ ks) (b ∷ bs) old met =
-        let all : rows - 2 ≡ rows_of (windows_of (a ∷ ks) (b ∷ bs)) - 1 = omega (arith, old.whole) in
-        ap (λ ws. layout ws 0) (windows-only i (rows - 2) (a ∷ ks) (b ∷ bs) s old.paired old.here met all)
+only_made {T} hs gs ss ts i rows s old met cut also = grind (arith, windows-only)
 
 pub lengths_split : {T : Type 0} (hs gs : List ℕ) (ss ts : List T) (i j u v : ℕ) (s : T) → gs ≡ insert hs i u → ts ≡ insert ss i s → length hs ≡ length ss → i < length hs
     → (length (set gs j v) ≡ length ts) × (length (set gs j v) ≡ length hs + 1)
-lengths_split hs gs ss ts i j u v s grown also e inside =
-    let one = length-insert hs i u (omega (arith, inside)) in
-    let other = length-insert ss i s (omega (arith, inside, e)) in
-    let here = ap length grown in
-    let there = ap length also in
-    let made = length-set gs j v in
-    (omega (arith, one, other, here, there, made, e), omega (arith, one, here, made))
+lengths_split hs gs ss ts i j u v s grown also e inside = grind (arith, length-insert, length-set)
 
 pub lengths_removed : {T : Type 0} (hs gs : List ℕ) (ss ts : List T) (i j v : ℕ) → gs ≡ remove hs i → ts ≡ remove ss i → length hs ≡ length ss → i < length hs
     → (length (set gs j v) ≡ length ts) × (length (set gs j v) + 1 ≡ length hs)
-lengths_removed hs gs ss ts i j v less also e inside =
-    let one = length-remove hs i inside in
-    let other = length-remove ss i (omega (arith, inside, e)) in
-    let here = ap length less in
-    let there = ap length also in
-    let made = length-set gs j v in
-    (omega (arith, one, other, here, there, made, e), omega (arith, one, here, made))
+lengths_removed hs gs ss ts i j v less also e inside = grind (arith, length-remove, length-set)
 
 pub shown_keeps : {T : Type 0} (hs : List ℕ) (ss : List T) (i j rows : ℕ) (s : T) → AreKeptWindows hs ss i rows → AreKeptWindows hs (set ss j s) i rows
-shown_keeps hs ss i j rows s old =
-    let same = length-set ss j s in
-    let is = windows-shown j hs ss s old.paired in
-    kept hs hs ss (set ss j s) i i rows old (omega (arith, same, old.paired)) old.here (ap rows_of is ∙ rows-shown j s (windows_of hs ss))
-    (subst IsTall (sym is) (tall-shown j s (windows_of hs ss) old.tall))
+shown_keeps hs ss i j rows s old = grind (arith, length-set, windows-shown, kept, rows-shown, tall-shown)
 
 -- how many windows there are, as they are seen
 pub counted : {T : Type 0} (hs : List ℕ) (ss : List T) (i : ℕ) (l : Layout T) → length hs ≡ length ss → layout (windows_of hs ss) i ≡ l → length l.windows ≡ length hs

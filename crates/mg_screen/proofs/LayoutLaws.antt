@@ -1,14 +1,11 @@
 -- What stays as windows are split, removed and shown.
-use Rattle.std.proofs.Common.{◌≡◌, ℕ, ◌+◌, ◌-◌, ◌/◌, ◌≤◌, ◌<◌, List, [], ◌∷◌, length, take, drop, map, arith, refl, ap, suc, zero, get_or, nat_lt, Bool, true, false}
-use Rattle.std.proofs.lemmas.Bool.Decides.{nat_tests}
+use Rattle.std.proofs.Common.{◌≡◌, ℕ, ◌+◌, ◌-◌, ◌≤◌, ◌<◌, List, [], ◌∷◌, length, take, drop, map, arith, refl, ap, suc, zero, get_or}
 use Rattle.mg_screen.specs.Layout.{Window, Layout, layout, heights, rows_of, split_at, remove_at, shows_at, of_height, IsTall, FillsRows, KeepsRows, other_layout, only_layout}
 
 -- a split shares the rows of a window that has some
 pub rows-split : {T : Type 0} (i : ℕ) (ws : List (Window T)) → IsTall ws → rows_of (split_at i ws) ≡ rows_of ws
 rows-split i [] tall = refl
-rows-split zero (w ∷ ws) tall =
-    let half : (w.height - 1) / 2 ≤ w.height - 1 = omega arith in
-    omega (arith, half, tall.0)
+rows-split zero (w ∷ ws) tall = grind (arith)
 rows-split (suc i) (w ∷ ws) tall = let rest = rows-split i ws tall.1 in omega (arith, rest)
 
 pub tall-split : {T : Type 0} (i : ℕ) (ws : List (Window T)) → IsTall ws → 3 ≤ get_or (heights ws) i 0 → IsTall (split_at i ws)
@@ -47,11 +44,7 @@ rows-shown (suc i) s (w ∷ ws) = ap (λ n. w.height + 1 + n) (rows-shown i s ws
 
 -- the next window is one of them
 pub other_fills : {T : Type 0} (l : Layout T) → KeepsRows l (other_layout l)
-other_fills l n filled = by_next (nat_lt (l.current + 1) (length l.windows)) refl
-  where
-    by_next : (b : Bool) → nat_lt (l.current + 1) (length l.windows) ≡ b → FillsRows n (other_layout l)
-    by_next true e = record { tall = filled.tall; here = rw e (grind (arith, nat_tests)); whole = filled.whole }
-    by_next false e = record { tall = filled.tall; here = rw e (omega (arith, filled.here)); whole = filled.whole }
+other_fills l n filled = grind arith
 
 -- one window is left, with all rows
 pub only_fills : {T : Type 0} (l : Layout T) → KeepsRows l (only_layout l)

@@ -1,12 +1,10 @@
 pub mod CellLaws
 pub mod LineLaws
 pub mod BlockLaws
-pub mod RowLaws
 pub mod ScreenLaws
 pub mod PlaceLaws
 pub mod CursorLaws
 pub mod SidewaysLaws
-pub mod SidewaysFrameLaws
 pub mod SidewaysCursorLaws
 pub mod SidewaysCellLaws
 pub mod LayoutLaws

@@ -2,7 +2,7 @@
 use Rattle.std.proofs.Common.{◌≡◌, ℕ, zero, suc, ◌+◌, ◌-◌, ◌≤◌, ◌<◌, List, [], ◌∷◌, length, take, drop, get_or, arith, refl, sym, ◌∙◌, ap, subst, Bool, true, false, not, nat_lt, nat_le, length-drop, ◌++◌, count_by, cond, take-take}
 use Rattle.std.specs.List.{position_or_len}
 use Rattle.std.proofs.lemmas.List.{get_or-drop, length-take, take-append-drop, drop-take}
-use Rattle.std.proofs.lemmas.List.Sums.{position_or_len_is, suffix_len-take_no, suffix_len-take_yes, suffix_len-le-length, count_by_more_yes, count_by_more_no, prefix_len_stops, sum_by-append}
+use Rattle.std.proofs.lemmas.List.Sums.{position_or_len_is, suffix_len-take_no, suffix_len-take_yes, suffix_len-le-length, count_by_more_yes, count_by_more_no, passes_at_first, sum_by-append}
 use Rattle.std.proofs.lemmas.Bool.Decides.{nat_tests}
 use Rattle.std.proofs.Math.Nat.{min-le_left, min-eq_left}
 use Rattle.mg_screen.specs.Lines.{ends_line, lines, lines_on, line_index, column_of}
@@ -20,9 +20,7 @@ pub record BeginsLine (text : List ℕ) (place : ℕ) : Type 0 where
   pub same : line_index text (place - column_of text place) ≡ line_index text place
 
 pub column_within : (text : List ℕ) (place : ℕ) → column_of text place ≤ place
-column_within text place =
-    let some = suffix_len-le-length (λ c. not (ends_line c)) (take place text) in
-    omega (arith, some, length-take place text, min-le_left place (length text))
+column_within text place = grind (arith, suffix_len-le-length, length-take, min-le_left)
 
 -- the line of a place ends at the first newline behind its begin
 ends_at : (text : List ℕ) (n : ℕ) → n < length text → ends_line (get_or text n 0) ≡ true → BeginsLine text n
@@ -40,53 +38,29 @@ ends_at text n inside e before =
 next_place : (text : List ℕ) (n : ℕ) → n < length text → BeginsLine text n → BeginsLine text (n + 1)
 next_place text n inside before = by_char (ends_line (get_or text n 0)) refl
   where
-    last : n + 1 - 1 ≡ n
-    last = omega arith
-
     by_char : (b : Bool) → ends_line (get_or text n 0) ≡ b → BeginsLine text (n + 1)
     by_char true e =
-        let here : not (ends_line (get_or text (n + 1 - 1) 0)) ≡ false = ap (λ k. not (ends_line (get_or text k 0))) last ∙ ap not e in
-        let none : column_of text (n + 1) ≡ 0 = suffix_len-take_no (λ c. not (ends_line c)) text (n + 1) 0 (omega arith) (omega (arith, inside)) here in
+        let none : column_of text (n + 1) ≡ 0 = grind (arith, suffix_len-take_no (λ c. not (ends_line c)) text (n + 1) 0) in
         let more : line_index text (n + 1) ≡ line_index text n + 1 = count_by_more_yes ends_line text n 0 inside e in
         let next : lines_on text (n + 1) ≡ drop (line_index text n + 1) (lines text) =
         lines_less text (lines text) (begin_of text n) n (line_index text n) (omega (arith, inside)) (ends_at text n inside e before) before.begins in
-        let begin : n + 1 - column_of text (n + 1) ≡ n + 1 = omega (arith, none) in
-        record {
-          begins = ap (lines_on text) begin ∙ next ∙ ap (λ k. drop k (lines text)) (sym more);
-          clear = λ k from to. absurd (omega (arith, begin, from, to));
-          first = ap (column_of text) begin ∙ none;
-          same = ap (line_index text) begin;
-        }
+        record { begins = grind (arith, none, more, next); clear = λ k from to. absurd (omega (arith, none, from, to)); first = grind (arith, none); same = grind (arith, none) }
     by_char false e =
-        let here : not (ends_line (get_or text (n + 1 - 1) 0)) ≡ true = ap (λ k. not (ends_line (get_or text k 0))) last ∙ ap not e in
-        let more : column_of text (n + 1) ≡ 1 + column_of text n =
-        suffix_len-take_yes (λ c. not (ends_line c)) text (n + 1) 0 (omega arith) (omega (arith, inside)) here ∙ ap (λ k. 1 + column_of text k) last in
+        let more : column_of text (n + 1) ≡ 1 + column_of text n = grind (arith, suffix_len-take_yes (λ c. not (ends_line c)) text (n + 1) 0) in
         let same : line_index text (n + 1) ≡ line_index text n = count_by_more_no ends_line text n 0 inside e in
         let begin : n + 1 - column_of text (n + 1) ≡ begin_of text n = omega (arith, more) in
         record {
           begins = ap (lines_on text) begin ∙ before.begins ∙ ap (λ k. drop k (lines text)) (sym same);
-          clear = λ k from to. by_place e k (omega (arith, begin, from)) to (nat_lt k n) refl;
+          clear = λ k from to. by_place k (omega (arith, begin, from)) to (before.clear k) e;
           first = ap (column_of text) begin ∙ before.first;
           same = ap (line_index text) begin ∙ before.same ∙ sym same;
         }
       where
-        by_place : ends_line (get_or text n 0) ≡ false → (k : ℕ) → begin_of text n ≤ k → k < n + 1 → (b : Bool) → nat_lt k n ≡ b → ends_line (get_or text k 0) ≡ false
-        by_place e k from to true less = before.clear k from (grind (arith, nat_tests))
-        by_place e k from to false most =
-            let is : k ≡ n = grind (arith, nat_tests) in
-            ap (λ j. ends_line (get_or text j 0)) is ∙ e
+        by_place : (k : ℕ) → begin_of text n ≤ k → k < n + 1 → (begin_of text n ≤ k → k < n → ends_line (get_or text k 0) ≡ false) → ends_line (get_or text n 0) ≡ false → ends_line (get_or text k 0) ≡ false
+        by_place k from to before e = grind arith
 
 pub line_begin : (text : List ℕ) (place : ℕ) → place ≤ length text → BeginsLine text place
-line_begin text zero within =
-    let start : 0 - column_of text 0 ≡ 0 = omega arith in
-    let some : nat_le 0 (length text) ≡ true = grind (arith, nat_tests) in
-    let whole : lines_on text 0 ≡ lines text = rw some refl in
-    record {
-      begins = ap (lines_on text) start ∙ whole;
-      clear = λ k _ before. absurd (omega (arith, before));
-      first = ap (column_of text) start;
-      same = ap (line_index text) start;
-    }
+line_begin text zero within = grind (arith, nat_tests)
 line_begin text (suc n) within =
     let one : n + 1 ≡ suc n = omega arith in
     subst (BeginsLine text) one (next_place text n (omega (arith, within)) (line_begin text n (omega (arith, within))))
@@ -100,40 +74,21 @@ first_left ls rest n l is =
 -- the line of a place, from its begin to its end
 pub line_is : (text : List ℕ) (place start end : ℕ) → place ≤ length text → start ≡ place - column_of text place
     → end ≡ start + position_or_len ends_line (drop start text) → take (end - start) (drop start text) ≡ place_line text place
-line_is text place start end within begin is =
-    let parts = next_line text start end (omega (arith, begin, within)) is in
-    let left : drop (line_index text place) (lines text) ≡ lines_on text start = sym ((line_begin text place within).begins) ∙ ap (lines_on text) (sym begin) in
-    sym (first_left (lines text) (lines_on text (end + 1)) (line_index text place) (take (end - start) (drop start text)) (left ∙ parts))
+line_is text place start end within begin is = grind (arith, next_line, line_begin, first_left)
 
 -- a place is not behind the end of its line
 pub place_in_line : (text : List ℕ) (place start end : ℕ) → place ≤ length text → start ≡ place - column_of text place
     → end ≡ start + position_or_len ends_line (drop start text) → place ≤ end
-place_in_line text place start end within begin is = by_end (nat_le place end) refl
+place_in_line text place start end within begin is = by_clear (line_begin text place within).clear
   where
-    by_end : (b : Bool) → nat_le place end ≡ b → place ≤ end
-    by_end true e = grind (arith, nat_tests)
-    by_end false e =
-        let less : end < place = grind (arith, nat_tests) in
-        let long = length-drop start text in
-        let short : position_or_len ends_line (drop start text) < length (drop start text) = omega (arith, less, is, long, within) in
-        let stops : not (ends_line (get_or (drop start text) (position_or_len ends_line (drop start text)) 0)) ≡ false =
-        prefix_len_stops (λ c. not (ends_line c)) (drop start text) 0 short in
-        let at_end : get_or (drop start text) (position_or_len ends_line (drop start text)) 0 ≡ get_or text end 0 =
-        get_or-drop start text (position_or_len ends_line (drop start text)) 0 ∙ ap (λ k. get_or text k 0) (sym is) in
-        let none : ends_line (get_or text end 0) ≡ false = (line_begin text place within).clear end (omega (arith, is, begin)) less in
-        let wrong : not false ≡ false = ap not (sym none ∙ ap ends_line (sym at_end)) ∙ stops in
-        absurd cc
+    by_clear : ((k : ℕ) → place - column_of text place ≤ k → k < place → ends_line (get_or text k 0) ≡ false) → place ≤ end
+    by_clear clear =
+        grind (arith, passes_at_first ends_line (drop start text) 0, get_or-drop start text (position_or_len ends_line (drop start text)) 0, length-drop start text, clear end)
 
 -- what stands before a place in its line is as long as its column
 pub column_in_line : (text : List ℕ) (place start end : ℕ) → place ≤ length text → start ≡ place - column_of text place
     → end ≡ start + position_or_len ends_line (drop start text) → end ≤ length text → column_of text place ≤ length (take (end - start) (drop start text))
-column_in_line text place start end within begin is inside =
-    let before = place_in_line text place start end within begin is in
-    let column = column_within text place in
-    let taken = length-take (end - start) (drop start text) in
-    let long = length-drop start text in
-    let all : length (take (end - start) (drop start text)) ≡ end - start = taken ∙ min-eq_left (omega (arith, long, inside)) in
-    omega (arith, all, before, begin, column)
+column_in_line text place start end within begin is inside = grind (arith, place_in_line, column_within, length-take, length-drop, min-eq_left)
 
 -- behind a place at which a line begins, where it is not the first, stands a newline that is the end of the line above
 pub line_above : (text : List ℕ) (begin : ℕ) → begin ≤ length text → column_of text begin ≡ 0 → 0 < line_index text begin
@@ -167,9 +122,4 @@ lines_at_begin text begin line within first is =
 -- the line of a place behind another one
 pub line_split : (text : List ℕ) (a b : ℕ) → a ≤ b → line_index text b ≡ line_index text a + count_by ends_line (take (b - a) (drop a text))
 line_split text a b before =
-    let on : a + (b - a) ≡ b = omega (arith, before) in
-    let front : take a (take b text) ≡ take a text = take-take a b text before in
-    let back : drop a (take b text) ≡ take (b - a) (drop a text) = ap (λ k. drop a (take k text)) (sym on) ∙ drop-take a (b - a) text in
-    let parts : take b text ≡ take a text ++ take (b - a) (drop a text) =
-    sym (take-append-drop a (take b text)) ∙ ap (λ xs. xs ++ drop a (take b text)) front ∙ ap (λ xs. take a text ++ xs) back in
-    ap (count_by ends_line) parts ∙ sum_by-append (λ c. cond (ends_line c) 1 0) (take a text) (take (b - a) (drop a text))
+    grind (arith, sum_by-append (λ c. cond (ends_line c) 1 0) (take a text) (take (b - a) (drop a text)), take-append-drop a (take b text), take-take a b text before, drop-take a (b - a) text)

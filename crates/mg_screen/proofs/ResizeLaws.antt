@@ -3,7 +3,7 @@ use Rattle.std.proofs.Common.{◌≡◌, ℕ, ◌+◌, ◌-◌, ◌*◌, ◌/◌
 use Rattle.std.proofs.Math.Nat.{min-le_left, min-le_right, min-eq_left, le-min}
 use Rattle.std.proofs.lemmas.List.{length-take, take_all}
 use Rattle.mg_screen.specs.Size.{most_rows}
-use Rattle.mg_screen.specs.Layout.{Window, Layout, window, layout, heights, all_shown, windows_of, rows_of, shared, staying, resized, resized_layout, IsTall, FillsRows}
+use Rattle.mg_screen.specs.Layout.{Window, Layout, window, layout, heights, all_shown, windows_of, rows_of, shared, resized_layout, IsTall, FillsRows}
 use Rattle.mg_screen.specs.Inside.{AreKeptWindows}
 use Rattle.mg_screen.proofs.HeightLaws.{length-windows_of, heights-windows_of, shown-windows_of}
 
@@ -21,22 +21,14 @@ share_next : (i room n : ℕ) (hs : List ℕ) → i + 1 < length hs → n ≡ mi
     → take (suc i) (set hs i n) ++ shared (room - (n + 1)) (drop (suc i) (set hs i n)) ≡ take i hs ++ shared room (drop i hs)
 share_next i room n [] inside is = absurd (omega (arith, inside))
 share_next zero room n (h ∷ []) inside is = absurd (omega (arith, inside))
-share_next zero room n (h ∷ g ∷ hs) inside is =
-    let left : length (h ∷ g ∷ hs) - 1 - 0 ≡ length hs + 1 = omega arith in
-    let same : n ≡ min h (room - 2 * (length hs + 1) - 1) = is ∙ ap (λ k. min h (room - 2 * k - 1)) left in
-    ap (λ k. k ∷ shared (room - (k + 1)) (g ∷ hs)) same
+share_next zero room n (h ∷ g ∷ hs) inside is = grind (arith)
 share_next (suc i) room n (h ∷ hs) inside is =
     let left : length (h ∷ hs) - 1 - suc i ≡ length hs - 1 - i = omega (arith, inside) in
     ap (λ t. h ∷ t) (share_next i room n hs (omega (arith, inside)) (is ∙ ap (λ k. min (get_or hs i 0) (room - 2 * k - 1)) left))
 
 pub share_more : (i last room n : ℕ) (hs all : List ℕ) → i < last → last + 1 ≡ length hs → n ≡ min (get_or hs i 0) (room - 2 * (last - i) - 1) → take i hs ++ shared room (drop i hs) ≡ all
     → take (i + 1) (set hs i n) ++ shared (room - (n + 1)) (drop (i + 1) (set hs i n)) ≡ all
-share_more i last room n hs all inside whole is told =
-    let next : i + 1 ≡ suc i = omega arith in
-    let left : last - i ≡ length hs - 1 - i = omega (arith, whole) in
-    ap (λ k. take k (set hs i n) ++ shared (room - (n + 1)) (drop k (set hs i n))) next
-    ∙ share_next i room n hs (omega (arith, inside, whole)) (is ∙ ap (λ k. min (get_or hs i 0) (room - 2 * k - 1)) left)
-    ∙ told
+share_more i last room n hs all inside whole is told = grind (arith, share_next)
 
 -- and the last
 pub share_last : (i room : ℕ) (hs : List ℕ) → i + 1 ≡ length hs → set hs i (room - 1) ≡ take i hs ++ shared room (drop i hs)
@@ -74,26 +66,13 @@ tall-staying (suc n) (w ∷ ws) tall = (tall.0, tall-staying n ws tall.1)
 
 -- how many stay
 pub count-staying : {X : Type 0} (n : ℕ) (xs : List X) → 0 < n → 0 < length xs → (0 < length (take n xs)) × (length (take n xs) ≤ n)
-count-staying n xs some more =
-    let is = length-take n xs in
-    let least : 1 ≤ min n (length xs) = le-min some more in
-    (omega (arith, is, least), omega (arith, is, min-le_left n (length xs)))
+count-staying n xs some more = grind (arith, length-take, le-min, min-le_left)
 
 -- ---- as it is made
 
 pub resized_made : {T : Type 0} (hs gs : List ℕ) (ss ts : List T) (i j n rows : ℕ) → length hs ≡ length ss → n ≡ (rows - 1) / 2 → gs ≡ shared (rows - 1) (take n hs) → ts ≡ take n ss → j ≡ min i (length gs - 1)
     → layout (windows_of gs ts) j ≡ resized_layout rows (layout (windows_of hs ss) i)
-resized_made {T} hs gs ss ts i j n rows e most made also at =
-    let ws = windows_of hs ss in
-    let paired : length (take n hs) ≡ length (take n ss) = length-take n hs ∙ ap (min n) e ∙ sym (length-take n ss) in
-    let stay : staying rows ws ≡ windows_of (take n hs) (take n ss) = ap (λ k. take k ws) (sym most) ∙ staying-windows_of n hs ss in
-    let tops : heights (staying rows ws) ≡ take n hs = ap heights stay ∙ heights-windows_of (take n hs) (take n ss) paired in
-    let seen : all_shown (staying rows ws) ≡ take n ss = ap all_shown stay ∙ shown-windows_of (take n hs) (take n ss) paired in
-    let windows : windows_of gs ts ≡ resized rows ws =
-    ap₂ (λ xs (ys : List T). windows_of xs ys) (made ∙ ap (shared (rows - 1)) (sym tops)) (also ∙ sym seen) in
-    let count : length gs ≡ length (staying rows ws) =
-    ap length made ∙ length-shared (rows - 1) (take n hs) ∙ sym (length-windows_of (take n hs) (take n ss) paired) ∙ ap length (sym stay) in
-    ap₂ (λ (vs : List (Window T)) k. layout vs k) windows (at ∙ ap (λ k. min i (k - 1)) count)
+resized_made {T} hs gs ss ts i j n rows e most made also at = grind (arith, length-take, staying-windows_of, heights-windows_of, shown-windows_of, length-shared, length-windows_of)
 
 pub resized_kept : {T : Type 0} (hs gs : List ℕ) (ss ts : List T) (i j n old rows : ℕ) → AreKeptWindows hs ss i old → 3 ≤ rows → rows ≤ most_rows → n ≡ (rows - 1) / 2
     → gs ≡ shared (rows - 1) (take n hs) → ts ≡ take n ss → j ≡ min i (length gs - 1) → AreKeptWindows gs ts j rows
@@ -131,25 +110,7 @@ length-heights (w ∷ ws) = ap suc (length-heights ws)
 shared_same : {T : Type 0} (ws : List (Window T)) → IsTall ws → shared (rows_of ws) (heights ws) ≡ heights ws
 shared_same [] tall = refl
 shared_same (w ∷ []) tall = let is : w.height + 1 + 0 - 1 ≡ w.height = omega arith in ap (λ h. h ∷ []) is
-shared_same (w ∷ v ∷ ws) tall =
-    let room = rows_of (w ∷ v ∷ ws) in
-    let others = rows_of (v ∷ ws) in
-    let fits = two_rows_each (v ∷ ws) tall.1 in
-    let keeps : min w.height (room - 2 * (length (heights ws) + 1) - 1) ≡ w.height = min-eq_left (omega (arith, fits, length-heights ws)) in
-    let left : room - (w.height + 1) ≡ others = omega arith in
-    ap (λ h. h ∷ shared (room - (h + 1)) (heights (v ∷ ws))) keeps
-    ∙ ap (λ n. w.height ∷ shared n (heights (v ∷ ws))) left
-    ∙ ap (λ hs. w.height ∷ hs) (shared_same (v ∷ ws) tall.1)
+shared_same (w ∷ v ∷ ws) tall = grind (arith, two_rows_each, min-eq_left, length-heights, shared_same (v ∷ ws) tall.1)
 
 pub resized_same : {T : Type 0} (rows : ℕ) (l : Layout T) → FillsRows rows l → resized_layout rows l ≡ l
-resized_same {T} rows l filled =
-    let whole : rows - 1 ≡ rows_of l.windows = omega (arith, filled.whole) in
-    let fits = two_rows_each l.windows filled.tall in
-    let all : staying rows l.windows ≡ l.windows = take_all ((rows - 1) / 2) l.windows (omega (arith, fits, whole)) in
-    let windows : resized rows l.windows ≡ l.windows =
-    ap (λ ws. windows_of (shared (rows - 1) (heights ws)) (all_shown ws)) all
-    ∙ ap (λ n. windows_of (shared n (heights l.windows)) (all_shown l.windows)) whole
-    ∙ ap (λ hs. windows_of hs (all_shown l.windows)) (shared_same l.windows filled.tall)
-    ∙ paired_back l.windows in
-    let here : min l.current (length (staying rows l.windows) - 1) ≡ l.current = min-eq_left (omega (arith, filled.here, ap length all)) in
-    ap₂ (λ (ws : List (Window T)) i. layout ws i) windows here
+resized_same {T} rows l filled = grind (arith, two_rows_each, take_all, shared_same, paired_back, min-eq_left)

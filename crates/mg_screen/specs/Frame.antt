@@ -1,6 +1,7 @@
 -- The rows of the whole screen.
 use Rattle.std.specs.Prelude.{ℕ, Bool, ◌+◌, List, [], ◌∷◌, ◌++◌, drop, codes, chars, sum_by, if◌then◌else◌, suc, zero}
 use Rattle.std.specs.Fmt.{decimal}
+use Rattle.std.specs.List.{flat_map}
 use Rattle.mg_screen.specs.Screen.{Pane, Screen}
 use Rattle.mg_screen.specs.Lines.{lines, line_index, column_of}
 use Rattle.mg_screen.specs.Rows.{text_row, filled_row, cut_row}
@@ -34,14 +35,12 @@ abbrev pub pane_rows : ℕ → Pane → List (List ℕ)
 pane_rows columns p =
     text_rows columns p.height (drop p.first (lines p.text)) ++ filled_row columns (chars (mode_text p)) ∷ []
 
--- the rows of all windows
-abbrev pub panes_rows : ℕ → List Pane → List (List ℕ)
-panes_rows columns [] = []
-panes_rows columns (p ∷ ps) = pane_rows columns p ++ panes_rows columns ps
+-- the rows of the screen: those of its windows, each of which has these, and the echo line
+abbrev pub rows_by : (Pane → List (List ℕ)) → ℕ → Screen → List (List ℕ)
+rows_by rows columns s = flat_map rows s.panes ++ cut_row columns (chars s.echo) ∷ []
 
--- the rows of the screen: those of its windows, and the echo line
 abbrev pub frame_rows : ℕ → Screen → List (List ℕ)
-frame_rows columns s = panes_rows columns s.panes ++ cut_row columns (chars s.echo) ∷ []
+frame_rows columns s = rows_by (pane_rows columns) columns s
 
 -- how many rows the screen has
 abbrev pub screen_rows : Screen → ℕ

@@ -1,12 +1,15 @@
 -- Rows of the screen.
 use Rattle.std.specs.Prelude.{ℕ, ◌-◌, List, [], ◌∷◌, ◌++◌, replicate, if◌then◌else◌, nat_le}
-use Rattle.mg_screen.specs.Cells.{cells, width_of, shown_cells, cells_within}
+use Rattle.mg_screen.specs.Cells.{Cell, cells, width_of, shown_cells, cells_within}
 
--- a line of a text: whole where it is not too wide, else what leaves room for a dollar sign
+-- a row of cells: of all where they are not too wide, else of those that leave room for a dollar sign
+abbrev pub row_of : ℕ → List Cell → List ℕ
+row_of columns cs =
+    if nat_le (width_of cs) columns then shown_cells cs else shown_cells (cells_within (columns - 1) cs) ++ 36 ∷ []
+
+-- a line of a text
 abbrev pub text_row : ℕ → List ℕ → List ℕ
-text_row columns line =
-    if nat_le (width_of (cells line)) columns then shown_cells (cells line)
-    else shown_cells (cells_within (columns - 1) (cells line)) ++ 36 ∷ []
+text_row columns line = row_of columns (cells line)
 
 -- as much of a text as has room
 abbrev pub cut_row : ℕ → List ℕ → List ℕ

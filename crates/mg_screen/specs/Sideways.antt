@@ -1,12 +1,13 @@
 -- Rows that begin further right, so that they show point, and the cursors in them.
-use Rattle.std.specs.Prelude.{◌≡◌, ◌≤◌, ◌<◌, ℕ, ◌+◌, ◌-◌, ◌/◌, ◌%◌, Bool, zero, suc, List, [], ◌∷◌, ◌++◌, length, take, slice_set, replicate, Option, Some, None, chars, slice_get, if◌then◌else◌, nat_le, nat_lt, nat_eq, ◌&&◌, ◌||◌}
+use Rattle.std.specs.Prelude.{◌≡◌, ◌≤◌, ◌<◌, ℕ, ◌+◌, ◌-◌, ◌/◌, ◌%◌, Bool, List, [], ◌∷◌, length, take, slice_set, replicate, Option, Some, None, slice_get, if◌then◌else◌, nat_le, nat_lt, nat_eq, ◌&&◌, ◌||◌}
 use Rattle.std.specs.Option.{option_and_then}
 use Rattle.mg_screen.specs.declared.screen.Position.{Position}
 use Rattle.mg_screen.specs.Screen.{Pane, Screen}
 use Rattle.mg_screen.specs.Lines.{line_index, column_of, shows_line}
 use Rattle.mg_screen.specs.Cells.{Cell, cell, cells, cells_from, width_of, shown_cells, cells_within}
-use Rattle.mg_screen.specs.Rows.{cut_row}
-use Rattle.mg_screen.specs.Frame.{pane_rows}
+use Rattle.mg_screen.specs.Rows.{row_of}
+use Rattle.mg_screen.specs.Frame.{pane_rows, rows_by}
+pub use Rattle.mg_screen.specs.Frame.{frame_rows, screen_rows}
 use Rattle.mg_screen.specs.Cursor.{position, place_line, shows_point, pane_cursor, rows_above}
 
 -- the column behind so many characters of a line
@@ -29,11 +30,6 @@ cell_behind n x = if nat_eq n 0 then x else cell (replicate (x.width - n) 32) (x
 abbrev pub cells_behind : ℕ → List Cell → List Cell
 cells_behind n [] = []
 cells_behind n (x ∷ xs) = if nat_le x.width n then cells_behind (n - x.width) xs else cell_behind n x ∷ xs
-
--- a row of cells: of all where they are not too wide, else of those that leave room for a dollar sign
-abbrev pub row_of : ℕ → List Cell → List ℕ
-row_of columns cs =
-    if nat_le (width_of cs) columns then shown_cells cs else shown_cells (cells_within (columns - 1) cs) ++ 36 ∷ []
 
 -- the cells of a line behind the dollar sign with which its row begins, so that it shows this column
 abbrev pub cells_right : ℕ → ℕ → List ℕ → List Cell
@@ -66,14 +62,12 @@ moved_rows columns p (Some column) =
 abbrev pub pane_rows_at_point : ℕ → Pane → List (List ℕ)
 pane_rows_at_point columns p = moved_rows columns p (column_beyond columns p)
 
--- the rows of all windows
-abbrev pub panes_rows_at_point : ℕ → List Pane → List (List ℕ)
-panes_rows_at_point columns [] = []
-panes_rows_at_point columns (p ∷ ps) = pane_rows_at_point columns p ++ panes_rows_at_point columns ps
+-- the same, or the plain rows
+abbrev pub pane_rows_by : Bool → ℕ → Pane → List (List ℕ)
+pane_rows_by at_point columns p = if at_point then pane_rows_at_point columns p else pane_rows columns p
 
--- the rows of the screen: those of its windows, and the echo line
 abbrev pub rows_at_point : ℕ → Screen → List (List ℕ)
-rows_at_point columns s = panes_rows_at_point columns s.panes ++ cut_row columns (chars s.echo) ∷ []
+rows_at_point columns s = rows_by (pane_rows_at_point columns) columns s
 
 -- the cursor of a window that stands below so many rows: as ever, but where the column of point is beyond
 abbrev pub moved_cursor : ℕ → ℕ → Pane → Option ℕ → Option Position
@@ -137,9 +131,6 @@ abbrev pub IsNear : ℕ → Pane → Type 0
 IsNear columns p = width_before (column_of p.text p.point) (place_line p.text p.point) + 1 < columns
 
 -- what is left of a line: so many blanks in place of a cell that is cut, and the cells of characters from a column on
-abbrev pub blank_cells : ℕ → List Cell
-blank_cells zero = []
-blank_cells (suc n) = cell (replicate (suc n) 32) (suc n) ∷ []
-
 abbrev pub rest_cells : ℕ → ℕ → List ℕ → List Cell
-rest_cells blanks column line = blank_cells blanks ++ cells_from column line
+rest_cells blanks column line =
+    if nat_eq blanks 0 then cells_from column line else cell (replicate blanks 32) blanks ∷ cells_from column line

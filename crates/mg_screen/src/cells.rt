@@ -64,13 +64,6 @@ pub(crate) fn width_between(line: &[char], start: usize, end: usize) -> Option<u
     Some(column - start)
 }
 
-/// The width of a line where it is at most `most`.
-pub(crate) fn width_within(line: &[char], most: usize) -> Option<usize>
-    ensures { result ≡ spec.width_if (spec.cells line.now) most }
-{
-    width_between(line, 0, most)
-}
-
 /// The width of the longest beginning of whole cells of a line that begins at a column, where that
 /// is not to end behind `end`.
 pub(crate) fn beginning_between(line: &[char], start: usize, end: usize) -> usize
@@ -90,14 +83,7 @@ pub(crate) fn beginning_between(line: &[char], start: usize, end: usize) -> usiz
     column - start
 }
 
-/// The width of the longest beginning of whole cells of a line whose width is at most `most`.
-pub(crate) fn beginning_width(line: &[char], most: usize) -> usize
-    ensures { result ≡ spec.width_of (spec.cells_within most (spec.cells line.now)) }
-{
-    beginning_between(line, 0, most)
-}
-
-/// The same of a text.
+/// The width of the longest beginning of whole cells of a text whose width is at most `most`.
 pub(crate) fn text_width(text: &str, most: usize) -> usize
     ensures { result ≡ spec.width_of (spec.cells_within most (spec.cells (chars text.now))) }
 {
@@ -134,12 +120,4 @@ pub(crate) fn push_between(
         column += width;
     }
     Ok(())
-}
-
-/// Writes the longest beginning of whole cells of a line whose width is at most `most`.
-pub(crate) fn push_beginning(row: &mut String, line: &[char], most: usize) -> Result<(), AllocError>
-    ensures { let cells = spec.cells_within most (spec.cells line.now) in
-        OnOk result (AddsCharacters (spec.shown_cells cells) row.old row.new) }
-{
-    push_between(row, line, 0, most)
 }

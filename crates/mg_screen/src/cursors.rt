@@ -5,7 +5,7 @@ ghost use Rattle.mg_screen.specs.Cells.{width_of};
 ghost use Rattle.mg_screen.specs.Frame.{screen_rows};
 ghost use Rattle.mg_screen.specs.Cursor as spec;
 
-use crate::cells::{beginning_width, text_width, width_within};
+use crate::cells::{beginning_between, text_width, width_between};
 use crate::lines::{column_of, line_at};
 use crate::screen::{Pane, Position, Screen};
 
@@ -14,9 +14,9 @@ fn row_width(columns: usize, line: &[char]) -> usize
     requires { 0 < columns }
     ensures { result ≡ width_of (spec.row_cells columns line.now) }
 {
-    match width_within(line, columns) {
+    match width_between(line, 0, columns) {
         Some(width) => width,
-        None => beginning_width(line, columns - 1),
+        None => beginning_between(line, 0, columns - 1),
     }
 }
 
@@ -27,7 +27,7 @@ fn column_behind(columns: usize, line: &[char], count: usize) -> usize
     ensures { result ≡ spec.column_behind columns line.now count }
 {
     let last = row_width(columns, line).min(columns - 1);
-    match width_within(&line[..count], last) {
+    match width_between(&line[..count], 0, last) {
         Some(width) => width,
         None => last,
     }
@@ -59,13 +59,15 @@ pub(crate) fn pane_cursor(columns: usize, above: usize, pane: &Pane) -> Option<P
     })
 }
 
-/// The rows of windows, each with its mode line.
-pub(crate) fn rows_of_panes(panes: &[Pane]) -> usize
-    requires { sum_by (λ p. p.height + 1) panes.now ≤ most_rows }
-    ensures { result ≡ sum_by (λ p. p.height + 1) panes.now }
+/// The rows of the windows above an index, each with its mode line.
+pub(crate) fn rows_above(screen: &Screen, index: usize) -> usize
+    requires rows_to { screen_rows screen.now ≤ most_rows }
+    requires within { index ≤ length screen.now.panes }
+    ensures exact { result ≡ spec.rows_above index screen.now.panes }
+    ensures few { result < most_rows }
 {
     let mut rows = 0;
-    for pane in panes {
+    for pane in &screen.panes[..index] {
         rows += pane.height + 1;
     }
     rows
@@ -82,8 +84,7 @@ pub fn cursor(columns: usize, screen: &Screen, index: usize) -> Option<Position>
     ensures { result ≡ spec.cursor columns screen.now index }
 {
     let pane = screen.panes.get(index)?;
-    let above = rows_of_panes(&screen.panes[..index]);
-    pane_cursor(columns, above, pane)
+    pane_cursor(columns, rows_above(screen, index), pane)
 }
 
 /// Where the cursor of a frame stands that is behind the text of the echo line: in the last row, at
@@ -94,7 +95,7 @@ pub fn echo_cursor(columns: usize, screen: &Screen) -> Position
     ensures { result ≡ spec.echo_cursor columns screen.now }
 {
     Position {
-        row: rows_of_panes(&screen.panes),
+        row: rows_above(screen, screen.panes.as_slice().len()),
         column: text_width(screen.echo.as_str(), columns).min(columns - 1),
     }
 }

@@ -15,17 +15,20 @@ ghost use Rattle.mg_screen.specs.Sideways.{cursor_at_point, cell_of_place, IsNea
 
 /// What is kept of cells that have too little room is their longest beginning: it fits, and each
 /// longer one is too wide.
+#[tactic(auto, using(crate::proofs::CellLaws::is_longest))]
 pub fn a_beginning_is_the_longest()
     ensures { (most : ℕ) (all : List Cell) → IsLongest most all (cells_within most all) }
 {}
 
 /// A window shows the line of point, in one of its text rows, from its `first_line` on.
+#[tactic(auto, using(crate::proofs::CursorLaws::placed_shows))]
 pub fn a_window_shows_point()
     ensures { (text : List ℕ) (point first height : ℕ) → 0 < height →
         shows_line (first_line text point first height) height (line_index text point) ≡ true }
 {}
 
 /// The cursor stands in a row and a column of the frame, in the echo line in the last row.
+#[tactic(auto, using(crate::proofs::CursorLaws::cursor_within, crate::proofs::CursorLaws::echo_within))]
 pub fn the_cursor_is_in_the_frame()
     ensures window { (columns index : ℕ) (s : Screen) (at : Position) →
         0 < columns → cursor columns s index ≡ Some at →
@@ -57,12 +60,14 @@ pub fn the_cursor_is_on_the_sign_of_a_cut_line()
 {}
 
 /// A screen of as many rows as before leaves the windows as they are.
+#[tactic(auto, using(crate::proofs::ResizeLaws::resized_same))]
 pub fn the_same_rows_change_no_window<T: Copy>()
     ensures { (rows : ℕ) (l : Layout T) → FillsRows rows l → resized_layout rows l ≡ l }
 {}
 
 /// Where in each window the column of point is before the last one, the rows and the cursors are
 /// those of a plain frame.
+#[tactic(auto, using(crate::proofs::SidewaysCursorLaws::near_rows, crate::proofs::SidewaysCursorLaws::near_cursor))]
 pub fn a_near_point_moves_nothing()
     ensures rows { (columns : ℕ) (s : Screen) → All (IsNear columns) s.panes →
         rows_at_point columns s ≡ frame_rows columns s }
@@ -72,6 +77,7 @@ pub fn a_near_point_moves_nothing()
 
 /// A row that begins further right has the column of point within its middle half: at least a
 /// quarter of the columns stand before it, and at least one behind it.
+#[tactic(auto, using(crate::proofs::SidewaysCursorLaws::middle_half))]
 pub fn a_column_beyond_comes_into_the_middle()
     ensures { (columns column : ℕ) → least_columns ≤ columns → columns ≤ column + 1 →
         let at = column - left_of columns column in
@@ -79,6 +85,7 @@ pub fn a_column_beyond_comes_into_the_middle()
 {}
 
 /// Each row shows cells that are together no wider than the screen.
+#[tactic(auto, using(crate::proofs::SidewaysCellLaws::rows_have_room))]
 pub fn each_row_has_room()
     ensures { (columns : ℕ) (s : Screen) → 1 < columns →
         All (IsWithin columns) (rows_at_point columns s) }

@@ -5,9 +5,8 @@ ghost use Rattle.mg_screen.specs.Cells.{cells, cell_of, cells_from, width_of, ta
 ghost use Rattle.mg_screen.specs.Written.{Spells};
 ghost use Rattle.mg_screen.specs.Sideways as spec;
 
-use crate::cells::{
-    TAB_STOP, beginning_between, cell_width, push_between, push_times, width_between, width_within,
-};
+use crate::cells::{TAB_STOP, beginning_between, cell_width, push_times, width_between};
+use crate::rows::push_line;
 use std::alloc::{AllocError, Global};
 
 /// What is left of a line behind some columns: blanks in place of a cell that is cut, and then
@@ -45,7 +44,7 @@ pub(crate) fn line_beyond(columns: usize, line: &[char], count: usize) -> Option
     if column + 1 < columns {
         return None;
     }
-    match width_within(line, columns) {
+    match width_between(line, 0, columns) {
         Some(_) => None,
         None => Some(column),
     }
@@ -125,13 +124,21 @@ pub(crate) fn sideways_row(
     let mut row = String::new(alloc);
     row.push('$')?;
     push_times(&mut row, ' ', rest.blanks)?;
-    if width_between(rest.line, rest.column, end).is_some() {
-        push_between(&mut row, rest.line, rest.column, end)?;
-        return Ok(row);
-    }
-    push_between(&mut row, rest.line, rest.column, end - 1)?;
-    row.push('$')?;
+    push_line(&mut row, rest.line, rest.column, end)?;
     Ok(row)
+}
+
+/// Up to which column, from the first on, the row of the cells of a line that begins at a column
+/// shows what it is of, where it ends at `end` at the latest.
+pub(crate) fn row_end(line: &[char], start: usize, end: usize) -> usize
+    requires { start < end }
+    ensures exact { result ≡ spec.row_end (end - start) (cells_from start line.now) }
+    ensures fits { result ≤ end - start }
+{
+    if width_between(line, start, end).is_some() {
+        return end - start;
+    }
+    beginning_between(line, start, end - 1)
 }
 
 /// Up to which column the row that shows this column of a line shows what it is of.
@@ -143,8 +150,5 @@ pub(crate) fn sideways_end(columns: usize, line: &[char], column: usize) -> usiz
 {
     let rest = rest_behind(line, left_of(columns, column) + 1);
     let end = rest.column + (columns - 1 - rest.blanks);
-    if width_between(rest.line, rest.column, end).is_some() {
-        return columns;
-    }
-    1 + rest.blanks + beginning_between(rest.line, rest.column, end - 1)
+    1 + rest.blanks + row_end(rest.line, rest.column, end)
 }

@@ -1,17 +1,15 @@
 //! Where cursors stand in a frame in which each window shows point.
 ghost use Rattle.std.specs.Prelude.{◌≡◌, ℕ, ◌≤◌, ◌<◌, ◌+◌, length, IfSome};
 ghost use Rattle.mg_screen.specs.Size.{most_rows, least_columns, most_columns};
-ghost use Rattle.mg_screen.specs.Cells.{cells};
 ghost use Rattle.mg_screen.specs.Lines.{line_index};
 ghost use Rattle.mg_screen.specs.Frame.{screen_rows};
 ghost use Rattle.mg_screen.specs.Sideways as spec;
 
-use crate::cells::{beginning_width, width_within};
-use crate::cursors::{pane_cursor, rows_of_panes};
+use crate::cursors::{pane_cursor, rows_above};
+use crate::frames::column_beyond;
 use crate::lines::{column_of, line_at, newlines_of};
 use crate::screen::{Pane, Position, Screen};
-use crate::sideways::{left_of, line_width, sideways_end};
-use crate::sideways_frames::column_beyond;
+use crate::sideways::{left_of, line_width, row_end, sideways_end};
 
 /// The cursor of a window that stands below so many rows.
 fn pane_cursor_at_point(columns: usize, above: usize, pane: &Pane) -> Option<Position>
@@ -38,8 +36,7 @@ pub fn cursor_at_point(columns: usize, screen: &Screen, index: usize) -> Option<
     ensures { result ≡ spec.cursor_at_point columns screen.now index }
 {
     let pane = screen.panes.get(index)?;
-    let above = rows_of_panes(&screen.panes[..index]);
-    pane_cursor_at_point(columns, above, pane)
+    pane_cursor_at_point(columns, rows_above(screen, index), pane)
 }
 
 /// The line of a place.
@@ -51,17 +48,6 @@ fn line_of_place(pane: &Pane, place: usize) -> usize
         return pane.line - newlines_of(&pane.text[place..pane.point]);
     }
     pane.line + newlines_of(&pane.text[pane.point..place])
-}
-
-/// Up to which column the plain row of a line shows what it is of.
-fn row_end(columns: usize, line: &[char]) -> usize
-    requires { 0 < columns }
-    ensures { result ≡ spec.row_end columns (cells line.now) }
-{
-    match width_within(line, columns) {
-        Some(_) => columns,
-        None => beginning_width(line, columns - 1),
-    }
 }
 
 /// A column, where it is before an end.
@@ -85,7 +71,7 @@ fn shown_column(
     ensures { result ≡ spec.shown_column columns line.now column beyond }
 {
     let Some(point) = beyond else {
-        return column_before(row_end(columns, line), column);
+        return column_before(row_end(line, 0, columns), column);
     };
     let left = left_of(columns, point);
     if column <= left {
@@ -166,6 +152,5 @@ pub fn cell_of_place(
     ensures { result ≡ spec.cell_of_place columns screen.now index place }
 {
     let pane = screen.panes.get(index)?;
-    let above = rows_of_panes(&screen.panes[..index]);
-    pane_cell(columns, above, place, pane)
+    pane_cell(columns, rows_above(screen, index), place, pane)
 }

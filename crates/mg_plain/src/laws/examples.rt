@@ -8,7 +8,7 @@ ghost use Rattle.mg_plain.specs.Commands.{effect};
 ghost use Rattle.mg_plain.specs.Splices.{splice};
 ghost use Rattle.mg_plain.specs.Effect.{edit_effect, motion};
 ghost use Rattle.mg_plain.specs.Examples.{plain_view, text_and_point, outcome, point_of, kill_buffer, kill_of, after_kill, five_lines, short_line};
-ghost use Rattle.mg_plain.specs.Filling.{fill_paragraph};
+ghost use Rattle.mg_plain.specs.Gaps.{fill_paragraph};
 ghost use Rattle.mg_plain.specs.Replacement.{search_forward, search_backward, replace_all};
 
 /// Steps over the words of `foo, bar`.

@@ -1,6 +1,6 @@
 //! Filling, in words.
 ghost use Rattle.std.specs.Prelude.{ℕ};
-ghost use Rattle.mg_plain.specs.Filling.{fill_paragraph};
+ghost use Rattle.mg_plain.specs.Gaps.{fill_paragraph};
 ghost use Rattle.mg_plain.specs.Situation.{Situation, IsView};
 ghost use Rattle.mg_plain.specs.Layout.{AreOfBlanks};
 

@@ -4,7 +4,7 @@ use Rattle.mg_plain.specs.Answer.{IsEffectAnswer}
 use Rattle.mg_plain.specs.Effect.{edit_effect}
 use Rattle.mg_plain.specs.Gaps.{paragraph_filling}
 use Rattle.mg_plain.specs.Situation.{Situation}
-use Rattle.mg_plain.proofs.filling.fill_paragraph.Goals as goal
+use Rattle.mg_plain.proofs.gaps.fill_paragraph.Goals as goal
 
 pub returns : goal.returns
 returns c =
