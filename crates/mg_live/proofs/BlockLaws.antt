@@ -1,26 +1,32 @@
 -- A session stands after the end of a block, and what is told is in the log.
-use Rattle.std.proofs.Common.{arith, ◌≡◌, inl, inr, ◌∙◌, ◌++◌, ◌&&◌, ℕ, Bool, true, false, List, [], length, Option, Some, None, refl, sym, ap, subst, nat_eq}
-use Rattle.std.specs.Prelude.{encode_utf8_all, if◌then◌else◌}
+use Rattle.std.proofs.Common.{◌≡◌, ◌≢◌, inl, ◌∙◌, ◌<◌, ◌+◌, ◌++◌, arith, ℕ, zero, Bool, true, false, List, [], ◌∷◌, length, Option, Some, refl, sym, ap, subst, append_assoc, append-nil, inr, ◌&&◌, None, nat_eq, get_or}
 use Rattle.std.specs.List.{Contains}
+use Rattle.std.proofs.lemmas.List.{append_cancel_left, get_or_default, nil_from_length}
+use Rattle.std.proofs.lemmas.List.Elements.{Contains-append_right, Contains-get_or}
+use Rattle.std.proofs.lemmas.Option.{same_Some}
+use Rattle.std.specs.Prelude.{encode_utf8_all, if◌then◌else◌}
 use Rattle.std.specs.Str.{all_scalars}
 use Rattle.std.proofs.lemmas.Bool.{eqb-true}
-use Rattle.std.proofs.lemmas.List.{nil_from_length}
+use Rattle.mg_buffer.specs.OpenState.{OpenState}
+use Rattle.mg_files.specs.Calls.{Call}
+use Rattle.mg_files.specs.Held.{Held, MayLead}
+use Rattle.mg_workspace.specs.Buffers.{buffer_at, no_buffer, Buffers}
+use Rattle.mg_editor.specs.Holding.{HaveOwnNames, GoesOn, IsOpen}
+use Rattle.mg_editor.specs.declared.live_saving.Writing.{Writing}
+use Rattle.mg_editor.proofs.CallLaws.{AllSpare, all_spared, both_spare}
+use Rattle.mg_editor.proofs.CourseLaws.{save_goes}
+use Rattle.mg_editor.proofs.EachLaws.{stay_here, nothing_made}
+use Rattle.mg_editor.proofs.SweepLaws.{saved_as}
+use Rattle.mg_editor.proofs.SweepSteps.{swept_goes, own_names_stay}
 use Rattle.rga_ops.specs.Content.{join, content_of}
 use Rattle.rga_ops.specs.declared.op.Op.{Op}
 use Rattle.rga_ops.proofs.ContentLaws.{join_nothing}
 use Rattle.rga_ops.proofs.OperationLaws.{Contains-nil}
-use Rattle.mg_buffer.specs.OpenState.{OpenState}
-use Rattle.mg_files.specs.Calls.{Call}
-use Rattle.mg_files.specs.Held.{Held, MayLead}
-use Rattle.mg_workspace.specs.Buffers.{Buffers, buffer_at}
 use Rattle.mg_editor.specs.Editors.{Editor}
-use Rattle.mg_editor.specs.Holding.{GoesOn, HaveOwnNames, IsOpen}
-use Rattle.mg_editor.specs.LiveSaving as saving
-use Rattle.mg_editor.specs.declared.live_saving.Writing.{Writing}
-use Rattle.mg_editor.proofs.EachLaws.{stay_here, nothing_made}
-use Rattle.mg_editor.proofs.SweepSteps.{own_names_stay, swept_goes}
 use Rattle.mg_session.specs.Moments.{StepIf}
 use Rattle.mg_session.proofs.TakenLaws.{after_step}
+use Rattle.mg_editor.specs.LiveSaving as saving
+use Rattle.mg_live.proofs.StageLaws.{GoOn}
 use Rattle.mg_live.specs.Blocks.{EndsBlock, Tells, Writes, can_tell, has_more, reported, saves_due, told_operations, with_told, writing_due}
 use Rattle.mg_live.specs.Made.{live_index, unsaved_at}
 use Rattle.mg_live.specs.Standing.{AreHeld, AreInLog, AreKept, AreSafe, Stands, live_name}
@@ -28,10 +34,51 @@ use Rattle.mg_live.specs.States.{Live, Moment}
 use Rattle.mg_live.specs.Statuses.{Shows, can_show}
 use Rattle.mg_live.proofs.KeyLaws.{StandsSo, goes_on, stands_at, stands_so}
 use Rattle.mg_live.proofs.NameLaws.{found_so, none_so, open_or_not}
-use Rattle.mg_live.proofs.NumberLaws.{KeepsNumbers, numbers_on, same_numbers}
-use Rattle.mg_live.proofs.StageLaws.{GoOn}
-use Rattle.mg_live.proofs.ToldLaws.{redrawn}
-use Rattle.mg_live.proofs.WritingLaws.{sweep_goes_on}
+use Rattle.mg_live.proofs.ShapeLaws.{KeepsNumbers, numbers_on, same_numbers}
+use Rattle.mg_live.proofs.ToldLaws.{redrawn, swept_alike}
+
+-- ---- writings of buffers in turn
+
+-- calls that leave what is held under the names that these buffers do not have
+record Spares (bs : List OpenState) (before : List Call) (new : Option (List Call)) : Type 0 where
+  made : List Call
+  told : new ≡ Some (before ++ made)
+  spares : (name : List ℕ) → ((b : OpenState) → Contains bs b → b.buffer.name ≢ name) → AllSpare name made
+
+no_calls : (bs : List OpenState) (before : List Call) (new : Option (List Call)) → new ≡ Some before → Spares bs before new
+no_calls bs before new is = record { made = []; told = is ∙ ap Some (sym (append-nil before)); spares = λ name other. tt }
+
+turn_spares : (due : Bool) (writing : Writing) (i : ℕ) (b d : OpenState) (bs : List OpenState) (old mid : saving.Course) (before : List Call) → saving.is_due writing i b ≡ due
+    → old.calls ≡ Some before → saving.TakesTurn due writing i b d old mid → Spares (b ∷ bs) before mid.calls
+turn_spares false writing i b d bs old mid before at is (same, stays) = no_calls (b ∷ bs) before mid.calls (ap (λ (c : saving.Course). c.calls) stays ∙ is)
+turn_spares true writing i b d bs old mid before at is (ended, w) =
+    let save = saved_as writing i ended old.calls mid.calls b d at w.writes in
+    let course = save_goes save.0 before old.calls mid.calls b d is save.1 in
+    record { made = course.made; told = course.told; spares = λ name other. course.spares name (other b (zero, omega arith, refl)) }
+
+sweep_spares : (writing : Writing) (n : ℕ) (bs ds : List OpenState) (old new : saving.Course) (before : List Call) → old.calls ≡ Some before
+    → saving.Sweeps writing n bs ds old new → Spares bs before new.calls
+sweep_spares writing n [] [] old new before is s = no_calls [] before new.calls (ap (λ (c : saving.Course). c.calls) s ∙ is)
+sweep_spares writing n [] (d ∷ ds) old new before is s = absurd s
+sweep_spares writing n (b ∷ bs) [] old new before is s = absurd s
+sweep_spares writing n (b ∷ bs) (d ∷ ds) old new before is (mid, turn, rest) =
+    let one = turn_spares (saving.is_due writing n b) writing n b d bs old mid before refl is turn in
+    let more = sweep_spares writing (n + 1) bs ds mid new (before ++ one.made) one.told rest in
+    record {
+      made = one.made ++ more.made;
+      told = more.told ∙ ap Some (append_assoc before one.made more.made);
+      spares = λ name other. both_spare name one.made more.made (one.spares name other) (more.spares name (λ x c. other x (Contains-append_right (b ∷ []) bs x c)));
+    }
+
+-- each name stays open
+named_still : (writing : Writing) (bs ds : List OpenState) (old new : saving.Course) → saving.Sweeps writing 0 bs ds old new → (b : OpenState) → Contains bs b
+    → (d : OpenState) × Contains ds d × (d.buffer.name ≡ b.buffer.name)
+named_still writing bs ds old new sweep b (k, lt, at) =
+    let (count, same) = swept_alike writing 0 bs ds old new sweep in (
+      get_or ds k no_buffer,
+      Contains-get_or ds k no_buffer (subst (λ n. k < n) (sym count) lt),
+      (same k).0 ∙ ap (λ (x : OpenState). x.buffer.name) (get_or_default bs k no_buffer b lt ∙ at),
+    )
 
 -- ---- a status changes none of it
 
@@ -44,13 +91,7 @@ pub record Same (a b : Moment) : Type 0 where
   pub numbers : KeepsNumbers a.editor.work b.editor.work
 
 same_as : (a b : Moment) → b ≡ a → Same a b
-same_as a b is = record {
-  buffers = ap (λ (m : Moment). m.editor.work.buffers) is;
-  untold = ap (λ (m : Moment). m.live.telling.untold) is;
-  name = ap (λ (m : Moment). m.live.name) is;
-  calls = ap (λ (m : Moment). m.calls) is;
-  numbers = same_numbers a.editor.work b.editor.work (ap (λ (m : Moment). m.editor.work) is);
-}
+same_as a b is = grind arith
 
 shown_same : {fresh more : Bool} {told : List ℕ} (a b : Moment) → Shows fresh more told a b → Same a b
 shown_same a b shows =
@@ -87,31 +128,38 @@ abbrev course_of : Moment → saving.Course
 course_of m = saving.course m.calls m.faults m.editor.work.failures m.live.saved
 
 module _ (s t : Held) (told made : List Call) (leads : MayLead made s t) where
-  -- nothing is written
-  stayed : (name : List ℕ) (a b : Moment) → b ≡ a → a.calls ≡ Some told → b.calls ≡ Some (told ++ made) → GoOn name a.editor.work b.editor.work s t
-  stayed name a b is calls adds =
-      let none : Some (told ++ made) ≡ Some told = sym adds ∙ ap (λ (m : Moment). m.calls) is ∙ calls in
-      let all : b.editor.work.buffers.all ≡ a.editor.work.buffers.all = ap (λ (m : Moment). m.editor.work.buffers.all) is in
-      let still = nothing_made told made s t none leads in
-      record {
-        each = λ d c. inl ([], stay_here a.editor.work.buffers b.editor.work.buffers.all s t all still d c);
-        removed = λ x c at gone. absurd (gone (x, subst (λ (l : List OpenState). Contains l x) (sym all) c, at));
-        spared = λ closed. still name;
-      }
+  write_each : (writing : Option Writing) (a b : Moment) → StandsAt s a → Writes writing a b → a.calls ≡ Some told → b.calls ≡ Some (told ++ made)
+      → (d : OpenState) → Contains b.editor.work.buffers.all d → GoesOn [] a.editor.work.buffers s d t
+  write_each None a b stands is calls adds =
+      stay_here a.editor.work.buffers b.editor.work.buffers.all s t (ap (λ (m : Moment). m.editor.work.buffers.all) is)
+      (nothing_made told made s t (sym adds ∙ ap (λ (m : Moment). m.calls) is ∙ calls) leads)
+  write_each (Some writing) a b stands (swept, is) calls adds =
+      swept_goes writing told made a.editor.work.buffers b.editor.work.buffers.all (course_of a) (course_of b) s t stands.kept.are stands.own calls adds swept leads
 
   write_goes : (name : List ℕ) (writing : Option Writing) (a b : Moment) → StandsAt s a → Writes writing a b → a.calls ≡ Some told → b.calls ≡ Some (told ++ made)
       → GoOn name a.editor.work b.editor.work s t
-  write_goes name None a b stands is calls adds = stayed name a b is calls adds
-  write_goes name (Some writing) a b stands (swept, is) calls adds =
-      sweep_goes_on name writing told made a.editor.work b.editor.work (course_of a) (course_of b) s t stands.kept.are stands.own calls adds swept leads
+  write_goes name None a b stands is calls adds = record {
+    each = λ d c. inl ([], write_each None a b stands is calls adds d c);
+    removed = λ x c at gone. absurd (gone (x, subst (λ (m : Moment). Contains m.editor.work.buffers.all x) (sym is) c, at));
+    spared = λ closed. nothing_made told made s t (sym adds ∙ ap (λ (m : Moment). m.calls) is ∙ calls) leads name;
+  }
+  write_goes name (Some writing) a b stands (swept, is) calls adds = record {
+    each = λ d c. inl ([], write_each (Some writing) a b stands (swept, is) calls adds d c);
+    removed = λ x c at gone.
+        let still = named_still writing a.editor.work.buffers.all b.editor.work.buffers.all (course_of a) (course_of b) swept x c in
+        absurd (gone (still.0, still.1, still.2 ∙ at));
+    spared = λ closed.
+        let more = sweep_spares writing 0 a.editor.work.buffers.all b.editor.work.buffers.all (course_of a) (course_of b) told calls swept in
+        let same : made ≡ more.made = append_cancel_left told made more.made (same_Some (told ++ made) (told ++ more.made) (sym adds ∙ more.told)) in
+        all_spared name more.made s t (more.spares name (λ x c at. absurd (closed (x, c, at)))) (subst (λ l. MayLead l s t) same leads);
+  }
 
   write_own : (writing : Option Writing) (a b : Moment) → HaveOwnNames a.editor.work.buffers → Writes writing a b → HaveOwnNames b.editor.work.buffers
   write_own None a b own is = subst (λ (m : Moment). HaveOwnNames m.editor.work.buffers) (sym is) own
   write_own (Some writing) a b own (swept, is) = subst HaveOwnNames (sym (ap (λ (m : Moment). m.editor.work.buffers) is)) (own_names_stay writing a.editor.work.buffers b.editor.work.buffers.all (course_of a) (course_of b) own swept)
 
   write_telling : (writing : Option Writing) (a b : Moment) → Writes writing a b → (b.live.telling.untold ≡ a.live.telling.untold) × (b.live.name ≡ a.live.name)
-  write_telling None a b is = (ap (λ (m : Moment). m.live.telling.untold) is, ap (λ (m : Moment). m.live.name) is)
-  write_telling (Some writing) a b (swept, is) = (ap (λ (m : Moment). m.live.telling.untold) is, ap (λ (m : Moment). m.live.name) is)
+  write_telling writing a b writes = grind arith
 
   written_stands : (writing : Option Writing) (a b : Moment) → all_scalars a.live.name ≡ true → StandsAt s a → AreKept b.editor.work.buffers → Writes writing a b
       → a.calls ≡ Some told → b.calls ≡ Some (told ++ made) → StandsAt t b
@@ -213,23 +261,10 @@ module _ (before after : Moment) (e : EndsBlock before after) (s t : Held) (told
 
     -- each buffer came by steps
     block_each : (d : OpenState) → Contains after.editor.work.buffers.all d → GoesOn [] before.editor.work.buffers s d t
-    block_each d c = by (writing_due before.live before.editor) e.writes
-      where
-        there : Contains e.written.editor.work.buffers.all d
-        there = subst (λ (bs : Buffers). Contains bs.all d) kept_as c
-
-        from_ready : GoesOn [] ready.editor.work.buffers s d t → GoesOn [] before.editor.work.buffers s d t
-        from_ready goes = subst (λ (bs : Buffers). GoesOn [] bs s d t) shown.buffers goes
-
-        by : (writing : Option Writing) → Writes writing ready e.written → GoesOn [] before.editor.work.buffers s d t
-        by None is =
-            from_ready
-            (stay_here ready.editor.work.buffers e.written.editor.work.buffers.all s t (ap (λ (m : Moment). m.editor.work.buffers.all) is)
-            (nothing_made told made s t (sym written_calls ∙ ap (λ (m : Moment). m.calls) is ∙ ready_calls) leads) d there)
-        by (Some writing) (swept, is) =
-            from_ready
-            (swept_goes writing told made ready.editor.work.buffers e.written.editor.work.buffers.all (course_of ready) (course_of e.written) s t ready_stands.kept.are ready_stands.own
-            ready_calls written_calls swept leads d there)
+    block_each d c =
+        subst (λ (bs : Buffers). GoesOn [] bs s d t) shown.buffers
+        (write_each s t told made leads (writing_due before.live before.editor) ready e.written ready_stands e.writes ready_calls written_calls d
+        (subst (λ (bs : Buffers). Contains bs.all d) kept_as c))
 
     pub block_goes : Goes before after s t (λ d. GoesOn [] before.editor.work.buffers s d t)
     block_goes =

@@ -1,36 +1,72 @@
--- What a request leaves of the open buffers, and of what is held under other names.
-use Rattle.std.proofs.Common.{◌≡◌, inl, inr, ◌∙◌, ℕ, true, List, [], ◌++◌, Option, Some, None, Result, Ok, Err, refl, sym, ap, subst, append-nil}
-use Rattle.std.specs.Prelude.{encode_utf8_all}
+-- What a meeting with a peer and any other request leave of the open buffers, and of what is held under other names.
+use Rattle.std.proofs.Common.{◌≡◌, ◌<◌, ◌++◌, ℕ, List, length, set, Some, sym, ap, subst, inl, inr, ◌∙◌, true, [], Option, None, Ok, refl, append-nil, Result, Err}
 use Rattle.std.specs.List.{Contains}
+use Rattle.std.proofs.lemmas.List.{append_cancel_left}
+use Rattle.std.proofs.lemmas.List.Elements.{Contains-get_or}
+use Rattle.std.proofs.lemmas.Option.{same_Some}
+use Rattle.std.specs.Prelude.{encode_utf8_all}
 use Rattle.std.specs.Str.{all_scalars}
+use Rattle.rga_ops.specs.declared.op.Op.{Op}
 use Rattle.mg_buffer.specs.OpenState.{OpenState}
 use Rattle.mg_files.specs.Calls.{Call, Adds, load_told}
+use Rattle.mg_files.specs.Held.{Held, MayLead}
+use Rattle.mg_files.specs.Asking.{Role, Connects, Waits}
+use Rattle.mg_files.specs.Linking.{Account, ExchangesOver}
 use Rattle.mg_files.specs.Files.{Files}
 use Rattle.mg_files.specs.declared.port.PortFault.{PortFault}
 use Rattle.mg_files.specs.declared.port.PortFault.TheVariants.{File, Memory}
-use Rattle.mg_files.specs.Held.{Held, MayLead}
 use Rattle.mg_files.proofs.ChangeSteps.{made_are}
-use Rattle.mg_minibuffer.specs.declared.ending.Request.{Request}
-use Rattle.mg_minibuffer.specs.declared.ending.Request.TheVariants as request
-use Rattle.mg_files.specs.Asking.{Role, Connects, Waits}
-use Rattle.mg_workspace.specs.Names.{buffer_named}
+use Rattle.mg_workspace.specs.Buffers.{Buffers, current_buffer, no_buffer}
 use Rattle.mg_workspace.specs.Workspaces.{Workspace, workspace_buffer}
-use Rattle.mg_editor.specs.Carrying.{Carried}
 use Rattle.mg_editor.specs.Editors.{Editor}
+use Rattle.mg_editor.specs.Holding.{IsOpenedBy, IsOpen, AreOpen, HaveOwnNames}
+use Rattle.mg_editor.specs.Meeting.{meeting_outcome, role_of}
+use Rattle.mg_editor.specs.Telling.{CarryAnswer, ChangesCurrent}
+use Rattle.mg_editor.proofs.CallLaws.{all_spared, AllSpare}
+use Rattle.mg_editor.proofs.CourseLaws.{Course, exchange_goes, save_goes}
+use Rattle.mg_editor.proofs.EachLaws.{all_go, stay_here, nothing_made}
+use Rattle.mg_editor.proofs.SetLaws.{set_has}
+use Rattle.mg_minibuffer.specs.declared.ending.Request.{Request}
+use Rattle.mg_workspace.specs.Names.{buffer_named}
+use Rattle.mg_editor.specs.Carrying.{Carried}
 use Rattle.mg_editor.specs.Finding.{Loads, Opening, unopened}
-use Rattle.mg_editor.specs.Holding.{AreOpen, HaveOwnNames, IsOpen}
-use Rattle.mg_editor.specs.Meeting.{role_of}
-use Rattle.mg_editor.specs.Telling.{CarryAnswer}
-use Rattle.mg_editor.proofs.CallLaws.{AllSpare, all_spared}
-use Rattle.mg_editor.proofs.CourseLaws.{save_goes}
-use Rattle.mg_editor.proofs.EachLaws.{stay_here, nothing_made}
 use Rattle.mg_editor.proofs.RemovalLaws.{carried_stay}
 use Rattle.mg_editor.proofs.RequestLaws.{request_goes}
+use Rattle.mg_live.proofs.ShapeLaws.{AskedFor}
+use Rattle.mg_workspace.specs.declared.failures.Task.TheVariants as task
+use Rattle.mg_minibuffer.specs.declared.ending.Request.TheVariants as request
 use Rattle.mg_live.specs.Keys.{Meets}
-use Rattle.mg_live.proofs.MeetingLaws.{course_spares}
 use Rattle.mg_live.proofs.NameLaws.{none_so}
-use Rattle.mg_live.proofs.NumberLaws.{AskedFor}
 use Rattle.mg_live.proofs.StageLaws.{Comes, GoOn}
+
+-- ---- meetings
+
+-- the calls of one buffer's course leave what is held under names that no buffer has
+pub course_spares : {ops : List Op} (before made : List Call) (bs : Buffers) (after : OpenState) (s t : Held) → bs.current < length bs.all
+    → Course ops before (Some (before ++ made)) (current_buffer bs) after → MayLead made s t → (name : List ℕ) → (IsOpen name bs → ⊥) → t name ≡ s name
+course_spares before made bs after s t there course leads name closed =
+    let led : MayLead course.made s t =
+    subst (λ l. MayLead l s t) (append_cancel_left before made course.made (same_Some (before ++ made) (before ++ course.made) course.told)) leads in
+    all_spared name course.made s t (course.spares name (λ is. closed (current_buffer bs, Contains-get_or bs.all bs.current no_buffer there, is))) led
+
+pub have_met : {L : Type 0} (a : Account L) (role : Role) (old new : Editor) (r : CarryAnswer)
+    → ChangesCurrent task.Exchange (λ answer b d. ExchangesOver a b d role answer) meeting_outcome old new r
+    → Meets a.calls a.made old.work.buffers new.work.buffers
+have_met a role old new r h told made s t are own now calls more leads =
+    let after = h.became.0 in
+    let bs = old.work.buffers in
+    let all : new.work.buffers.all ≡ set bs.all bs.current after = ap (λ (w : Workspace). w.buffers.all) h.became.1 in
+    let writable = now.writable after (subst (λ l. Contains l after) (sym all) (set_has bs.all bs.current after are.current)) in
+    let fits = are.fits (workspace_buffer old.work) (Contains-get_or bs.all bs.current no_buffer are.current) in
+    let came = exchange_goes a role h.became.2.course.ending told (workspace_buffer old.work) after calls writable fits h.became.2.course.came h.became.2.passes in
+    let course = subst (λ o. Course came.0 told o (workspace_buffer old.work) after) more came.1 in
+    record {
+      ops = came.0;
+      go_on = all_go came.0 told made s t bs after new.work.buffers.all are.current own all course leads;
+      others = course_spares told made bs after s t are.current course leads;
+    }
+
+-- ---- requests
 
 loads_spare : (name other : List ℕ) (given : Result Files PortFault) → AllSpare other (load_told given name)
 loads_spare name other (Ok found) = (inr (λ f g e. e), tt)
@@ -62,41 +98,20 @@ module _ (before made : List Call) (s t : Held) (leads : MayLead made s t) where
     abbrev Each : Type 0
     Each = (d : OpenState) → Contains new.work.buffers.all d → Comes Live old.work s d t
 
-    -- of a request that asks for no buffer
-    asked_none : (carried : Request) (r : CarryAnswer) → role_of carried ≡ None → ((n : List ℕ) → carried ≡ request.Find n → ⊥)
-        → Carried carried (Some before) (Some (before ++ made)) old new r → Each
-    asked_none carried r alone other h d c = elim (request_goes carried before made old new r s t alone are own h leads d c) [
-      | inl goes ↦ inl ([], goes)
-      | inr (n, is, opened) ↦ absurd (other n is)
-    ]
-
-    -- and of one that does
-    asked_one : (n : List ℕ) (r : CarryAnswer) → all_scalars n ≡ true → Carried (request.Find n) (Some before) (Some (before ++ made)) old new r → Each
-    asked_one n r spelled h d c = by (buffer_named n old.work.buffers.all) refl h
-      where
-        by : (at : Option ℕ) → buffer_named n old.work.buffers.all ≡ at → AskedFor n (Some before) (Some (before ++ made)) old new r (unopened at old) → Comes Live old.work s d t
-        by (Some i) at (more, is, answer) =
-            inl ([], stay_here old.work.buffers new.work.buffers.all s t (ap (λ (e : Editor). e.work.buffers.all) is) (nothing_made before made s t more leads) d c)
-        by None at told = elim (request_goes (request.Find n) before made old new r s t refl are own h leads d c) [
-          | inl goes ↦ inl ([], goes)
-          | inr (m, is, opened) ↦ inr (encode_utf8_all m, opened, λ same there. none_so n old.work.buffers spelled at (subst (λ x. IsOpen x old.work.buffers) (closed_name m is same) there))
-        ]
-          where
-            named : Request → List ℕ
-            named (request.Find x) = x
-            named asked = n
-
-            closed_name : (m : List ℕ) → request.Find n ≡ request.Find m → encode_utf8_all m ≡ Live → Live ≡ encode_utf8_all n
-            closed_name m is same = sym same ∙ ap (λ x. encode_utf8_all (named x)) (sym is)
-
     each : (carried : Request) (r : CarryAnswer) → role_of carried ≡ None → ((n : List ℕ) → carried ≡ request.Find n → all_scalars n ≡ true)
         → Carried carried (Some before) (Some (before ++ made)) old new r → Each
-    each request.Idle r alone spelled h = asked_none request.Idle r alone (λ n is. absurd cc) h
-    each request.Quit r alone spelled h = asked_none request.Quit r alone (λ n is. absurd cc) h
-    each request.Save r alone spelled h = asked_none request.Save r alone (λ n is. absurd cc) h
-    each (request.Find n) r alone spelled h = asked_one n r (spelled n refl) h
-    each request.Exchange r alone spelled h = let no : Some Connects ≡ None = alone in absurd cc
-    each request.Serve r alone spelled h = let no : Some Waits ≡ None = alone in absurd cc
+    each carried r alone spelled h d c = elim (request_goes carried before made old new r s t alone are own h leads d c) [
+      | inl goes ↦ inl ([], goes)
+      | inr (n, is, opened) ↦
+          by n (spelled n is) opened (buffer_named n old.work.buffers.all) refl (subst (λ q. Carried q (Some before) (Some (before ++ made)) old new r) is h)
+    ]
+      where
+        by : (n : List ℕ) → all_scalars n ≡ true → IsOpenedBy (encode_utf8_all n) old.work s d t → (at : Option ℕ) → buffer_named n old.work.buffers.all ≡ at
+            → AskedFor n (Some before) (Some (before ++ made)) old new r (unopened at old) → Comes Live old.work s d t
+        by n spelled opened (Some i) at (more, is, answer) =
+            inl ([], stay_here old.work.buffers new.work.buffers.all s t (ap (λ (e : Editor). e.work.buffers.all) is) (nothing_made before made s t more leads) d c)
+        by n spelled opened None at told =
+            inr (encode_utf8_all n, opened, λ same there. none_so n old.work.buffers spelled at (subst (λ x. IsOpen x old.work.buffers) (sym same) there))
 
     spared : (carried : Request) (r : CarryAnswer) → role_of carried ≡ None → Carried carried (Some before) (Some (before ++ made)) old new r
         → (IsOpen Live old.work.buffers → ⊥) → t Live ≡ s Live

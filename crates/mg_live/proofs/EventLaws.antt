@@ -8,7 +8,7 @@ use Rattle.mg_buffer.specs.OpenState.{OpenState}
 use Rattle.mg_files.specs.Calls.{Call}
 use Rattle.mg_files.specs.Held.{Held, MayLead}
 use Rattle.mg_files.specs.Kept.{IsWritableWhole}
-use Rattle.mg_files.specs.Run.{BufferStep, Saves, Runs, Undoes, Takes, Rests, ChangesAlone, KeepsOperations, MayGo, TakesOnly}
+use Rattle.mg_files.specs.Run.{BufferStep, Rests, ChangesAlone, KeepsOperations, MayGo, Takes, TakesOnly}
 use Rattle.mg_events.specs.Reading.{Told, key, report, refused}
 use Rattle.mg_minibuffer.specs.declared.ending.Request.TheVariants.{Find}
 use Rattle.mg_session.specs.Keys.{request_of, said}
@@ -32,20 +32,18 @@ use Rattle.mg_live.specs.declared.fault.ReportFault.TheVariants.{Line}
 use Rattle.mg_live.proofs.BlockLaws.{Goes, Same, as_before}
 use Rattle.mg_live.proofs.KeyLaws.{asking_stands, carried, meets, key_stands, key_name, noted_stands, request_goes_on, stands_at, stands_so}
 use Rattle.mg_live.proofs.NameLaws.{open_or_not}
-use Rattle.mg_live.proofs.NumberLaws.{KeepsNumbers, carry_numbers, numbers_as, numbers_on, press_numbers, same_numbers}
+use Rattle.mg_live.proofs.ShapeLaws.{KeepsNumbers, carry_numbers, numbers_as, numbers_on, press_numbers, same_numbers}
 use Rattle.mg_live.proofs.TakenKeyLaws.{said_work}
-use Rattle.mg_live.proofs.ReportLaws.{Came, line_came, refused_keeps}
+use Rattle.mg_live.proofs.ReachLaws.{refused_told}
+use Rattle.mg_live.proofs.ReportLaws.{Came, line_came}
 use Rattle.mg_live.proofs.ToldLaws.{notes_so}
 
 -- ---- steps after steps
 
 takes_both : (ops : List Op) (xs ys : List BufferStep) → TakesOnly ops xs → TakesOnly ops ys → TakesOnly ops (xs ++ ys)
 takes_both ops [] ys one two = two
-takes_both ops (Saves answer ∷ steps) ys one two = takes_both ops steps ys one two
-takes_both ops (Runs call old new ∷ steps) ys one two = takes_both ops steps ys one two
-takes_both ops (Undoes old new ∷ steps) ys one two = takes_both ops steps ys one two
 takes_both ops (Takes zs ∷ steps) ys one two = (one.0, takes_both ops steps ys one.1 two)
-takes_both ops (Rests ∷ steps) ys one two = takes_both ops steps ys one two
+takes_both ops (step ∷ steps) ys one two = takes_both ops steps ys one two
 
 -- a buffer that rested between
 goes_both : (xs ys : List BufferStep) (b c d : OpenState) (r s t : Held) → IsWritableWhole c.buffer.content → MayGo xs b r c s → MayGo ys c s d t
@@ -77,7 +75,7 @@ noted_calls : (taken after : Moment) → Noted taken after → after.calls ≡ t
 noted_calls taken after (notes, same) = ap (λ (m : Moment). m.calls) same
 
 noted_name : (taken after : Moment) → Noted taken after → after.live.name ≡ taken.live.name
-noted_name taken after (notes, same) = ap (λ (l : Live). l.name) (notes_so taken.editor taken.course taken.live after.live after.course notes).1
+noted_name taken after (notes, same) = ap (λ (l : Live). l.name) (notes_so taken.editor taken.course taken.live after.live after.course notes).0
 
 -- ---- a key
 
@@ -156,7 +154,7 @@ same_held told made s t a b same calls adds leads = λ k. λ name. nothing_made 
 line_refused : (fault : LineFault) (before after : Moment) → RefusesLine fault before.live after.live after.course
     → after ≡ record before { course = after.course; live = after.live } → Same before after
 line_refused fault before after so same =
-    let keeps = refused_keeps (Line fault) On (counted before.live) after.live after.course so in
+    let keeps = refused_told (Line fault) On (counted before.live) after.live after.course so in
     record {
       buffers = ap (λ (m : Moment). m.editor.work.buffers) same;
       untold = keeps.untold;

@@ -25,10 +25,9 @@ use Rattle.mg_live.specs.Standing.{AreKept, AreSafe, Stands}
 use Rattle.mg_live.specs.States.{Live, Moment}
 use Rattle.mg_live.specs.Tallies.{with_key}
 use Rattle.mg_live.proofs.CarryLaws.{carry_goes}
-use Rattle.mg_live.proofs.MadeLaws.{live_there, made_safe, opened_keeps_name, opened_safe}
+use Rattle.mg_live.proofs.StageLaws.{live_there, made_safe, opened_keeps_name, opened_safe, GoOn, still_logged, still_safe}
 use Rattle.mg_live.proofs.NameLaws.{open_or_not}
 use Rattle.mg_live.proofs.ShapeLaws.{press_same}
-use Rattle.mg_live.proofs.StageLaws.{GoOn, still_logged, still_safe}
 use Rattle.mg_live.proofs.TakenKeyLaws.{said_work}
 use Rattle.mg_live.proofs.ToldLaws.{notes_so}
 
@@ -146,7 +145,7 @@ module _ (byte : ℕ) (before taken : Moment) (k : TakesKey byte before taken) (
 pub noted_stands : (taken after : Moment) (t : Held) (name : List ℕ) → all_scalars name ≡ true → taken.live.name ≡ name
     → StandsSo name taken.live.telling.untold taken.editor.work.buffers t → Noted taken after → Stands t after
 noted_stands taken after t name right is stands (notes, same) =
-    let so = (notes_so taken.editor taken.course taken.live after.live after.course notes).1 in
+    let so = (notes_so taken.editor taken.course taken.live after.live after.course notes).0 in
     let named : after.live.name ≡ name = ap (λ (l : Live). l.name) so ∙ is in
     let untold : after.live.telling.untold ≡ taken.live.telling.untold = ap (λ (l : Live). l.telling.untold) so in
     let buffers : after.editor.work.buffers ≡ taken.editor.work.buffers = ap (λ (m : Moment). m.editor.work.buffers) same in

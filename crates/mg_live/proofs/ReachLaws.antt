@@ -5,7 +5,7 @@ use Rattle.std.specs.Bool.{MatchBool}
 use Rattle.std.specs.List.{list_any, slice_get}
 use Rattle.std.proofs.Math.Seq.{drop-append_seam}
 use Rattle.std.proofs.lemmas.Bool.{leb-true, and_parts}
-use Rattle.std.proofs.lemmas.List.{get_or-set_same, length-drop, length-append}
+use Rattle.std.proofs.lemmas.List.{length-drop, length-append, get_or-set_same}
 use Rattle.std.proofs.lemmas.List.Quantifiers.{position-Some}
 use Rattle.std.proofs.lemmas.Option.{same_Some, slice_get_within}
 use Rattle.rga_ops.specs.Answer.{answer}
@@ -15,7 +15,7 @@ use Rattle.rga_ops.specs.Order.{text}
 use Rattle.rga_ops.specs.Places.{visible}
 use Rattle.rga_ops.specs.Splice.{Splice, spliced, text_after}
 use Rattle.rga_ops.specs.declared.op.Op.{Op}
-use Rattle.rga_ops.specs.declared.op.Op.TheVariants.{Insert, Delete}
+use Rattle.rga_ops.specs.declared.op.Op.TheVariants.{Insert}
 use Rattle.rga_ops.specs.declared.refusal.Refusal.{Refusal}
 use Rattle.rga_ops.specs.declared.refusal.Taken.{Taken}
 use Rattle.rga_ops.specs.declared.refusal.Taken.TheVariants.{New, Known}
@@ -27,10 +27,10 @@ use Rattle.rga_ops.proofs.VisibleLaws.{text_long}
 use Rattle.rga_doc.proofs.SplicedCharacters.{take-spliced, long-spliced, length-spliced}
 use Rattle.mg_buffer.specs.Faults.{run_answer}
 use Rattle.mg_buffer.specs.Following.{with_operations}
-use Rattle.mg_buffer.specs.OpenState.{OpenState}
 use Rattle.mg_buffer.specs.Ran.{Ran}
 use Rattle.mg_buffer.specs.Sight.{Notes, command_call, situation_of}
 use Rattle.mg_buffer.specs.State.{State}
+use Rattle.mg_buffer.specs.OpenState.{OpenState}
 use Rattle.mg_plain.specs.Effect.{Effect, edit_effect, one_splice}
 use Rattle.mg_plain.specs.Situation.{Situation}
 use Rattle.mg_plain.specs.declared.command.Command.TheVariants.{ReplaceRange}
@@ -41,7 +41,7 @@ use Rattle.mg_events.specs.declared.report.Report.TheVariants as report
 use Rattle.mg_session.specs.declared.course.Course.{Course}
 use Rattle.mg_workspace.specs.Actions.{ActionVerdict}
 use Rattle.mg_workspace.specs.AtIndex.{RunsAt, state_at, with_state_at}
-use Rattle.mg_workspace.specs.Buffers.{buffer_at, no_buffer}
+use Rattle.mg_workspace.specs.Buffers.{no_buffer, buffer_at}
 use Rattle.mg_workspace.specs.Names.{is_named}
 use Rattle.mg_workspace.specs.Workspaces.{Workspace}
 use Rattle.mg_editor.specs.Editors.{Editor}
@@ -137,18 +137,19 @@ place_within id told now k there more =
 
 -- ---- what a report leaves of what was told
 
--- the same is told of another live session
+-- the same is told of another live session, and is to be told
 pub record SameTold (live next : Live) : Type 0 where
   pub name : next.name ≡ live.name
+  pub untold : next.telling.untold ≡ live.telling.untold
   pub changes : next.changes ≡ live.changes
 
-told_as : (live next : Live) → next ≡ live → SameTold live next
-told_as live next is = record { name = ap (λ (l : Live). l.name) is; changes = ap (λ (l : Live). l.changes) is }
+pub told_as : (live : Live) {mid next : Live} → next ≡ mid → mid.name ≡ live.name → mid.telling.untold ≡ live.telling.untold → mid.changes ≡ live.changes → SameTold live next
+told_as live {mid} {next} is name untold changes = grind arith
 
 pub refused_told : (fault : ReportFault) (before : Course) (live next : Live) (after : Course) → RefusesReport fault before live next after → SameTold live next
 refused_told fault before live next after so = grind arith
 
-follows_told : (verdict : Verdict) (live next : Live) (after : Course) → Follows verdict live next after → SameTold live next
+pub follows_told : (verdict : Verdict) (live next : Live) (after : Course) → Follows verdict live next after → SameTold live next
 follows_told verdict live next after so = grind arith
 
 pub is_told_so : (live next : Live) (e : Editor) → SameTold live next → IsTold live e → IsTold next e
@@ -275,15 +276,14 @@ module _ (live : Live) (e : Editor) (told : IsTold live e) where
   inserted : (id parent : Identifier) (ch : ℕ) (f : Editor) (next : Live) (verdict : Verdict)
       → TakesOthers (Insert id parent ch ∷ []) (TakesOperation (Insert id parent ch)) e live verdict f next → WasTold (Element id) next f
   inserted id parent ch f next verdict =
-      others_case e live f next verdict (λ same is. stays (Element id) next f same (told_as live next is))
+      others_case e live f next verdict (λ same is. stays (Element id) next f same (told_as live is refl refl refl))
       (Insert id parent ch ∷ []) (TakesOperation (Insert id parent ch)) answered
     where
       answered : (i : ℕ) (r : Result Taken Refusal) → live_index live.name e ≡ Some i → TakesOperation (Insert id parent ch) i e r f
           → MatchResult r (λ _. next ≡ with_taken live) (λ why. next ≡ live) → WasTold (Element id) next f
       answered i (Ok kind) at takes is =
-          let same : SameTold live next = record { name = ap (λ (l : Live). l.name) is; changes = ap (λ (l : Live). l.changes) is } in
-          was_told_so (Element id) live next f same (taken id parent ch i f at kind (sym (takes.exact (λ bad. absurd cc))) takes.left)
-      answered i (Err why) at takes is = stays (Element id) next f takes.left (told_as live next is)
+          was_told_so (Element id) live next f (told_as live is refl refl refl) (taken id parent ch i f at kind (sym (takes.exact (λ bad. absurd cc))) takes.left)
+      answered i (Err why) at takes is = stays (Element id) next f takes.left (told_as live is refl refl refl)
 
   -- ---- a splice
 
@@ -325,10 +325,9 @@ module _ (live : Live) (e : Editor) (told : IsTold live e) where
 
     splices : (base : ℕ) (f : Editor) (next : Live) (verdict : Verdict) → Splices base lo hi put e live verdict f next → WasTold (Between lo hi) next f
     splices base f next verdict =
-        splices_case e live f next verdict (λ same is. stays (Between lo hi) next f same (told_as live next is)) base lo hi put
-        (λ i noted at did is.
-        let alike : SameTold live next = record { name = ap (λ (l : Live). l.name) is; changes = ap (λ (l : Live). l.changes) is } in
-        was_told_so (Between lo hi) live next f alike (spliced_in i f at (Ok tt) did))
+        splices_case e live f next verdict (λ same is. stays (Between lo hi) next f same (told_as live is refl refl refl)) base lo hi put
+        (λ i noted at did is. λ c k has here.
+        spliced_in i f at (Ok tt) did c k (ap (λ (l : Live). l.changes) (sym is) ∙ has) (ap (λ (l : Live). live_index l.name f) (sym is) ∙ here))
 
 -- ---- any report
 
@@ -337,21 +336,15 @@ reached said e live f next after (verdict, between, takes, follows) told =
     was_told_so (reach_of said) between next f (follows_told verdict between next after follows) (by said takes)
   where
     pieces : (base lo hi : ℕ) (held : Gathered) (piece : Piece) → TakesPiece piece (Splices base lo hi) e (record live { splice = held }) verdict f between → WasTold (Between lo hi) between f
-    pieces base lo hi held Held (says, same, is) = stays (record live { splice = held }) e told (Between lo hi) between f same (told_as (record live { splice = held }) between is)
+    pieces base lo hi held Held (says, same, is) = stays (record live { splice = held }) e told (Between lo hi) between f same (told_as (record live { splice = held }) is refl refl refl)
     pieces base lo hi held (Dropped fault) (says, same, is) =
-        stays (record live { splice = held }) e told (Between lo hi) between f same (told_as (record live { splice = held }) between is)
+        stays (record live { splice = held }) e told (Between lo hi) between f same (told_as (record live { splice = held }) is refl refl refl)
     pieces base lo hi held (Whole put) it = splices (record live { splice = held }) e told lo hi put base f between verdict it
 
     by : (said : Report) → Takes said e live verdict f between → WasTold (reach_of said) between f
     by (report.One (Insert id parent ch)) it = inserted live e told id parent ch f between verdict it
-    by (report.One (Delete id)) it = anywhere between f
-    by (report.Run run) it = anywhere between f
-    by (report.Deletions run) it = anywhere between f
-    by (report.Paste put more) it = anywhere between f
     by (report.Splice base lo hi put more) (held, piece, gathers, it) = pieces base lo hi held piece it
-    by (report.Size rows columns) it = anywhere between f
-    by (report.Places places) it = anywhere between f
-    by report.Rest it = anywhere between f
+    by other it = anywhere between f
 
 -- also where something else was noted of the session first
 pub reached_from : (said : Report) (e : Editor) (live next : Live) (f : Editor) (left : Live) (after : Course) → TakesReport said e next f left after → SameTold live next → IsTold live e

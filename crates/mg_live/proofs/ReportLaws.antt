@@ -1,5 +1,5 @@
 -- A session stands after a report.
-use Rattle.std.proofs.Common.{arith, ◌≡◌, inl, inr, ◌∙◌, ◌<◌, ℕ, Bool, true, List, [], ◌∷◌, length, Some, Result, Ok, Err, MatchResult, refl, sym, ap, subst}
+use Rattle.std.proofs.Common.{◌≡◌, inl, inr, ◌∙◌, ◌<◌, ℕ, Bool, true, List, [], ◌∷◌, length, Some, Result, Ok, Err, MatchResult, refl, sym, ap, subst}
 use Rattle.std.specs.Prelude.{encode_utf8_all}
 use Rattle.std.specs.List.{Contains}
 use Rattle.std.specs.Str.{all_scalars}
@@ -10,7 +10,6 @@ use Rattle.rga_ops.specs.declared.refusal.Refusal.{Refusal}
 use Rattle.rga_ops.specs.declared.refusal.Taken.{Taken}
 use Rattle.rga_lines.specs.Runs.{stretch_operations, run_deletions}
 use Rattle.rga_lines.specs.declared.fault.LineFault.{LineFault}
-use Rattle.rga_lines.specs.declared.fault.LineFault.TheVariants as line
 use Rattle.mg_buffer.specs.OpenState.{OpenState}
 use Rattle.mg_files.specs.Held.{Held}
 use Rattle.mg_events.specs.Reports.{report_at}
@@ -29,34 +28,17 @@ use Rattle.mg_editor.proofs.NamesLaws.{pasted_own, spliced_own, taken_own}
 use Rattle.mg_editor.proofs.RemovalLaws.{pasted_stay, spliced_stay, taken_stay}
 use Rattle.mg_live.specs.FaultNames.{of_paste}
 use Rattle.mg_live.specs.Made.{is_live, live_index, made_at, with_made}
-use Rattle.mg_live.specs.Reports.{Verdict, with_taken, TakesOperation, TakesList, TakesOthers, Pastes, Splices, TakesPiece, Takes, RefusesReport, Follows, TakesReport, TakesLine, counted, resized}
+use Rattle.mg_live.specs.Reports.{Verdict, with_taken, TakesOperation, TakesList, TakesOthers, Pastes, Splices, TakesPiece, Takes, RefusesReport, TakesReport, TakesLine, counted, resized}
 use Rattle.mg_live.specs.Standing.{AreKept, AreSafe, operations_of, operations_read, operations_at}
 use Rattle.mg_live.specs.States.{Live}
-use Rattle.mg_live.specs.declared.fault.ReportFault.{ReportFault}
 use Rattle.mg_live.specs.declared.fault.ReportFault.TheVariants.{Line}
 use Rattle.mg_live.specs.declared.gathered.Piece.{Piece}
 use Rattle.mg_live.specs.declared.gathered.Piece.TheVariants.{Held as Waits, Whole, Dropped}
 use Rattle.mg_live.proofs.KeyLaws.{StandsSo, goes_on}
-use Rattle.mg_live.proofs.MadeLaws.{live_there, made_safe}
+use Rattle.mg_live.proofs.StageLaws.{live_there, made_safe, GoOn}
 use Rattle.mg_live.proofs.NameLaws.{found_so}
-use Rattle.mg_live.proofs.NumberLaws.{KeepsNumbers, paste_numbers, run_numbers, same_numbers}
-use Rattle.mg_live.proofs.ReachLaws.{others_case, splices_case}
-use Rattle.mg_live.proofs.ShapeLaws.{paste_same, run_same}
-use Rattle.mg_live.proofs.StageLaws.{GoOn}
-
--- what is to be told is the same
-pub record KeepsUntold (live next : Live) : Type 0 where
-  pub untold : next.telling.untold ≡ live.telling.untold
-  pub name : next.name ≡ live.name
-
-untold_as : (live next : Live) → next ≡ live → KeepsUntold live next
-untold_as live next is = record { untold = ap (λ (l : Live). l.telling.untold) is; name = ap (λ (l : Live). l.name) is }
-
-pub refused_keeps : (fault : ReportFault) (before : Course) (live next : Live) (after : Course) → RefusesReport fault before live next after → KeepsUntold live next
-refused_keeps fault before live next after so = grind arith
-
-follows_keep : (verdict : Verdict) (live next : Live) (after : Course) → Follows verdict live next after → KeepsUntold live next
-follows_keep verdict live next after so = grind arith
+use Rattle.mg_live.proofs.ShapeLaws.{KeepsNumbers, paste_numbers, run_numbers, same_numbers, paste_same, run_same}
+use Rattle.mg_live.proofs.ReachLaws.{SameTold, follows_told, others_case, refused_told, splices_case, told_as}
 
 abbrev PastedSo : Editor → Live → Editor → Live → Verdict → Result (Unit {0}) PasteFault → Type 0
 PastedSo e live f next verdict a = MatchResult a
@@ -72,7 +54,7 @@ module _ (name : List ℕ) (right : all_scalars name ≡ true) (s : Held) (e : E
     pub each : (d : OpenState) → Contains f.work.buffers.all d → GoesOn ops e.work.buffers s d s
     pub numbers : KeepsNumbers e.work f.work
 
-  pub keeps_came : (ops : List Op) (f : Editor) (live next : Live) → KeepsUntold live next → Came ops f live → Came ops f next
+  pub keeps_came : (ops : List Op) (f : Editor) (live next : Live) → SameTold live next → Came ops f live → Came ops f next
   keeps_came ops f live next keeps came = record {
     stands = subst (λ (xs : List Op). StandsSo name xs f.work.buffers s) (sym keeps.untold) came.stands;
     named = keeps.name ∙ came.named;
@@ -91,9 +73,9 @@ module _ (name : List ℕ) (right : all_scalars name ≡ true) (s : Held) (e : E
     }
 
     stays : (ops : List Op) (f : Editor) (next : Live) → f ≡ e → next ≡ live → Came ops f next
-    stays ops f next same still = subst (λ (g : Editor). Came ops g next) (sym same) (keeps_came ops e live next (untold_as live next still) (here ops))
+    stays ops f next same still = subst (λ (g : Editor). Came ops g next) (sym same) (keeps_came ops e live next (told_as live still refl refl refl) (here ops))
 
-    stays_with : (ops : List Op) (f : Editor) (next : Live) → f ≡ e → KeepsUntold live next → Came ops f next
+    stays_with : (ops : List Op) (f : Editor) (next : Live) → f ≡ e → SameTold live next → Came ops f next
     stays_with ops f next same keeps = subst (λ (g : Editor). Came ops g next) (sym same) (keeps_came ops e live next keeps (here ops))
 
     -- they went on, and what was made is noted or not
@@ -112,36 +94,35 @@ module _ (name : List ℕ) (right : all_scalars name ≡ true) (s : Held) (e : E
     -- ---- operations of others
 
     taken : (ops : List Op) (i : ℕ) (f : Editor) (next : Live) → AreKept f.work.buffers → f ≡ taking i ops e
-        → ((d : OpenState) → Contains f.work.buffers.all d → GoesOn ops e.work.buffers s d s) → KeepsUntold live next → Came ops f next
+        → ((d : OpenState) → Contains f.work.buffers.all d → GoesOn ops e.work.buffers s d s) → SameTold live next → Came ops f next
     taken ops i f next later same each keeps =
         went ops f next later (taken_own i ops e f stands.own same) each (taken_stay i ops e f same) (record { replica = ap (λ (g : Editor). g.work.replica) same; limit = ap (λ (g : Editor). g.work.limit) same })
         (λ so. subst (λ (xs : List Op). StandsSo name xs f.work.buffers s) (sym keeps.untold) so) keeps.name
 
     takes_one : (op : Op) (i : ℕ) (r : Result Taken Refusal) (f : Editor) (next : Live) → i < length e.work.buffers.all → AreKept f.work.buffers → TakesOperation op i e r f
-        → KeepsUntold live next → Came (op ∷ []) f next
+        → SameTold live next → Came (op ∷ []) f next
     takes_one op i (Ok known) f next there later takes keeps =
         let answered : answer (state_at i e.work).limit (state_at i e.work).content op ≡ Ok known = sym (takes.exact (λ bad. absurd cc)) in
         taken (op ∷ []) i f next later takes.left (one_taken_on i op known e f s there stands.kept.are later.are answered takes.left) keeps
     takes_one op i (Err why) f next there later takes keeps = stays_with (op ∷ []) f next takes.left keeps
 
     takes_list : (ops : List Op) (i : ℕ) (r : Result (Unit {0}) Refusal) (f : Editor) (next : Live) → i < length e.work.buffers.all → AreKept f.work.buffers → TakesList ops i e r f
-        → KeepsUntold live next → Came ops f next
+        → SameTold live next → Came ops f next
     takes_list ops i (Ok u) f next there later takes keeps =
         let answered : list_answer (state_at i e.work).limit (state_at i e.work).content ops ≡ Ok tt = sym (takes.exact (λ bad. absurd cc)) in
         taken ops i f next later takes.left (taken_on ops s i e f there later.are answered takes.left) keeps
     takes_list ops i (Err why) f next there later takes keeps = stays_with ops f next takes.left keeps
 
     others : {A : Type 0} (ops : List Op) (Each : ℕ → Editor → Result A Refusal → Editor → Type 0) (f : Editor) (next : Live) (verdict : Verdict)
-        → ((i : ℕ) (r : Result A Refusal) → i < length e.work.buffers.all → Each i e r f → KeepsUntold live next → Came ops f next)
+        → ((i : ℕ) (r : Result A Refusal) → i < length e.work.buffers.all → Each i e r f → SameTold live next → Came ops f next)
         → TakesOthers ops Each e live verdict f next → Came ops f next
     others {A} ops Each f next verdict each = others_case e live f next verdict (stays ops f next) ops Each answered
       where
         answered : (i : ℕ) (r : Result A Refusal) → live_index live.name e ≡ Some i → Each i e r f
             → MatchResult r (λ _. next ≡ with_taken live) (λ why. next ≡ live) → Came ops f next
         answered i (Ok a) at takes is =
-            each i (Ok a) (found_so live.name e.work.buffers i stands.kept.named at).within takes
-            (record { untold = ap (λ (l : Live). l.telling.untold) is; name = ap (λ (l : Live). l.name) is })
-        answered i (Err why) at takes is = each i (Err why) (found_so live.name e.work.buffers i stands.kept.named at).within takes (untold_as live next is)
+            each i (Ok a) (found_so live.name e.work.buffers i stands.kept.named at).within takes (told_as live is refl refl refl)
+        answered i (Err why) at takes is = each i (Err why) (found_so live.name e.work.buffers i stands.kept.named at).within takes (told_as live is refl refl refl)
 
     -- ---- pasted text, and splices
 
@@ -223,17 +204,15 @@ module _ (name : List ℕ) (right : all_scalars name ≡ true) (s : Held) (e : E
         piece_taken (Splices base lo hi) piece (record live { splice = held }) f next verdict stands named
         (λ put. splices (record live { splice = held }) stands named base lo hi put f next verdict later) it
     takes (report.Size rows columns) (told, same, is) = sized live stands named rows columns f next later same is
-    takes (report.Places places) (told, same, is) =
-        stays_with live stands named [] f next same (record { untold = ap (λ (l : Live). l.telling.untold) is; name = ap (λ (l : Live). l.name) is })
-    takes report.Rest (told, same, is) =
-        stays_with live stands named [] f next same (record { untold = ap (λ (l : Live). l.telling.untold) is; name = ap (λ (l : Live). l.name) is })
+    takes (report.Places places) (told, same, is) = stays_with live stands named [] f next same (told_as live is refl refl refl)
+    takes report.Rest (told, same, is) = stays_with live stands named [] f next same (told_as live is refl refl refl)
 
   -- ---- the line of a report
 
   module _ (live : Live) (stands : StandsSo name live.telling.untold e.work.buffers s) (named : live.name ≡ name) (f : Editor) (next : Live) (after : Course) (later : AreKept f.work.buffers) where
     reported : (told : Report) → TakesReport told e (counted live) f next after → Came (operations_of told) f next
     reported told (verdict, between, taken, follows) =
-        keeps_came (operations_of told) f between next (follows_keep verdict between next after follows)
+        keeps_came (operations_of told) f between next (follows_told verdict between next after follows)
         (takes (counted live) stands named f between verdict later told taken)
 
     pub line_came : (bytes : List ℕ) → TakesLine bytes e live f next after → Came (operations_at bytes) f next
@@ -246,5 +225,5 @@ module _ (name : List ℕ) (right : all_scalars name ≡ true) (s : Held) (e : E
             let is : report_at bytes ≡ Ok told = sym (exact (λ bad. absurd cc)) ∙ at in
             subst (λ (x : Result Report LineFault). Came (operations_read x) f next) (sym is) (reported told it)
         by (Err fault) at (same, so) =
-            let keeps = refused_keeps (Line fault) On (counted live) next after so in
-            stays_with live stands named (operations_at bytes) f next same (record { untold = keeps.untold; name = keeps.name })
+            let keeps = refused_told (Line fault) On (counted live) next after so in
+            stays_with live stands named (operations_at bytes) f next same (record { name = keeps.name; untold = keeps.untold; changes = keeps.changes })

@@ -1,29 +1,111 @@
--- What a live session is answered by tells of its devices.
-use Rattle.std.proofs.Common.{arith, ◌≡◌, ℕ, ◌&&◌, not, Bool, true, false, List, [], ◌∷◌, Option, Some, None, Result, rules, refl, sym, ap, subst, ◌∙◌, ◌⊎◌}
+-- A live session that ran, by its parts, and what its answer tells of its devices.
+use Rattle.std.proofs.Common.{◌≡◌, ◌≢◌, arith, ℕ, ◌+◌, ◌<◌, ◌||◌, Bool, true, false, List, [], ◌∷◌, length, get_or, drop, refl, sym, ap, subst, ◌∙◌, ◌&&◌, not, Option, Some, None, Result, rules, ◌⊎◌, Ok}
+use Rattle.std.proofs.lemmas.List.{drop_more}
+use Rattle.std.specs.Io.KnownBytes.{Consumes, IsAtEnd}
 use Rattle.std.proofs.lemmas.Bool.{and_parts}
 use Rattle.std.specs.Bool.{MatchBool}
 use Rattle.std.specs.Result.{MatchResult}
 use Rattle.rga_exchange.specs.Counting.{Calls, one_more}
+use Rattle.mg_events.specs.Reading.{Reading, fresh, step, told_by, Leaves, is_in_report, Told, key, report, refused}
+use Rattle.mg_events.specs.declared.reader.Event.{Event}
 use Rattle.mg_editor.specs.Editors.{Editor}
+use Rattle.mg_session.specs.Courses.{is_on, SessionAnswer, session_answer}
+use Rattle.mg_session.specs.Moments.{Known, ToldCalls, seen, StepIf}
+use Rattle.mg_session.specs.declared.course.Course.{Course}
+use Rattle.mg_session.specs.declared.course.Course.TheVariants.{On, Quit, NoKeys, NoMemory}
+use Rattle.mg_session.proofs.TakenLaws.{after_step, is_off}
+use Rattle.mg_session.proofs.StandingLaws.{TellsOf, IsFine, is_calm, on_calm, request_calm, calm_fine, calm_tells, whole_tells, begun_tells, AnswerTells, strictly}
 use Rattle.mg_editor.specs.declared.live_saving.Writing.{Writing}
 use Rattle.rga_lines.specs.declared.fault.LineFault.{LineFault}
 use Rattle.mg_events.specs.declared.report.Report.{Report}
-use Rattle.mg_events.specs.Reading.{Reading, Told, key, report, refused}
-use Rattle.mg_session.specs.Courses.{is_on}
 use Rattle.mg_session.specs.Keys.{course_behind, request_of}
-use Rattle.mg_session.specs.Moments.{Known, seen}
-use Rattle.mg_session.specs.declared.course.Course.{Course}
-use Rattle.mg_session.specs.declared.course.Course.TheVariants.{On, NoKeys, NoMemory}
-use Rattle.mg_session.proofs.StandingLaws.{TellsOf, IsFine, is_calm, on_calm, request_calm, calm_fine, calm_tells, whole_tells, begun_tells}
-use Rattle.mg_session.proofs.TakenLaws.{after_step}
+use Rattle.mg_screen.specs.Settings.{Values}
+use Rattle.mg_workspace.specs.Failures.{first_standing}
+use Rattle.mg_workspace.specs.declared.failures.Failure.{Failure}
+use Rattle.mg_session.specs.Opening.{LoadsTo}
+use Rattle.mg_session.specs.Running.{devices}
 use Rattle.mg_live.specs.Blocks.{EndsBlock, Writes, Tells, has_more, saves_due, writing_due}
+use Rattle.mg_live.specs.Reports.{NotesChanges, TakesReport, RefusesReport, Follows, Verdict, counted}
+use Rattle.mg_live.specs.Running.{Noted, TakesEvents, TakesBytes, TakesBlock, ReadsKeys, at_end, failed, block, is_any, quits, Finishes, Runs, TakesEvent, ended, CutsIf, Cuts, IsLiveSession, StartsWith}
+use Rattle.mg_live.specs.States.{Live, Moment, moment}
 use Rattle.mg_live.specs.Made.{if_memory}
-use Rattle.mg_live.specs.Reports.{TakesReport, RefusesReport, Follows, Verdict, counted}
-use Rattle.mg_live.specs.Running.{Noted, TakesEvent, TakesEvents, TakesBytes, TakesBlock, ReadsKeys, ended, at_end, failed, block, CutsIf, Cuts, Finishes, quits, Runs}
-use Rattle.mg_live.specs.States.{Live, Moment}
 use Rattle.mg_live.specs.Statuses.{can_show, Shows, whole, begun, unmade}
+use Rattle.mg_live.specs.declared.fault.ReportFault.{ReportFault}
 use Rattle.mg_live.specs.declared.fault.ReportFault.TheVariants.{Line}
 use Rattle.mg_live.proofs.ToldLaws.{notes_so}
+
+-- ---- events
+
+pub noted_so : {e f : Editor} {calls : ToldCalls} {faults : ℕ} {screen : Calls Known} (before : Course) (live : Live) {after : Course} {next : Live}
+    → NotesChanges e before live next after → f ≡ e → Noted (moment e calls faults screen before live) (moment f calls faults screen after next)
+noted_so {e} {f} {calls} {faults} {screen} before live {after} {next} notes same = (notes, λ k. moment (same k) calls faults screen after next)
+
+-- ---- bytes
+
+-- none, where the session does not go on
+pub takes_none : (bytes : List ℕ) (reading : Reading) (any : Bool) (m : Moment) → m.course ≢ On → TakesBytes bytes reading any m reading any m
+takes_none [] reading any m off = (refl, refl, refl)
+takes_none (b ∷ bytes) reading any m off = rw (is_off m.course off) (refl, refl, refl)
+
+-- the next byte of a list, and then the others
+pub next_byte : (bytes : List ℕ) (i d : ℕ) (event : Event) (more : Bool) (reading next left : Reading) (any some : Bool) (a b c : Moment)
+    → i < length bytes → is_on a.course ≡ true → event ≡ (step reading (get_or bytes i d)).event → Leaves reading (get_or bytes i d) next
+    → TakesEvents (told_by event next) a b → more ≡ (is_any (told_by event next) || any)
+    → TakesBytes (drop (i + 1) bytes) next more b left some c → TakesBytes (drop i bytes) reading any a left some c
+next_byte bytes i d event more reading next left any some a b c inside on is leaves taken counts rest =
+    let said = (step reading (get_or bytes i d)).event in
+    let taken : TakesEvents (told_by said next) a b = subst (λ e. TakesEvents (told_by e next) a b) is taken in
+    let rest : TakesBytes (drop (i + 1) bytes) next (is_any (told_by said next) || any) b left some c =
+    subst (λ m. TakesBytes (drop (i + 1) bytes) next m b left some c) (counts ∙ ap (λ e. is_any (told_by e next) || any) is) rest in
+    subst (λ bs. TakesBytes bs reading any a left some c) (sym (drop_more bytes i d inside)) (rw on (next, b, leaves, taken, rest))
+
+-- ---- reads of the keys
+
+pub reads_end : {reading : Reading} {a : Moment} {from rest : Calls Known} → a.course ≡ On → Consumes from.inner rest.inner [] → IsAtEnd rest.inner
+    → rest.at_end ≡ true → rest.failures ≡ from.failures → ReadsKeys reading a reading (record a { course = On }) from rest
+reads_end {reading} {a} {from} {rest} on read end last same =
+    subst (λ course. ReadsKeys reading a reading (record a { course = course }) from rest) on (at_end on read end last same)
+
+pub reads_failed : {reading : Reading} {a : Moment} {from rest : Calls Known} → a.course ≡ On → Consumes from.inner rest.inner []
+    → rest.failures ≡ one_more from.failures → ReadsKeys reading a reading (record a { course = NoKeys }) from rest
+reads_failed on read fails = failed on read fails refl
+
+-- a block, and then further ones
+pub reads_more : (bytes : List ℕ) {reading next left : Reading} {a b c : Moment} {from mid rest : Calls Known} → a.course ≡ On
+    → Consumes from.inner mid.inner bytes → mid.failures ≡ from.failures → from.left ≡ mid.left + 1
+    → TakesBlock bytes reading (record a { course = On }) next b → ReadsKeys next b left c mid rest → ReadsKeys reading a left c from rest
+reads_more bytes {reading} {next} {left} {a} {b} {c} {from} {mid} {rest} on read same call taken more =
+    let taken : TakesBlock bytes reading a next b = subst (λ course. TakesBlock bytes reading (record a { course = course }) next b) (sym on) taken in
+    block bytes next b mid on read same (omega (arith, call)) taken more
+
+-- ---- a session
+
+pub quits_not : (course : Course) → course ≢ Quit → quits course ≡ false
+quits_not course other = grind arith
+
+module _ {R : Type 0} (remaining : R → Known) {keys rest : Calls R} {a n b r : Moment} {start left : Reading} where
+  runs_so : (c : Moment) → Noted a n → EndsBlock n b → start ≡ fresh → ReadsKeys start b left r (seen remaining keys) (seen remaining rest)
+      → StepIf (not (quits r.course)) (Finishes (is_in_report left.phase)) r c → Runs remaining a c keys rest
+  runs_so c notes starts is reads finishes = record {
+    noted = n;
+    begun = b;
+    left = left;
+    read = r;
+    notes = notes;
+    starts = starts;
+    reads = subst (λ first. ReadsKeys first b left r (seen remaining keys) (seen remaining rest)) is reads;
+    finishes = finishes;
+  }
+
+  pub runs_quit : Noted a n → EndsBlock n b → start ≡ fresh → ReadsKeys start b left r (seen remaining keys) (seen remaining rest) → r.course ≡ Quit
+      → Runs remaining a r keys rest
+  runs_quit notes starts is reads quit = runs_so r notes starts is reads (rw quit refl)
+
+  pub runs_on : {c : Moment} {within : Bool} → Noted a n → EndsBlock n b → start ≡ fresh
+      → ReadsKeys start b left r (seen remaining keys) (seen remaining rest) → r.course ≢ Quit → within ≡ is_in_report left.phase → Finishes within r c
+      → Runs remaining a c keys rest
+  runs_on {c} {within} notes starts is reads on within_is finishes =
+      runs_so c notes starts is reads (rw (quits_not r.course on) (subst (λ w. Finishes w r c) within_is finishes))
 
 -- ---- courses of a session that no device ended
 
@@ -37,8 +119,11 @@ can_calm course is = grind arith
 pub memory_calm : (has_memory : Bool) (course : Course) → is_calm course ≡ true → is_calm (if_memory has_memory course) ≡ true
 memory_calm has_memory course calm = grind arith
 
-either_calm : {A B : Type 0} (before after : Course) → is_calm before ≡ true → (A × (after ≡ before)) ⊎ (B × (after ≡ NoMemory)) → is_calm after ≡ true
-either_calm before after calm so = grind arith
+memory_or_calm : (before after : Course) → is_calm before ≡ true → (after ≡ before) ⊎ (after ≡ NoMemory) → is_calm after ≡ true
+memory_or_calm before after calm so = grind arith
+
+refused_calm : (fault : ReportFault) (before : Course) (live next : Live) (after : Course) → is_calm before ≡ true → RefusesReport fault before live next after → is_calm after ≡ true
+refused_calm fault before live next after calm so = grind arith
 
 follows_calm : (verdict : Verdict) (live next : Live) (after : Course) → Follows verdict live next after → is_calm after ≡ true
 follows_calm verdict live next after so = grind arith
@@ -82,8 +167,8 @@ module _ (keys rest old : Calls Known) where
 
   noted_calm : {a b : Moment} → IsCalm a → Noted a b → IsCalm b
   noted_calm {a} {b} c (notes, same) =
-      let so = notes_so a.editor a.course a.live b.live b.course notes in
-      same_screen c (either_calm a.course b.course c.calm so.2) (ap (λ (m : Moment). m.screen) same)
+      let calm = memory_or_calm a.course b.course c.calm (notes_so a.editor a.course a.live b.live b.course notes).1 in
+      same_screen c calm (ap (λ (m : Moment). m.screen) same)
 
   event_calm : (event : Told) (a b : Moment) → IsCalm a → TakesEvent event a b → IsCalm b
   event_calm (key byte) a b c (mid, k, noted) =
@@ -92,7 +177,7 @@ module _ (keys rest old : Calls Known) where
   event_calm (report line) a b c (mid, (r, exact, taken), same, noted) =
       let calm = line_calm a.editor mid.editor (counted a.live) mid.live mid.course r taken in
       noted_calm (same_screen c calm (ap (λ (m : Moment). m.screen) same)) noted
-  event_calm (refused fault) a b c (taken, same) = same_screen c (either_calm On b.course refl taken) (ap (λ (m : Moment). m.screen) same)
+  event_calm (refused fault) a b c (taken, same) = same_screen c (refused_calm (Line fault) On (counted a.live) b.live b.course refl taken) (ap (λ (m : Moment). m.screen) same)
 
   events_calm : (events : List Told) (a b : Moment) → IsCalm a → TakesEvents events a b → IsCalm b
   events_calm [] a b c same = subst IsCalm (sym same) c
@@ -180,3 +265,25 @@ module _ {R : Type 0} (remaining : R → Known) (keys rest : Calls R) where
       let first = end_tells k k a.screen (calm_at k k a.screen (noted_calm k k a.screen start ran.notes)) ran.starts in
       let read = reads_tell k a.screen first ran.reads in
       after_step (At k r a.screen) (Finishes _) (not (quits ran.read.course)) ran.read b read (λ _. finish_tells k r a.screen _ read) ran.finishes
+
+-- ---- its answer
+
+module _ {R W : Type 0} (remaining : R → Known) (contents : W → Known) (v : Values) (keys rest : Calls R) (old now : Calls W) (calls after : ToldCalls) (failed faults : ℕ) where
+  -- what is known of a session that is answered so
+  pub record HasRun (r : SessionAnswer) : Type 0 where
+    pub ran : IsLiveSession remaining contents v r failed faults (devices keys old calls) (devices rest now after)
+    pub tells : AnswerTells remaining contents keys rest old now r
+
+  pub session_ran : {told : ToldCalls} {first last : Editor} {live next : Live} {begun course : Course}
+      → (values : Values) (strict : Bool) (why : Option Failure) (r : SessionAnswer) (begun_with : ℕ) → values ≡ v → strict ≡ v.strict
+      → LoadsTo v calls told (Ok first) → begun_with ≡ failed → StartsWith values first live begun
+      → Runs remaining (moment first told begun_with (seen contents old) begun live) (moment last after faults (seen contents now) course next) keys rest
+      → why ≡ first_standing last.work.failures → r ≡ session_answer strict why course → HasRun r
+  session_ran {told} {first} {last} {live} {next} {begun} {course} values strict why r begun_with same strict_is loads counts (noted, live_is, begun_is) runs fails is =
+      let calm : is_calm begun ≡ true = ap is_calm begun_is ∙ memory_calm noted On refl in
+      let tells = run_tells remaining keys rest calm runs in
+      let runs = rw (counts, begun_is, live_is, same) at runs in
+      rw (is, strict_is) (record {
+        ran = record { told = told; opened = Ok first; loads = loads; ran = (noted, last, next, course, ap (λ (f : Option Failure). session_answer v.strict f course) fails, runs) };
+        tells = strictly remaining contents keys rest old now v.strict why course tells;
+      })

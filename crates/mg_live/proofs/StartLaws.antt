@@ -1,35 +1,41 @@
--- A session stands at its start.
-use Rattle.std.proofs.Common.{◌≡◌, ◌<◌, ◌∙◌, ◌++◌, arith, ℕ, zero, suc, Bool, true, false, List, [], ◌∷◌, get_or, Some, Result, Ok, Err, is_ok, true≢false, refl, sym, ap, subst}
+-- What a session opens with, and that it stands at its start.
+use Rattle.std.proofs.Common.{◌≡◌, ◌<◌, arith, [], append-nil, Result, Ok, Err, length, is_ok, refl, sym, ap, subst, true≢false, inl, inr, ◌∙◌, ◌++◌, zero, Bool, true, false, List, ◌∷◌, get_or, Some}
 use Rattle.std.specs.Prelude.{encode_utf8_all, chars}
 use Rattle.std.specs.List.{Contains}
 use Rattle.std.specs.Str.{is_utf8}
+use Rattle.std.proofs.lemmas.List.Elements.{Contains-push_cases}
 use Rattle.std.proofs.lemmas.Str.{IsUtf8-from_is_utf8, encodes-chars, scalars-chars}
+use Rattle.mg_files.specs.Calls.{Adds, Call, found_call}
+use Rattle.mg_files.specs.Files.{Files}
+use Rattle.mg_files.specs.Loading.{load_outcome}
+use Rattle.mg_files.specs.declared.fault.LoadFault.{LoadFault}
+use Rattle.mg_editor.specs.Editors.{Editor}
+use Rattle.mg_editor.specs.Opening.{opened_editor}
+use Rattle.mg_session.specs.Moments.{ToldCalls}
+use Rattle.mg_session.specs.Opening.{LoadsTo}
+use Rattle.mg_screen.specs.Settings.{Values}
 use Rattle.rga_ops.specs.declared.op.Op.{Op}
 use Rattle.rga_ops.proofs.OperationLaws.{Contains-nil}
 use Rattle.rga_exchange.specs.declared.log.LogEnd.{LogEnd}
 use Rattle.mg_buffer.specs.OpenState.{OpenState, with_brief, with_runs}
-use Rattle.mg_files.specs.Calls.{Call, Adds, found_call}
-use Rattle.mg_files.specs.Files.{Files}
-use Rattle.mg_files.specs.Loading.{load_outcome}
-use Rattle.mg_files.specs.declared.fault.LoadFault.{LoadFault}
 use Rattle.mg_files.specs.Held.{Held, MayLead}
 use Rattle.mg_files.specs.Kept.{IsBuffer, IsLoggedBy}
 use Rattle.mg_files.proofs.OpenSteps.{opened_kept, opened_name}
 use Rattle.mg_files.proofs.ChangeSteps.{made_are}
-use Rattle.mg_screen.specs.Settings.{Values}
 use Rattle.mg_workspace.specs.Buffers.{no_buffer}
 use Rattle.mg_workspace.specs.Opening.{workspace}
 use Rattle.mg_workspace.specs.Workspaces.{Workspace}
-use Rattle.mg_editor.specs.Editors.{Editor}
 use Rattle.mg_editor.specs.Holding.{AreLogged, HaveOwnNames, IsOpenedBy}
-use Rattle.mg_editor.specs.Opening.{opened_editor}
 use Rattle.mg_editor.proofs.NamesLaws.{one_own}
-use Rattle.mg_session.specs.Opening.{LoadsTo}
 use Rattle.mg_live.specs.Made.{unsaved_at}
 use Rattle.mg_live.specs.Running.{live_at_start}
 use Rattle.mg_live.specs.Standing.{AreHeld, AreKept, AreSafe, Stands}
 use Rattle.mg_live.specs.States.{Live, Moment}
-use Rattle.mg_live.proofs.GrowingLaws.{unsaved_held}
+use Rattle.mg_live.proofs.StageLaws.{unsaved_held}
+
+-- a port that was not called
+pub adds_nothing : (calls : ToldCalls) → Adds calls calls []
+adds_nothing calls = grind (arith, append-nil)
 
 abbrev Outcome : Type 0
 Outcome = Result (OpenState × LogEnd) LoadFault
@@ -57,13 +63,17 @@ opened_by v found first (Err fault) outcome is = absurd (true≢false (sym (ap i
 opened_so : (v : Values) (found : Files) (first : Editor) → opened_editor v found ≡ Ok first → Opens v found first
 opened_so v found first is = opened_by v found first (load_outcome v.name v.replica v.limit found) refl is
 
+-- a buffer is open
+pub one_open : (v : Values) (calls told : ToldCalls) (first : Editor) → LoadsTo v calls told (Ok first) → 0 < length first.work.buffers.all
+one_open v calls told first (found, adds, opens) =
+    subst (λ (w : Workspace). 0 < length w.buffers.all) (sym (opened_so v found first opens).work) (omega arith)
+
 -- one of one
 only : (x d : OpenState) → Contains (x ∷ []) d → d ≡ x
-only x d (k, lt, is) = by k lt is
-  where
-    by : (k : ℕ) → k < 1 → get_or (x ∷ []) k d ≡ d → d ≡ x
-    by zero lt is = sym is
-    by (suc k) lt is = absurd (omega (arith, lt))
+only x d c = elim (Contains-push_cases [] x d c) [
+  | inl none ↦ absurd (omega (arith, none.1))
+  | inr is ↦ sym is
+]
 
 module _ (v : Values) (noted : Bool) (first : Editor) (found : Files) (before made : List Call) (s t : Held) (adds : Adds (Some before) (Some (before ++ made)) (found_call v.name found ∷ [])) (opens : Opens v found first) (leads : MayLead made s t) (kept : AreKept first.work.buffers) where
   abbrev buffer : OpenState

@@ -3,44 +3,31 @@ use Rattle.std.proofs.Common.{arith, ◌≡◌, ◌∙◌, ℕ, Bool, List, Opti
 use Rattle.std.specs.Prelude.{IfSome}
 use Rattle.mg_minibuffer.specs.declared.ending.Request.{Request}
 use Rattle.mg_session.specs.Keys.{request_of, said}
-use Rattle.mg_session.specs.Moments.{ToldCalls}
 use Rattle.mg_files.specs.Asking.{Role}
 use Rattle.mg_files.specs.Linking.{Account, ExchangesOver}
 use Rattle.mg_workspace.specs.Workspaces.{Workspace}
 use Rattle.mg_workspace.specs.declared.failures.Task.TheVariants as task
-use Rattle.mg_editor.specs.Carrying.{Carried}
 use Rattle.mg_editor.specs.Editors.{Editor}
-use Rattle.mg_editor.specs.Meeting.{meeting_outcome, role_of}
+use Rattle.mg_editor.specs.Meeting.{meeting_outcome}
 use Rattle.mg_editor.specs.Presses.{PressAnswer}
 use Rattle.mg_editor.specs.Telling.{CarryAnswer, ChangesCurrent}
 use Rattle.mg_live.specs.Keys.{Meets, is_save, saved_by, with_opened}
 use Rattle.mg_live.specs.Made.{is_live, live_index, made_at, with_made}
 use Rattle.mg_live.specs.States.{Live}
 use Rattle.mg_live.specs.Tallies.{with_key}
-use Rattle.mg_live.proofs.MeetingLaws.{have_met}
+use Rattle.mg_live.proofs.CarryLaws.{have_met}
 
 pub said_work : (r : PressAnswer) (e : Editor) → (said r e).work ≡ e.work
 said_work r e = grind arith
-
-pub carried_so : (calls more : ToldCalls) (asked wanted : Request) (old from new : Editor) (r : CarryAnswer) → asked ≡ wanted → old ≡ from
-    → Carried asked calls more old new r → Carried wanted calls more from new r
-carried_so calls more asked wanted old from new r same is carried =
-    subst (λ (e : Editor). Carried wanted calls more e new r) is (subst (λ (q : Request). Carried q calls more old new r) same carried)
 
 module _ {L : Type 0} (a : Account L) where
   abbrev Met : Role → Editor → Editor → CarryAnswer → Type 0
   Met role old new r = ChangesCurrent task.Exchange (λ answer b d. ExchangesOver a b d role answer) meeting_outcome old new r
 
-  met_as : (role : Option Role) (old new : Editor) (r : CarryAnswer) → IfSome role (λ x. Met x old new r)
+  pub met_as : (role : Option Role) (old new : Editor) (r : CarryAnswer) → IfSome role (λ x. Met x old new r)
       → IfSome role (λ _. Meets a.calls a.made old.work.buffers new.work.buffers)
   met_as None old new r met = met
   met_as (Some role) old new r met = have_met a role old new r met
-
-  pub met_so : (asked wanted : Request) (old from new : Editor) (r : CarryAnswer) → asked ≡ wanted → old ≡ from → IfSome (role_of asked) (λ x. Met x old new r)
-      → IfSome (role_of wanted) (λ _. Meets a.calls a.made from.work.buffers new.work.buffers)
-  met_so asked wanted old from new r same is met =
-      subst (λ (e : Editor). IfSome (role_of wanted) (λ _. Meets a.calls a.made e.work.buffers new.work.buffers)) is
-      (subst (λ (q : Request). IfSome (role_of q) (λ _. Meets a.calls a.made old.work.buffers new.work.buffers)) same (met_as (role_of asked) old new r met))
 
 -- what the session keeps
 module _ (e e1 e2 pressed : Editor) (answer : PressAnswer) (l l1 l2 l3 l4 : Live) (noted noted_opened was_open saves : Bool) (r : CarryAnswer) (asked : Request) where

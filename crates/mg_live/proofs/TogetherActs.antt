@@ -1,6 +1,7 @@
 -- What becomes of a live buffer, as acts of a writer of mg_files.
-use Rattle.std.proofs.Common.{◌≡◌, ◌≤◌, inl, inr, ◌∙◌, ℕ, zero, suc, List, [], ◌∷◌, Some, Ok, slice_get, slice_set, refl, sym, ap, subst}
+use Rattle.std.proofs.Common.{◌≡◌, ◌≤◌, inl, inr, ◌∙◌, ℕ, List, [], ◌∷◌, Some, Ok, slice_get, slice_set, refl, sym, ap, subst}
 use Rattle.std.specs.List.{Contains}
+use Rattle.std.proofs.lemmas.List.{set-set}
 use Rattle.rga_ops.specs.Content.{Content, Holds, IsSound, IsWithin, known_count}
 use Rattle.rga_ops.specs.declared.op.Op.{Op}
 use Rattle.rga_ops.proofs.ContentLaws.{within_chain}
@@ -12,7 +13,7 @@ use Rattle.mg_files.specs.Files.{Files}
 use Rattle.mg_files.specs.Loading.{load_outcome}
 use Rattle.mg_files.specs.Held.{Held, AnswersLoad, log_bytes}
 use Rattle.mg_files.specs.Kept.{IsBuffer, IsWritableWhole}
-use Rattle.mg_files.specs.Run.{BufferStep, Saves, Runs, Undoes, Takes, Rests, ChangesAlone, HoldsMore, KeepsOperations, MayGo, MayStep, TakesOnly}
+use Rattle.mg_files.specs.Run.{BufferStep, Takes, Rests, ChangesAlone, HoldsMore, KeepsOperations, MayGo, MayStep, TakesOnly}
 use Rattle.mg_files.specs.Writers.{Writer, Act, Steps, Opens, own_files, own_limit, own_replica, AreReached, Becomes, IsInALog, IsOpenedAnew, IsSiteOf, MayAct, TakesLogged, all_logged}
 use Rattle.mg_files.proofs.WriterSteps.{reached_sites}
 use Rattle.mg_files.proofs.WriterSteps.{all_logged_grows, reached_further}
@@ -62,11 +63,6 @@ act_keeps_logs ws vs (Opens number) op r (x, y, b, opens) g =
 abbrev pub writer : OpenState → Held → Writer
 writer b s = record { buffer = b; files = s }
 
-set_again : {A : Type 0} (xs : List A) (i : ℕ) (x y : A) → slice_set (slice_set xs i x) i y ≡ slice_set xs i y
-set_again [] i x y = refl
-set_again (z ∷ xs) zero x y = refl
-set_again (z ∷ xs) (suc i) x y = ap (λ ys. z ∷ ys) (set_again xs i x y)
-
 -- Acts make of the writer w at that index z, and leave the others. What was in a log is in one.
 pub record Moved (ws : List Writer) (number : ℕ) (w z : Writer) : Type 0 where
   pub writers : List Writer
@@ -94,7 +90,7 @@ moved_once ws number act w z r was replica limit acts = record {
 moved_on : (ws : List Writer) (number : ℕ) (w y z : Writer) (m : Moved ws number w y) → Moved m.writers number y z → Moved ws number w z
 moved_on ws number w y z m n = record {
   writers = n.writers;
-  now = n.now ∙ ap (λ us. slice_set us number z) m.now ∙ set_again ws number y z;
+  now = n.now ∙ ap (λ us. slice_set us number z) m.now ∙ set-set ws number y z;
   reached = n.reached;
   here = n.here;
   replica = n.replica ∙ m.replica;
@@ -108,11 +104,8 @@ moved_on ws number w y z m n = record {
 -- what the steps take is in logs
 takes_logged : (ops : List Op) (ws : List Writer) (step : BufferStep) (steps : List BufferStep) → ((op : Op) → Contains ops op → IsInALog ws op)
     → TakesOnly ops (step ∷ steps) → TakesLogged ws step × TakesOnly ops steps
-takes_logged ops ws (Saves answer) steps logged only = (tt, only)
-takes_logged ops ws (Runs call old new) steps logged only = (tt, only)
-takes_logged ops ws (Undoes old new) steps logged only = (tt, only)
 takes_logged ops ws (Takes taken) steps logged only = ((λ op has. logged op (only.0 op has)), only.1)
-takes_logged ops ws Rests steps logged only = (tt, only)
+takes_logged ops ws step steps logged only = (tt, only)
 
 -- one step
 steps_once : (step : BufferStep) (ws : List Writer) (number : ℕ) (w z : Writer) → AreReached ws → slice_get ws number ≡ Some w

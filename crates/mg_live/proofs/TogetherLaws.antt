@@ -1,8 +1,9 @@
 -- Writers in live sessions are writers of mg_files, whatever they do.
-use Rattle.std.proofs.Common.{◌≡◌, ◌≤◌, ◌⊎◌, inl, inr, ◌∙◌, ℕ, zero, suc, true, List, [], ◌∷◌, map, Some, None, Err, slice_get, slice_set, filter, refl, sym, ap, subst}
+use Rattle.std.proofs.Common.{◌≡◌, ◌≤◌, ◌⊎◌, inl, inr, ◌∙◌, ℕ, true, List, [], ◌∷◌, map, Some, None, Err, slice_get, slice_set, filter, refl, sym, ap, subst}
 use Rattle.std.specs.Prelude.{encode_utf8_all, IfSome}
 use Rattle.std.specs.List.{Contains}
 use Rattle.std.specs.Str.{all_scalars}
+use Rattle.std.proofs.lemmas.List.{map-set}
 use Rattle.std.proofs.lemmas.List.Elements.{Contains-get_or}
 use Rattle.std.proofs.lemmas.Option.{same_Some}
 use Rattle.rga_ops.specs.Content.{nothing, content_of, IsWithin}
@@ -41,7 +42,7 @@ use Rattle.mg_live.proofs.BlockLaws.{Goes, block_goes, told_held, written_name}
 use Rattle.mg_live.proofs.EventLaws.{event_goes}
 use Rattle.mg_live.proofs.KeyLaws.{stands_at, stands_so}
 use Rattle.mg_live.proofs.NameLaws.{open_or_not, same_buffer}
-use Rattle.mg_live.proofs.NumberLaws.{KeepsNumbers, press_numbers, same_numbers}
+use Rattle.mg_live.proofs.ShapeLaws.{KeepsNumbers, press_numbers, same_numbers}
 use Rattle.mg_live.proofs.StageLaws.{is_buffer, opened_as}
 use Rattle.mg_live.proofs.StartLaws.{opened_at_start, name_at_start, numbers_at_start, start_stands}
 use Rattle.mg_live.proofs.TogetherActs.{Moved, goes, opens, rests, writer}
@@ -238,11 +239,6 @@ record Beside (xs : List LiveWriter) (ops : List Op) (ws : List Writer) : Type 0
 log_same : (x : LiveWriter) (w : Writer) → Matches x w → live_logged x ≡ logged_content w
 log_same x w fit = sym (ap (λ (f : Files). content_of (log_operations (log_bytes f.log))) (own_is x w fit))
 
-map_set : {A B : Type 0} (f : A → B) (xs : List A) (i : ℕ) (y : A) → map f (slice_set xs i y) ≡ slice_set (map f xs) i (f y)
-map_set f [] i y = refl
-map_set f (x ∷ xs) zero y = refl
-map_set f (x ∷ xs) (suc i) y = ap (λ ys. f x ∷ ys) (map_set f xs i y)
-
 -- what is shared is in a log
 shared_logged : (xs : List LiveWriter) (told : List Op) (ws : List Writer) (op : Op) → Beside xs told ws → IsShared xs told op → IsInALog ws op
 shared_logged xs told ws op b (inl has) = b.told op has
@@ -282,8 +278,8 @@ module _ (xs ys : List LiveWriter) (told : List Op) (ws : List Writer) (number :
     each = λ i z at. by i z (set_new xs number i y z (sym (ap (λ us. slice_get us i) becomes.now) ∙ at)) at;
     told = λ op has. a.moved.logs op (b.told op has);
     logs =
-        ap (map live_logged) becomes.now ∙ map_set live_logged xs number y ∙ ap (λ l. slice_set l number (live_logged y)) b.logs
-        ∙ ap (slice_set (map logged_content ws) number) (log_same y a.z a.matches) ∙ sym (map_set logged_content ws number a.z) ∙ sym (ap (map logged_content) a.moved.now);
+        ap (map live_logged) becomes.now ∙ map-set live_logged xs number y ∙ ap (λ l. slice_set l number (live_logged y)) b.logs
+        ∙ ap (slice_set (map logged_content ws) number) (log_same y a.z a.matches) ∙ sym (map-set logged_content ws number a.z) ∙ sym (ap (map logged_content) a.moved.now);
   }
     where
       Own : ℕ → LiveWriter → Type 0

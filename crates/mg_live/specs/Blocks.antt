@@ -9,8 +9,6 @@ use Rattle.mg_editor.specs.declared.live_saving.Writing.{Writing}
 use Rattle.mg_editor.specs.declared.live_saving.Writing.TheVariants.{Log, LogAndText}
 use Rattle.mg_live.specs.Changes.{Changes}
 use Rattle.mg_live.specs.Made.{live_index, unsaved_at}
-use Rattle.mg_live.specs.declared.blocks.Due.{Due}
-use Rattle.mg_live.specs.declared.blocks.Due.TheVariants as due
 use Rattle.mg_session.specs.Moments.{StepIf}
 use Rattle.mg_live.specs.States.{Live, Moment}
 use Rattle.mg_live.specs.Statuses.{can_show, Shows}
@@ -61,12 +59,6 @@ abbrev pub writing_due : Live → Editor → Option Writing
 writing_due live e =
     if saves_due live e then Some (LogAndText (touched live e))
     else (if logs_due live e then Some Log else None)
-
--- of the code
-abbrev pub writing_of : Option Due → Option Writing
-writing_of None = None
-writing_of (Some due.Logs) = Some Log
-writing_of (Some (due.Saves live)) = Some (LogAndText live)
 
 -- Each buffer had its turn, if there is something to write.
 abbrev pub Writes : Option Writing → Moment → Moment → Type 0

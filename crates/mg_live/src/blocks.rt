@@ -8,8 +8,8 @@ ghost use Rattle.mg_live.specs.States.{moment};
 ghost use Rattle.mg_live.specs.Statuses.{can_show, Shows};
 
 use crate::live::Live;
-use crate::picture::{Line, show};
-use mg_editor::Editor;
+use crate::picture::show;
+use mg_editor::{Editor, Writing};
 use mg_files::Port;
 use mg_session::Course;
 use rga_exchange::{Counted, append_runs};
@@ -27,15 +27,6 @@ fn touched<S: TextStore>(live: &Live, editor: &Editor<S>) -> Option<usize>
     } else {
         None
     }
-}
-
-/// What is to be written at the end of a block.
-#[derive(Clone, Copy)]
-enum Due {
-    /// The logs of what was made.
-    Logs,
-    /// All that was made or taken; so too what the buffer at the index took of others.
-    Saves(Option<usize>),
 }
 
 /// Whether nobody types, and there is something to save.
@@ -82,15 +73,16 @@ fn has_more<S: TextStore>(live: &Live, editor: &Editor<S>) -> bool
         || !told_operations(live, editor).is_empty()
 }
 
-/// What is to be written at the end of a block.
-fn writing_due<S: TextStore>(live: &Live, editor: &Editor<S>) -> Option<Due>
-    ensures { spec.writing_of result ≡ spec.writing_due live.now editor.now }
+/// What is to be written at the end of a block: all that was made or taken, or the logs of what was
+/// made.
+fn writing_due<S: TextStore>(live: &Live, editor: &Editor<S>) -> Option<Writing>
+    ensures { result ≡ spec.writing_due live.now editor.now }
 {
     if are_saves_due(live, editor) {
-        return Some(Due::Saves(touched(live, editor)));
+        return Some(Writing::LogAndText(touched(live, editor)));
     }
     if are_logs_due(live, editor) {
-        return Some(Due::Logs);
+        return Some(Writing::Log);
     }
     None
 }
@@ -101,16 +93,16 @@ fn write<S: TextStore, P: Port>(
     live: &mut Live,
     editor: &mut Editor<S>,
     port: &mut P,
-    writing: Option<Due>,
+    writing: Option<Writing>,
 )
-    ensures { (screen : Calls Known) → (course : Course) → spec.Writes (spec.writing_of writing)
+    ensures { (screen : Calls Known) → (course : Course) → spec.Writes writing
         (moment editor.old (P.calls port.old) (P.failures port.old) screen course live.old)
         (moment editor.new (P.calls port.new) (P.failures port.new) screen course live.new) }
 {
     live.saved = match writing {
         None => live.saved,
-        Some(Due::Logs) => editor.log_made(port, live.saved),
-        Some(Due::Saves(touched)) => editor.save_touched(touched, port, live.saved),
+        Some(Writing::Log) => editor.log_made(port, live.saved),
+        Some(Writing::LogAndText(touched)) => editor.save_touched(touched, port, live.saved),
     };
 }
 
@@ -160,12 +152,7 @@ fn tell<S: TextStore, W: Write>(
     let Some(told) = told_lines(live.alloc, told_operations(live, editor)) else {
         return Course::NoMemory;
     };
-    let line = Line {
-        fresh,
-        more: false,
-        told: &told,
-    };
-    let course = show(live, editor, screen, line, course);
+    let course = show(live, editor, screen, fresh, false, &told, course);
     mark_told(live, is_told, course);
     course
 }
@@ -195,12 +182,7 @@ fn show_if<S: TextStore, W: Write>(
     if !can_show(course) {
         return course;
     }
-    let line = Line {
-        fresh: true,
-        more,
-        told: &[],
-    };
-    show(live, editor, screen, line, course)
+    show(live, editor, screen, true, more, &[], course)
 }
 
 /// Writes a second status, where one follows and may be written.

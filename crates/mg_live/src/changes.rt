@@ -164,6 +164,7 @@ fn common_end_blocks(old: &[char], new: &[char], known: usize) -> usize
 }
 
 /// How many characters two texts have in common at their beginnings, of which so many are known.
+#[tactic(auto, using(crate::proofs::ChangeLaws::new_ended))]
 fn common_front(old: &[char], new: &[char], known: usize) -> usize
     requires old { known ≤ length old.now }
     requires new { known ≤ length new.now }
@@ -180,6 +181,7 @@ fn common_front(old: &[char], new: &[char], known: usize) -> usize
 }
 
 /// How many they have in common at their ends, of which so many are known.
+#[tactic(auto, using(std::proofs::lemmas::Grind::common_steps, crate::proofs::ChangeLaws::at_ends))]
 fn common_end(old: &[char], new: &[char], known: usize) -> usize
     requires old { known ≤ length old.now }
     requires new { known ≤ length new.now }

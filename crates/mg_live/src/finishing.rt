@@ -47,17 +47,6 @@ fn cut(live: &mut Live, is_within: bool) -> Course
     cut_if(live, is_spliced, course)
 }
 
-/// The same, where nothing failed.
-fn cut_on(live: &mut Live, is_within: bool, course: Course) -> Course
-    ensures { spec.CutsOn is_within course live.old live.new result }
-{
-    if is_on(course) {
-        cut(live, is_within)
-    } else {
-        course
-    }
-}
-
 /// Refuses what the keys ended within, where nothing failed, saves all, and tells it.
 pub(crate) fn finish<S: Teller, W: Write, P: Port>(
     live: &mut Live,
@@ -73,7 +62,11 @@ pub(crate) fn finish<S: Teller, W: Write, P: Port>(
         (moment editor.new (P.calls port.new) (P.failures port.new)
         (seen W.contents screen.new) result live.new) }
 {
-    let course = cut_on(live, is_within, course);
+    let course = if is_on(course) {
+        cut(live, is_within)
+    } else {
+        course
+    };
     live.telling.resting = true;
     end_block(live, editor, screen, port, course)
 }

@@ -55,7 +55,8 @@ impl Gathered {
         ensures { ((self.new, result) ≡ spec.gather piece.now more self.old)
             ⊎ ((self.new, result) ≡ spec.drop_text more LineFault.Memory) }
     {
-        if self.dropped || !fits(self.text.len(), piece.len()) {
+        let held = self.text.len();
+        if self.dropped || held > MAX_HELD || piece.len() > MAX_HELD - held {
             return self.drop_text(more, LineFault::Long);
         }
         match self.text.extend_from_slice(piece) {
@@ -90,11 +91,4 @@ impl Gathered {
     {
         self.dropped || !self.text.as_slice().is_empty()
     }
-}
-
-/// Whether so many characters more may be held.
-fn fits(held: usize, more: usize) -> bool
-    ensures { result ≡ spec.fits held more }
-{
-    held <= MAX_HELD && more <= MAX_HELD - held
 }

@@ -1,6 +1,5 @@
 //! What a live session keeps beside its editor.
-ghost use Rattle.std.specs.Prelude.{◌≡◌, IfOk, chars, Some, None, if◌then◌else◌};
-ghost use Rattle.mg_live.specs.Changes as changes;
+ghost use Rattle.std.specs.Prelude.{◌≡◌, IfOk, chars};
 
 use crate::changes::Changes;
 use crate::gathered::Gathered;
@@ -72,7 +71,7 @@ impl Live {
             paste: Gathered::new(alloc),
             splice: Gathered::new(alloc),
             telling: Telling::new(alloc),
-            changes: fresh_changes(alloc, values.changes),
+            changes: values.changes.then_some(Changes::new(alloc)),
             places: Vec::new(alloc),
             loaded: false,
             saved: None,
@@ -86,14 +85,4 @@ fn name_of(alloc: Global, values: &Values) -> Result<Vec<char>, AllocError>
     ensures { IfOk result (λ name. name.items ≡ chars values.now.name) }
 {
     values.name.as_str().chars().collect(alloc)
-}
-
-/// No change yet, where changes are asked for. Takes no memory.
-fn fresh_changes(alloc: Global, are_asked: bool) -> Option<Changes>
-    ensures { result ≡ if are_asked then Some changes.no_changes else None }
-{
-    if !are_asked {
-        return None;
-    }
-    Some(Changes::new(alloc))
 }

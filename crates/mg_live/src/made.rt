@@ -71,7 +71,7 @@ pub(crate) fn note_made<S: TextStore>(live: &mut Live, editor: &Editor<S>, mark:
         (spec.made_at i old editor.now) live.old }
 {
     let made = made_since(editor, mark);
-    live.telling.note_made(!made.is_empty());
+    live.telling.made = live.telling.made || !made.is_empty();
     if !mark.is_live {
         return true;
     }

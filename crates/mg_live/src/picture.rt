@@ -19,15 +19,6 @@ use rga_store::TextStore;
 use std::alloc::{AllocError, Global};
 use std::io::Write;
 
-/// What is to be shown: a fresh frame or none, whether a second status follows, and lines of
-/// operations.
-#[derive(Clone, Copy)]
-pub(crate) struct Line<'a> {
-    pub(crate) fresh: bool,
-    pub(crate) more: bool,
-    pub(crate) told: &'a [u8],
-}
-
 /// How many rows and lines of operations stand after a status, and whether a second one follows.
 #[derive(Clone, Copy)]
 pub(crate) struct After {
@@ -186,24 +177,27 @@ fn picture<S: TextStore>(
     Ok(bytes)
 }
 
-/// Writes a status with what stands after it. The frame is drawn if it is to be fresh, unless changes
-/// are told in its place. The session then stands as it did, unless that fails.
+/// Writes a status, which says whether a second one follows, with what stands after it: lines of
+/// operations come last. The frame is drawn if it is to be fresh, unless changes are told in its
+/// place. The session then stands as it did, unless that fails.
 pub(crate) fn show<S: TextStore, W: Write>(
     live: &mut Live,
     editor: &mut Editor<S>,
     screen: &mut Counted<W>,
-    line: Line<'_>,
+    fresh: bool,
+    more: bool,
+    told: &[u8],
     course: Course,
 ) -> Course
     ensures { (calls : ToldCalls) (faults : ℕ) →
-        spec.Shows line.entry.fresh line.entry.more line.entry.told.now
+        spec.Shows fresh more told.now
         (moment editor.old calls faults (seen W.contents screen.old) course live.old)
         (moment editor.new calls faults (seen W.contents screen.new) result live.new) }
 {
-    let Some(is_new) = ready(live, editor, line.fresh) else {
+    let Some(is_new) = ready(live, editor, fresh) else {
         return Course::NoMemory;
     };
-    let Ok(bytes) = picture(live, editor, is_new, line.more, line.told) else {
+    let Ok(bytes) = picture(live, editor, is_new, more, told) else {
         return Course::NoMemory;
     };
     match write_bytes(&bytes, screen) {

@@ -86,27 +86,21 @@ fn count_event(event: Event, any: bool) -> bool
     }
 }
 
-/// How a session stands after the bytes of a read, and whether there was any event.
-#[derive(Clone, Copy)]
-struct Taken {
-    course: Course,
-    any: bool,
-}
-
-/// Takes the bytes of a read, up to one behind which the session ends.
+/// Takes the bytes of a read, up to one behind which the session ends. Answers how it stands then, and
+/// whether there was any event.
 fn take_bytes<S: Teller, P: Port>(
     live: &mut Live,
     editor: &mut Editor<S>,
     reader: &mut Reader,
     block: &[u8],
     port: &mut P,
-) -> Taken
+) -> (Course, bool)
     requires { IsTold live.old editor.old }
     ensures taken { (screen : Calls Known) → spec.TakesBytes block.now reader.old false
         (moment editor.old (P.calls port.old) (P.failures port.old)
-        screen On live.old) reader.new result.any
-        (moment editor.new (P.calls port.new) (P.failures port.new) screen result.course live.new) }
-    ensures told { result.course ≡ On → IsTold live.new editor.new }
+        screen On live.old) reader.new result.1
+        (moment editor.new (P.calls port.new) (P.failures port.new) screen result.0 live.new) }
+    ensures told { result.0 ≡ On → IsTold live.new editor.new }
 {
     let mut any = false;
     for byte in block {
@@ -114,13 +108,10 @@ fn take_bytes<S: Teller, P: Port>(
         any = count_event(event, any);
         match take_event(live, editor, event, reader.line(), port) {
             Course::On => {}
-            ended => return Taken { course: ended, any },
+            ended => return (ended, any),
         }
     }
-    Taken {
-        course: Course::On,
-        any,
-    }
+    (Course::On, any)
 }
 
 /// Takes the bytes of a read, and ends the block if there was an event.
@@ -140,11 +131,11 @@ fn take_block<S: Teller, W: Write, P: Port>(
         (seen W.contents screen.new) result live.new) }
     ensures told { result ≡ On → IsTold live.new editor.new }
 {
-    let taken = take_bytes(live, editor, reader, block, port);
-    if taken.any {
-        end_block(live, editor, screen, port, taken.course)
+    let (course, any) = take_bytes(live, editor, reader, block, port);
+    if any {
+        end_block(live, editor, screen, port, course)
     } else {
-        taken.course
+        course
     }
 }
 

@@ -1,5 +1,5 @@
 //! What of the own operations is still to be saved and told.
-ghost use Rattle.std.specs.Prelude.{◌≡◌, ◌++◌, ◌||◌, OnOk, OnErr};
+ghost use Rattle.std.specs.Prelude.{◌≡◌, ◌++◌, OnOk, OnErr};
 ghost use Rattle.mg_live.specs.Telling as spec;
 
 use rga_ops::Op;
@@ -54,12 +54,5 @@ impl Telling {
     {
         self.untold.extend_from_slice(ops)?;
         Ok(())
-    }
-
-    /// Something was made in this block, or not. Takes no memory.
-    pub(crate) fn note_made(&mut self, is_any: bool)
-        ensures { self.new ≡ record self.old { made = self.old.made || is_any } }
-    {
-        self.made = self.made || is_any;
     }
 }

@@ -1,5 +1,5 @@
 use Rattle.std.proofs.Common.{arith, sym, ◌∙◌, ◌-◌, ◌≤◌, ◌+◌, length, drop}
-use Rattle.mg_live.proofs.AlikeLaws.{less_alike, whole_rest}
+use Rattle.mg_live.proofs.ChangeLaws.{less_alike, whole_rest}
 use Rattle.mg_live.proofs.changes.change_between.Goals as goal
 
 pub common_end-same-requires-clause-alike : goal.common_end-same-requires-clause-alike

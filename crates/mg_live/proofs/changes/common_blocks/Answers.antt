@@ -1,6 +1,6 @@
 use Rattle.std.proofs.Common.{arith, ap, sym, ◌∙◌, ◌-◌, ◌≤◌, ◌+◌, length, drop, take}
 use Rattle.std.proofs.lemmas.List.{length-drop, take_all}
-use Rattle.mg_live.proofs.AlikeLaws.{block_on, front_known}
+use Rattle.mg_live.proofs.ChangeLaws.{block_on, front_known}
 use Rattle.mg_live.proofs.changes.common_blocks.Goals as goal
 
 pub blocks-2-init : goal.blocks-2-init

@@ -1,7 +1,6 @@
-use Rattle.std.proofs.Common.{arith, reverse, length, get_or, ◌≡◌, ◌≤◌, ◌-◌, sym, ◌∙◌}
+use Rattle.std.proofs.Common.{arith, length, get_or, ◌≡◌, ◌-◌, sym, ◌∙◌}
 use Rattle.std.proofs.lemmas.Grind.{get_or_default_zero}
-use Rattle.std.proofs.lemmas.List.{length-reverse}
-use Rattle.mg_live.proofs.ChangeLaws.{new_ended, next_at_end, next_other_at_end}
+use Rattle.mg_live.proofs.ChangeLaws.{next_at_end, next_other_at_end}
 use Rattle.mg_live.proofs.changes.common_end.Goals as goal
 
 pub alike-preserved : goal.alike-preserved
@@ -27,9 +26,3 @@ returns-else-old-count-clause-exact c =
     c.index-new-new.is ∙ get_or_default_zero new (length new - 1 - i) _ (omega (arith, c.if-count-new.true)) in
     let next = next_other_at_end old new i 0 (omega (arith, c.alike-test.true)) (omega (arith, c.if-count-new.true)) (λ is. c.if-old-count.false (first ∙ is ∙ sym second)) in
     omega (arith, c.alike.invariant.exact, next)
-
-pub returns-else-count-new-clause-exact : goal.returns-else-count-new-clause-exact
-returns-else-count-new-clause-exact c =
-    let over : length (reverse c.args.new.now) ≤ c.alike.count = omega (arith, length-reverse c.args.new.now, c.if-count-new.false) in
-    let ended = new_ended (reverse c.args.old.now) (reverse c.args.new.now) c.alike.count over in
-    omega (arith, c.alike.invariant.exact, ended)

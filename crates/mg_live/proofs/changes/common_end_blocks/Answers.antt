@@ -1,6 +1,6 @@
 use Rattle.std.proofs.Common.{arith, ◌≤◌, ◌+◌, ◌-◌, length}
 use Rattle.std.proofs.lemmas.List.{length-take}
-use Rattle.mg_live.proofs.AlikeLaws.{end_block_on, end_known}
+use Rattle.mg_live.proofs.ChangeLaws.{end_block_on, end_known}
 use Rattle.mg_live.proofs.changes.common_end_blocks.Goals as goal
 
 pub blocks-2-init : goal.blocks-2-init

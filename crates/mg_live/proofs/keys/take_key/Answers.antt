@@ -1,7 +1,8 @@
 use Rattle.std.proofs.Common.{◌∙◌, ◌&&◌, ap, refl}
+use Rattle.mg_editor.specs.Meeting.{role_of}
 use Rattle.mg_session.specs.Keys.{course_behind}
 use Rattle.mg_live.specs.Made.{if_memory}
-use Rattle.mg_live.proofs.TakenKeyLaws.{carried_so, key_live, met_so}
+use Rattle.mg_live.proofs.TakenKeyLaws.{key_live, met_as}
 use Rattle.mg_live.proofs.keys.take_key.Goals as goal
 
 pub returns : goal.returns
@@ -20,9 +21,9 @@ returns g c = λ screen.
       noted = noted;
       noted_opened = noted_opened;
       presses = press.2;
-      carried = carried_so _ _ asked _ from _ c.carry-answer.new.self answer press.4 press.3 carry.carried;
+      carried = rw (press.4, press.3) at carry.carried;
       device = carry.device;
-      met = met_so _ asked _ from _ c.carry-answer.new.self answer press.4 press.3 carry.met;
+      met = rw (press.4, press.3) at (met_as _ (role_of asked) from c.carry-answer.new.self answer carry.met);
       screen = refl;
       live = key_live c.args.editor.now from c.carry-answer.new.self press.1 press.0 c.args.live.now c.count_key.new.live c.note_made-noted.new.live
           c.keep_saved.new.live c.note_opened-noted_opened.new.live noted noted_opened c.is_open-was_open.result c.is_save-saves.result answer asked

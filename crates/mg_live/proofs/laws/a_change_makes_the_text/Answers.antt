@@ -1,4 +1,4 @@
-use Rattle.mg_live.proofs.ChangeTextLaws.{change_makes, change_within, no_change, no_change_of_itself}
+use Rattle.mg_live.proofs.ChangeLaws.{change_makes, change_within, no_change, no_change_of_itself}
 use Rattle.mg_live.proofs.laws.a_change_makes_the_text.Goals as goal
 
 pub returns : goal.returns

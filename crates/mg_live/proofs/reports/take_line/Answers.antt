@@ -10,5 +10,6 @@ returns-in-Ok-clause-reach g c = λ told.
     subst (λ r. WasTold r follow.new.live follow.new.editor) (sym c.reach_of-reach.ensures)
     (reached_from c.in-Ok.report c.args.editor.now c.args.live.now _ follow.new.editor follow.new.live follow.result follow.ensures (record {
       name = ap (λ (l : Live). l.name) c.live.view_is;
+      untold = ap (λ (l : Live). l.telling.untold) c.live.view_is;
       changes = ap (λ (l : Live). l.changes) c.live.view_is;
     }) told)

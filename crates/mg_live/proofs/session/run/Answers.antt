@@ -1,6 +1,6 @@
 use Rattle.std.proofs.Common.{refl}
 use Rattle.mg_live.proofs.ReachLaws.{anywhere}
-use Rattle.mg_live.proofs.TakenLaws.{noted_so, runs_quit, runs_on}
+use Rattle.mg_live.proofs.StandingLaws.{noted_so, runs_quit, runs_on}
 use Rattle.mg_live.proofs.ToldLaws.{told_after_block, told_once_noted}
 use Rattle.mg_live.proofs.session.run.Goals as goal
 

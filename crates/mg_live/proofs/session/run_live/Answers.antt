@@ -1,7 +1,7 @@
 use Rattle.std.proofs.Common.{Err, inl, refl, rules}
 use Rattle.mg_session.specs.declared.fault.SessionFault.TheVariants.{Memory}
-use Rattle.mg_live.proofs.OpeningLaws.{adds_nothing, one_open}
-use Rattle.mg_live.proofs.SessionLaws.{session_ran}
+use Rattle.mg_live.proofs.StartLaws.{adds_nothing, one_open}
+use Rattle.mg_live.proofs.StandingLaws.{session_ran}
 use Rattle.mg_live.proofs.session.run_live.Goals as goal
 
 pub note_start-begun-requires : goal.note_start-begun-requires

@@ -1,5 +1,5 @@
 use Rattle.std.proofs.Common.{arith, refl, sym}
-use Rattle.mg_live.proofs.TakenLaws.{next_byte, takes_none}
+use Rattle.mg_live.proofs.StandingLaws.{next_byte, takes_none}
 use Rattle.mg_live.proofs.taking.take_bytes.Goals as goal
 
 pub loop-byte-preserved : goal.loop-byte-preserved

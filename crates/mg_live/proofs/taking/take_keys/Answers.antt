@@ -2,7 +2,7 @@ use Rattle.std.proofs.Common.{rules, [], ◌≡◌}
 use Rattle.std.proofs.KnownBytes.{Consumes-nil, Consumes-kept}
 use Rattle.mg_session.specs.declared.course.Course.TheVariants.{On}
 use Rattle.mg_live.specs.Running.{ended}
-use Rattle.mg_live.proofs.TakenLaws.{reads_end, reads_failed, reads_more}
+use Rattle.mg_live.proofs.StandingLaws.{reads_end, reads_failed, reads_more}
 use Rattle.mg_live.proofs.taking.take_keys.Goals as goal
 
 pub take_block-course-requires : goal.take_block-course-requires

@@ -1,5 +1,5 @@
 use Rattle.mg_live.proofs.ReachLaws.{anywhere}
-use Rattle.mg_live.proofs.TakenLaws.{noted_so}
+use Rattle.mg_live.proofs.StandingLaws.{noted_so}
 use Rattle.mg_live.proofs.ToldLaws.{told_once_noted}
 use Rattle.mg_live.proofs.taking.take_noted_key.Goals as goal
 

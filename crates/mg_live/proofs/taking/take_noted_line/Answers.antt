@@ -1,6 +1,6 @@
 use Rattle.std.proofs.Common.{refl}
 use Rattle.mg_live.specs.States.{moment}
-use Rattle.mg_live.proofs.TakenLaws.{noted_so}
+use Rattle.mg_live.proofs.StandingLaws.{noted_so}
 use Rattle.mg_live.proofs.ToldLaws.{told_once_noted}
 use Rattle.mg_live.proofs.taking.take_noted_line.Goals as goal
 

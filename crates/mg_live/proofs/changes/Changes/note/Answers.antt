@@ -1,7 +1,7 @@
 use Rattle.std.proofs.Common.{arith, ◌≡◌, ◌++◌, ◌∷◌, [], ap, sym, ◌∙◌, Some}
 use Rattle.rga_ops.specs.Splice.{Splice, spliced}
 use Rattle.rga_exchange.specs.Counting.{one_more}
-use Rattle.mg_live.proofs.ChangeTextLaws.{change_within, change_makes, noted_change}
+use Rattle.mg_live.proofs.ChangeLaws.{change_within, change_makes, noted_change}
 use Rattle.mg_live.specs.Changes.{Changes, change_between}
 use Rattle.mg_live.proofs.changes.Changes.note.Goals as goal
 
