@@ -1,106 +1,68 @@
 -- What stands under a name behind each beginning of the steps that give it a file.
 use Rattle.std.proofs.Common.{◌≡◌, ◌⊎◌, inl, inr, ℕ, List, [], ◌∷◌, ◌++◌, Bool, true, false, Option, Some, None, Result, OnErr, refl, sym, ap, ◌∙◌, subst, append_assoc}
 use Rattle.std.proofs.lemmas.Result.{on_err_weaker}
-use Rattle.mgr_port.specs.Disk.{DiskStep, Empties, Writes, Syncs, Keeps, TakesName, SyncsFolder, Removes, BeginsSteps, AreGivenUp, Place, behind_step, behind_steps, MayStand, MayBeFound, IsUntouched, keeping_steps, unnamed_steps, naming_steps, whole_steps, TellsSteps, TellsWrittenFront, StopsBefore}
+use Rattle.mgr_port.specs.Disk.{DiskStep, Empties, Writes, Syncs, Keeps, TakesName, SyncsFolder, Removes, BeginsSteps, AreGivenUp, Place, behind_step, behind_steps, MayBeFound, IsUntouched, keeping_steps, unnamed_steps, whole_steps, TellsSteps, TellsWrittenFront, StopsBefore}
 
--- What holds of a place, holds of it behind a part of the first step where that is a write, and behind that step and any
--- beginning of the others, holds behind any beginning of all.
-begun : (Q : Place → Type 0) (p : Place) (step : DiskStep) (later made : List DiskStep) → BeginsSteps made (step ∷ later)
-    → Q p → ((part more : List ℕ) → step ≡ Writes (part ++ more) → Q (behind_step p (Writes part)))
-    → ((others : List DiskStep) → BeginsSteps others later → Q (behind_steps (behind_step p step) others)) → Q (behind_steps p made)
-begun Q p step later made begins none half further =
-    elim begins [
-      | inl is ↦ subst (λ (l : List DiskStep). Q (behind_steps p l)) (sym is) none
-      | inr (inl w) ↦ subst (λ (l : List DiskStep). Q (behind_steps p l)) (sym w.3) (half w.0 w.1 w.2)
-      | inr (inr f) ↦ subst (λ (l : List DiskStep). Q (behind_steps p l)) (sym f.1) (further f.0 f.2)
-    ]
+-- It holds of a place, of it behind a part of the first step where that is a write, and so on behind that step.
+abbrev Always : (Place → Type 0) → Place → List DiskStep → Type 0
+Always Q p [] = Q p
+Always Q p (step ∷ later) =
+    Q p × ((part more : List ℕ) → step ≡ Writes (part ++ more) → Q (behind_step p (Writes part))) × Always Q (behind_step p step) later
 
-unnamed : (old found : Option (List ℕ)) (p : Place) → p.is_named ≡ false → p.is_settled ≡ false → MayBeFound old p found → found ≡ old
-unnamed old found p named settled may =
-    subst (λ b. MayStand false b old p found) settled (subst (λ b. MayStand b p.is_settled old p found) named may)
+-- so it holds behind any beginning of these steps
+always : (Q : Place → Type 0) (p : Place) (steps made : List DiskStep) → Always Q p steps → BeginsSteps made steps → Q (behind_steps p made)
+always Q p [] made now is = subst (λ (l : List DiskStep). Q (behind_steps p l)) (sym is) now
+always Q p (step ∷ later) made (now, half, further) begins = elim begins [
+  | inl is ↦ subst (λ (l : List DiskStep). Q (behind_steps p l)) (sym is) now
+  | inr (inl w) ↦ subst (λ (l : List DiskStep). Q (behind_steps p l)) (sym w.3) (half w.0 w.1 w.2)
+  | inr (inr f) ↦ subst (λ (l : List DiskStep). Q (behind_steps p l)) (sym f.1) (always Q (behind_step p step) later f.0 further f.2)
+]
 
-abbrev IsOneOf : Option (List ℕ) → List ℕ → Option (List ℕ) → Place → Type 0
-IsOneOf old bytes found p = MayBeFound old p found → (found ≡ old) ⊎ (found ≡ Some bytes)
+abbrev untouched : List ℕ → Bool → Place
+untouched beside synced = record { beside = beside; is_synced = synced; is_kept = false; is_named = false; is_settled = false }
+
+-- it is enough to look at places of which the rest is known
+from_untouched : (Q : Place → Type 0) (p : Place) (steps made : List DiskStep) → IsUntouched p → ((beside : List ℕ) (synced : Bool) → Always Q (untouched beside synced) steps)
+    → BeginsSteps made steps → Q (behind_steps p made)
+from_untouched Q p steps made u holds begins =
+    let is : untouched p.beside p.is_synced ≡ p =
+    λ k. record { beside = p.beside; is_synced = p.is_synced; is_kept = sym u.unkept k; is_named = sym u.unnamed k; is_settled = sym u.unsettled k } in
+    subst (λ (q : Place). Q (behind_steps q made)) is (always Q (untouched p.beside p.is_synced) steps made (holds p.beside p.is_synced) begins)
 
 module _ (old found : Option (List ℕ)) (bytes : List ℕ) where
-  -- as long as the file beside has no name
-  early : (p : Place) (step : DiskStep) (later made : List DiskStep) → p.is_named ≡ false → p.is_settled ≡ false → BeginsSteps made (step ∷ later)
-      → ((others : List DiskStep) → BeginsSteps others later → IsOneOf old bytes found (behind_steps (behind_step p step) others))
-      → IsOneOf old bytes found (behind_steps p made)
-  early p step later made named settled begins further =
-      begun (IsOneOf old bytes found) p step later made begins
-      (λ may. inl (unnamed old found p named settled may))
-      (λ part more same may. inl (unnamed old found (behind_step p (Writes part)) named settled may))
-      further
-
-  settled_now : (p : Place) (others : List DiskStep) → p.is_named ≡ true → p.is_synced ≡ true → p.beside ≡ bytes → others ≡ []
-      → MayBeFound old (behind_steps (behind_step p SyncsFolder) others) found → found ≡ Some bytes
-  settled_now p others named synced whole is may =
-      let here : MayBeFound old (behind_step p SyncsFolder) found = subst (λ (l : List DiskStep). MayBeFound old (behind_steps (behind_step p SyncsFolder) l) found) is may in
-      let beside : MayStand true true old (behind_step p SyncsFolder) found = subst (λ b. MayStand b b old (behind_step p SyncsFolder) found) named here in
-      beside synced ∙ ap (λ (l : List ℕ). Some l) whole
+  abbrev IsOneOf : Place → Type 0
+  IsOneOf p = MayBeFound old p found → (found ≡ old) ⊎ (found ≡ Some bytes)
 
   -- the file beside has just got the name, with all of its bytes on the device
-  late : (p : Place) (made : List DiskStep) → p.is_named ≡ true → p.is_settled ≡ false → p.is_synced ≡ true → p.beside ≡ bytes
-      → BeginsSteps made (SyncsFolder ∷ []) → IsOneOf old bytes found (behind_steps p made)
-  late p made named settled synced whole begins =
-      begun (IsOneOf old bytes found) p SyncsFolder [] made begins
-      (λ may. elim (subst (λ b. MayStand true b old p found) settled (subst (λ b. MayStand b p.is_settled old p found) named may)) [
-        | inl is ↦ inl is
-        | inr beside ↦ inr (beside synced ∙ ap (λ (l : List ℕ). Some l) whole)
-      ])
-      (λ part more same may. absurd cc)
-      (λ others is may. inr (settled_now p others named synced whole is may))
+  late : (found ≡ old) ⊎ (true ≡ true → found ≡ Some bytes) → (found ≡ old) ⊎ (found ≡ Some bytes)
+  late (inl is) = inl is
+  late (inr beside) = inr (beside refl)
 
-  -- all of its bytes are on the device, and it gets the name
-  taking : (p : Place) (made : List DiskStep) → p.is_named ≡ false → p.is_settled ≡ false → p.is_synced ≡ true → p.beside ≡ bytes
-      → BeginsSteps made (TakesName ∷ SyncsFolder ∷ []) → IsOneOf old bytes found (behind_steps p made)
-  taking p made named settled synced whole begins =
-      early p TakesName (SyncsFolder ∷ []) made named settled begins
-      (λ others more. late (behind_step p TakesName) others refl settled synced whole more)
+  stand : (keeps : Bool) (beside : List ℕ) (synced : Bool) → Always IsOneOf (untouched beside synced) (whole_steps keeps bytes)
+  stand false beside synced = (inl, λ _ _ _. inl, (inl, λ _ _ _. inl, (inl, λ _ _ _. inl, (inl, λ _ _ _. inl, (late, λ part more same. absurd cc, λ may. inr (may refl))))))
+  stand true beside synced = (inl, λ _ _ _. inl, (inl, λ _ _ _. inl, (inl, λ _ _ _. inl, (inl, λ _ _ _. inl, (inl, λ _ _ _. inl, (late, λ part more same. absurd cc, λ may. inr (may refl)))))))
 
-  naming : (keeps : Bool) (p : Place) (made : List DiskStep) → p.is_named ≡ false → p.is_settled ≡ false → p.is_synced ≡ true → p.beside ≡ bytes
-      → BeginsSteps made (naming_steps keeps ++ SyncsFolder ∷ []) → IsOneOf old bytes found (behind_steps p made)
-  naming false p made named settled synced whole begins = taking p made named settled synced whole begins
-  naming true p made named settled synced whole begins =
-      early p Keeps (TakesName ∷ SyncsFolder ∷ []) made named settled begins
-      (λ others more. taking (behind_step p Keeps) others named settled synced whole more)
-
-  pub one_of_them : (p : Place) (keeps : Bool) (made : List DiskStep) → IsUntouched p → BeginsSteps made (whole_steps keeps bytes) → IsOneOf old bytes found (behind_steps p made)
-  one_of_them p keeps made u begins =
-      early p Empties (Writes bytes ∷ Syncs ∷ (naming_steps keeps ++ SyncsFolder ∷ [])) made u.unnamed u.unsettled begins
-      (λ written more. early (behind_step p Empties) (Writes bytes) (Syncs ∷ (naming_steps keeps ++ SyncsFolder ∷ [])) written u.unnamed u.unsettled more
-      (λ synced then. early (behind_step (behind_step p Empties) (Writes bytes)) Syncs (naming_steps keeps ++ SyncsFolder ∷ []) synced u.unnamed u.unsettled then
-      (λ named last. naming keeps (behind_step (behind_step (behind_step p Empties) (Writes bytes)) Syncs) named u.unnamed u.unsettled refl refl last)))
+  pub one_of_them : (p : Place) (keeps : Bool) (made : List DiskStep) → IsUntouched p → BeginsSteps made (whole_steps keeps bytes) → IsOneOf (behind_steps p made)
+  one_of_them p keeps made u begins = from_untouched IsOneOf p (whole_steps keeps bytes) made u (stand keeps) begins
 
 -- ---- a file beside that was given up
-
-abbrev IsUnnamed : Place → Type 0
-IsUnnamed p = (p.is_named ≡ false) × (p.is_settled ≡ false)
-
-keeping : (keeps : Bool) (p : Place) (made : List DiskStep) → IsUnnamed p → BeginsSteps made (keeping_steps keeps) → IsUnnamed (behind_steps p made)
-keeping false p made u none = subst (λ (l : List DiskStep). IsUnnamed (behind_steps p l)) (sym none) u
-keeping true p made u begins =
-    begun IsUnnamed p Keeps [] made begins u (λ part more same. u)
-    (λ others none. subst (λ (l : List DiskStep). IsUnnamed (behind_steps (behind_step p Keeps) l)) (sym none) u)
-
-still_unnamed : (p : Place) (keeps : Bool) (bytes : List ℕ) (made : List DiskStep) → IsUnnamed p → BeginsSteps made (unnamed_steps keeps bytes) → IsUnnamed (behind_steps p made)
-still_unnamed p keeps bytes made u begins =
-    begun IsUnnamed p Empties (Writes bytes ∷ Syncs ∷ keeping_steps keeps) made begins u (λ part more same. u)
-    (λ written more. begun IsUnnamed (behind_step p Empties) (Writes bytes) (Syncs ∷ keeping_steps keeps) written more u (λ part rest same. u)
-    (λ synced then. begun IsUnnamed (behind_step (behind_step p Empties) (Writes bytes)) Syncs (keeping_steps keeps) synced then u (λ part rest same. u)
-    (λ kept last. keeping keeps (behind_step (behind_step (behind_step p Empties) (Writes bytes)) Syncs) kept u last)))
 
 then_removed : (p : Place) (made : List DiskStep) → behind_steps p (made ++ Removes ∷ []) ≡ behind_step (behind_steps p made) Removes
 then_removed p [] = refl
 then_removed p (step ∷ made) = then_removed (behind_step p step) made
 
-pub old_stands : (old found : Option (List ℕ)) (p : Place) (keeps : Bool) (bytes : List ℕ) (made : List DiskStep) → IsUntouched p → AreGivenUp keeps bytes made → MayBeFound old (behind_steps p made) found → found ≡ old
-old_stands old found p keeps bytes made u given may =
-    let still : IsUnnamed (behind_steps p given.begun) = still_unnamed p keeps bytes given.begun (u.unnamed, u.unsettled) given.begins in
-    let here : MayBeFound old (behind_step (behind_steps p given.begun) Removes) found =
-    subst (λ (q : Place). MayBeFound old q found) (ap (behind_steps p) given.is ∙ then_removed p given.begun) may in
-    unnamed old found (behind_step (behind_steps p given.begun) Removes) still.0 still.1 here
+module _ (old found : Option (List ℕ)) where
+  abbrev IsOld : Place → Type 0
+  IsOld p = MayBeFound old (behind_step p Removes) found → found ≡ old
+
+  stay : (keeps : Bool) (bytes beside : List ℕ) (synced : Bool) → Always IsOld (untouched beside synced) (unnamed_steps keeps bytes)
+  stay false bytes beside synced = (λ m. m, λ _ _ _ m. m, (λ m. m, λ _ _ _ m. m, (λ m. m, λ _ _ _ m. m, λ m. m)))
+  stay true bytes beside synced = (λ m. m, λ _ _ _ m. m, (λ m. m, λ _ _ _ m. m, (λ m. m, λ _ _ _ m. m, (λ m. m, λ _ _ _ m. m, λ m. m))))
+
+  pub old_stands : (p : Place) (keeps : Bool) (bytes : List ℕ) (made : List DiskStep) → IsUntouched p → AreGivenUp keeps bytes made → MayBeFound old (behind_steps p made) found → found ≡ old
+  old_stands p keeps bytes made u given may =
+      from_untouched IsOld p (unnamed_steps keeps bytes) given.begun u (stay keeps bytes) given.begins
+      (subst (λ (q : Place). MayBeFound old q found) (ap (behind_steps p) given.is ∙ then_removed p given.begun) may)
 
 -- ---- what stood there
 
@@ -108,31 +70,9 @@ old_stands old found p keeps bytes made u given may =
 abbrev IsKept : Place → Type 0
 IsKept p = p.is_named ≡ true → p.is_kept ≡ true
 
-unnamed_kept : (p : Place) → p.is_named ≡ false → IsKept p
-unnamed_kept p named is = let e : false ≡ true = sym named ∙ is in absurd cc
-
-early_kept : (p : Place) (step : DiskStep) (later made : List DiskStep) → p.is_named ≡ false → BeginsSteps made (step ∷ later)
-    → ((others : List DiskStep) → BeginsSteps others later → IsKept (behind_steps (behind_step p step) others)) → IsKept (behind_steps p made)
-early_kept p step later made named begins further =
-    begun IsKept p step later made begins (unnamed_kept p named) (λ part more same. unnamed_kept (behind_step p (Writes part)) named) further
-
-kept_for_good : (p : Place) (steps : List DiskStep) → p.is_kept ≡ true → (behind_steps p steps).is_kept ≡ true
-kept_for_good p [] kept = kept
-kept_for_good p (Empties ∷ steps) kept = kept_for_good (behind_step p Empties) steps kept
-kept_for_good p (Writes bytes ∷ steps) kept = kept_for_good (behind_step p (Writes bytes)) steps kept
-kept_for_good p (Syncs ∷ steps) kept = kept_for_good (behind_step p Syncs) steps kept
-kept_for_good p (Keeps ∷ steps) kept = kept_for_good (behind_step p Keeps) steps refl
-kept_for_good p (TakesName ∷ steps) kept = kept_for_good (behind_step p TakesName) steps kept
-kept_for_good p (SyncsFolder ∷ steps) kept = kept_for_good (behind_step p SyncsFolder) steps kept
-kept_for_good p (Removes ∷ steps) kept = kept_for_good (behind_step p Removes) steps kept
-
 pub kept_before : (p : Place) (bytes : List ℕ) (made : List DiskStep) → IsUntouched p → BeginsSteps made (whole_steps true bytes) → IsKept (behind_steps p made)
-kept_before p bytes made u begins =
-    early_kept p Empties (Writes bytes ∷ Syncs ∷ Keeps ∷ TakesName ∷ SyncsFolder ∷ []) made u.unnamed begins
-    (λ written more. early_kept (behind_step p Empties) (Writes bytes) (Syncs ∷ Keeps ∷ TakesName ∷ SyncsFolder ∷ []) written u.unnamed more
-    (λ synced then. early_kept (behind_step (behind_step p Empties) (Writes bytes)) Syncs (Keeps ∷ TakesName ∷ SyncsFolder ∷ []) synced u.unnamed then
-    (λ kept last. early_kept (behind_step (behind_step (behind_step p Empties) (Writes bytes)) Syncs) Keeps (TakesName ∷ SyncsFolder ∷ []) kept u.unnamed last
-    (λ named rest is. kept_for_good (behind_step (behind_step (behind_step (behind_step p Empties) (Writes bytes)) Syncs) Keeps) named refl))))
+kept_before p bytes made u begins = from_untouched IsKept p (whole_steps true bytes) made u
+    (λ beside synced. (λ e. e, λ _ _ _ e. e, (λ e. e, λ _ _ _ e. e, (λ e. e, λ _ _ _ e. e, (λ e. e, λ _ _ _ e. e, (λ _. refl, λ _ _ _ _. refl, (λ _. refl, λ _ _ _ _. refl, λ _. refl))))))) begins
 
 -- ---- the steps that were told
 

@@ -14,7 +14,7 @@ use std::{fs, io};
 pub(crate) const OWN: u32 = 0o600;
 
 /// How often a file is looked for anew where its name changes meanwhile.
-pub(crate) const TRIES: u32 = 16;
+const TRIES: u32 = 16;
 
 /// How many files may be kept beside one, so that a search for a free name ends.
 const MAX_KEPT: u32 = 10000;
@@ -68,12 +68,54 @@ pub(crate) fn lock(file: &File) -> io::Result<()> {
 }
 
 /// Opens a file to read it and to add to it; to read it alone where it may not be written.
-pub(crate) fn open_to_add<R: Files<File = File>>(rt: &R, path: &str) -> io::Result<File> {
+fn open_to_add<R: Files<File = File>>(rt: &R, path: &str) -> io::Result<File> {
     match OpenOptions::new().read(true).append(true).open(rt, path) {
         Ok(file) => Ok(file),
         Err(error) if error.kind() == ErrorKind::NotFound => Err(error),
         Err(_) => fs::open(rt, path),
     }
+}
+
+/// Opens and locks the plain file of a path, to read it alone or to add to it too; none where it is
+/// not there. `InvalidInput` where it is no plain file, `Interrupted` where the path stood for another
+/// file meanwhile, and `WouldBlock` where something else has it locked.
+pub(crate) fn open_locked<R: Files<File = File>>(
+    rt: &R,
+    path: &str,
+    adds: bool,
+) -> io::Result<Option<File>> {
+    if plain_if_there(rt, path)?.is_none() {
+        return Ok(None);
+    }
+    let opened = if adds {
+        open_to_add(rt, path)
+    } else {
+        fs::open(rt, path)
+    };
+    let file = match opened {
+        Ok(file) => file,
+        Err(error) if error.kind() == ErrorKind::NotFound => return Ok(None),
+        Err(error) => return Err(error),
+    };
+    lock(&file)?;
+    if !stands_for(rt, path, &file)? {
+        return Err(io::Error::from(ErrorKind::Interrupted));
+    }
+    Ok(Some(file))
+}
+
+/// Does anew what was `Interrupted`, since a path stood for another file meanwhile. `WouldBlock` where
+/// it always is.
+pub(crate) fn repeat<T: Drop, F: FnMut() -> io::Result<T>>(mut attempt: F) -> io::Result<T>
+    requires { (f : _) → F.pre f }
+{
+    for _ in 0..TRIES {
+        match attempt() {
+            Err(error) if error.kind() == ErrorKind::Interrupted => {}
+            answer => return answer,
+        }
+    }
+    Err(io::Error::from(ErrorKind::WouldBlock))
 }
 
 /// Opens a file that is still to get its name, and makes it where it is not there. Only its owner may
@@ -117,15 +159,11 @@ pub(crate) fn take_beside<R: Files<File = File> + AllocGlobal>(
     rt: &R,
     path: &str,
 ) -> io::Result<File> {
-    for _ in 0..TRIES {
+    repeat(|| {
         let next = open_beside(rt, path)?;
-        match lock_beside(rt, path, &next) {
-            Ok(()) => return Ok(next),
-            Err(error) if error.kind() == ErrorKind::Interrupted => {}
-            Err(error) => return Err(error),
-        }
-    }
-    Err(io::Error::from(ErrorKind::WouldBlock))
+        lock_beside(rt, path, &next)?;
+        Ok(next)
+    })
 }
 
 /// Has what stands under a path let go of it. Bytes of a plain file are kept.
@@ -164,14 +202,11 @@ pub(crate) fn give_free_name<R: Files<File = File>>(
     match fs::hard_link(rt, path, name) {
         Ok(()) => {
             let _ = fs::remove_file(rt, path);
-            Ok(())
+            return Ok(());
         }
-        Err(error) if error.kind() == ErrorKind::AlreadyExists => Err(error),
-        Err(_) => rename_to_free(rt, path, name),
+        Err(error) if error.kind() == ErrorKind::AlreadyExists => return Err(error),
+        Err(_) => {}
     }
-}
-
-fn rename_to_free<R: Files<File = File>>(rt: &R, path: &str, name: &str) -> io::Result<()> {
     match fs::symlink_metadata(rt, name) {
         Ok(_) => Err(io::Error::from(ErrorKind::AlreadyExists)),
         Err(error) if error.kind() == ErrorKind::NotFound => fs::rename(rt, path, name),
@@ -211,17 +246,11 @@ pub(crate) fn take_owner(file: &File, standing: &Metadata) -> io::Result<bool> {
     Ok(fchown(file, Some(standing.uid()), Some(standing.gid())).is_ok())
 }
 
-/// Writes bytes at the end of a file, and waits until it is on the device.
-pub(crate) fn fill(file: &mut File, bytes: &[u8]) -> io::Result<()> {
-    file.write_all(bytes)?;
-    file.sync_all()
-}
-
 /// Writes lines at the end of a file. Where memory is wanting, nothing is written.
 pub(crate) fn write_lines(file: &mut File, lines: &LogLines) -> io::Result<()> {
     let mut writer = Counted::new(Patient::new(file));
     let written = lines.write_to(&mut writer);
-    let failed = writer.into_inner().failed();
+    let failed = writer.into_inner().failed;
     match written {
         Ok(()) => Ok(()),
         Err(PortFault::File) => Err(io::Error::from(failed.unwrap_or(ErrorKind::Other))),
@@ -273,7 +302,8 @@ fn kept_path(alloc: Global, path: &str, number: u32) -> io::Result<String> {
     Ok(format!(in alloc; "{path}.~{number}~")?)
 }
 
-/// The same under a path; `AlreadyExists` where that is taken.
+/// The same under a path; `AlreadyExists` where that is taken. A copy is on the device under its name,
+/// so that the bytes that it keeps may go.
 fn keep_as<R: Files<File = File> + AllocGlobal>(
     rt: &R,
     path: &str,
@@ -287,16 +317,11 @@ fn keep_as<R: Files<File = File> + AllocGlobal>(
             Err(_) => {}
         }
     }
-    copy_as(rt, path, kept)
-}
-
-/// Copies what stands under a path. The copy is on the device under its name, so that the bytes that
-/// it keeps may go.
-fn copy_as<R: Files<File = File> + AllocGlobal>(rt: &R, path: &str, kept: &str) -> io::Result<()> {
     let bytes = fs::read(rt, path)?;
     let mut options = OpenOptions::new();
     options.write(true).create_new(true).mode(OWN);
     let mut copy = options.open(rt, kept)?;
-    fill(&mut copy, bytes.as_slice())?;
+    copy.write_all(bytes.as_slice())?;
+    copy.sync_all()?;
     sync_folder(rt, kept)
 }

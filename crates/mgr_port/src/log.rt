@@ -1,5 +1,5 @@
 //! A log that this port has open.
-use crate::files::{lock, metadata_if_there, open_to_add, plain_if_there, stands_for, write_lines};
+use crate::files::{metadata_if_there, write_lines};
 use crate::staged::{Date, remove_next};
 use crate::stamp::{LATER, Stamp};
 use mg_files::LogLines;
@@ -21,7 +21,7 @@ pub(crate) struct Log {
 }
 
 /// The last bytes of a log.
-#[derive(Clone, Copy)]
+#[derive(Clone, Copy, PartialEq, Eq)]
 struct End {
     bytes: [u8; END],
     length: usize,
@@ -34,25 +34,6 @@ impl Log {
         stamp.length = length;
         let end = End::of(&file, length)?;
         Ok(Log { file, stamp, end })
-    }
-
-    /// Opens and locks the log of a path; none where it is not there. `InvalidInput` where it is no
-    /// plain file, `Interrupted` where the path stood for another file meanwhile, and `WouldBlock`
-    /// where something else has it locked.
-    pub(crate) fn open<R: Files<File = File>>(rt: &R, path: &str) -> io::Result<Option<File>> {
-        if plain_if_there(rt, path)?.is_none() {
-            return Ok(None);
-        }
-        let file = match open_to_add(rt, path) {
-            Ok(file) => file,
-            Err(error) if error.kind() == ErrorKind::NotFound => return Ok(None),
-            Err(error) => return Err(error),
-        };
-        lock(&file)?;
-        if !stands_for(rt, path, &file)? {
-            return Err(io::Error::from(ErrorKind::Interrupted));
-        }
-        Ok(Some(file))
     }
 
     /// Takes another name from it, if it has that: one that was killed when it gave the log its name may
@@ -108,8 +89,7 @@ impl Log {
         if !now.is_of_the_file(&self.stamp) || now.length < self.stamp.length {
             return Ok(false);
         }
-        let end = End::of(&self.file, self.stamp.length)?;
-        if end.length != self.end.length || end.bytes != self.end.bytes {
+        if End::of(&self.file, self.stamp.length)? != self.end {
             return Ok(false);
         }
         if now.length == self.stamp.length {

@@ -44,17 +44,14 @@ impl Paths {
 fn log_path<R: Files<File = File> + AllocGlobal>(rt: &R, name: &str) -> io::Result<String> {
     let log = path(rt.alloc(), name, ".ops")?;
     match fs::symlink_metadata(rt, log.as_str()) {
-        Ok(standing) if standing.is_symlink() => followed(rt, log),
-        _ => Ok(log),
+        Ok(standing) if standing.is_symlink() => {}
+        _ => return Ok(log),
     }
-}
-
-/// The path that a link leads to; its own where it leads to none.
-fn followed<R: Files<File = File> + AllocGlobal>(rt: &R, link: String) -> io::Result<String> {
-    match fs::canonicalize(rt, link.as_str()) {
+    match fs::canonicalize(rt, log.as_str()) {
         Ok(path) => Ok(path.into_string()),
         Err(error) if error.kind() == ErrorKind::OutOfMemory => Err(error),
-        Err(_) => Ok(link),
+        // It leads to none.
+        Err(_) => Ok(log),
     }
 }
 

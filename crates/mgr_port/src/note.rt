@@ -1,9 +1,12 @@
 //! The files of one note, as this port found and left them.
 use crate::disk::{Named, put_log};
-use crate::files::{TRIES, lock_beside, metadata_if_there, open_beside, stands_for, take_beside};
+use crate::files::{
+    OWN, lock_beside, metadata_if_there, open_beside, open_locked, repeat, set_mode, stands_for,
+    take_beside, take_mode,
+};
 use crate::log::Log;
 use crate::names::Paths;
-use crate::staged::{How, Old, Rights, Staged, remove_next};
+use crate::staged::{Old, Staged, remove_next};
 use crate::text::Text;
 use mg_files::{Found, LogLines};
 use std::fs::{File, Metadata};
@@ -56,7 +59,7 @@ impl Note {
     }
 
     fn try_load<R: Files<File = File> + AllocGlobal>(&mut self, rt: &R) -> io::Result<Found> {
-        let Some(mut file) = take_log(rt, &self.paths, &mut self.next)? else {
+        let Some(mut file) = repeat(|| self.try_log(rt))? else {
             let text = self.text.load(rt, self.paths.text.as_str())?;
             return Ok(Found { log: None, text });
         };
@@ -69,6 +72,25 @@ impl Note {
             log: Some(bytes),
             text,
         })
+    }
+
+    /// The log, locked; where there is none the file that will be it is locked.
+    fn try_log<R: Files<File = File> + AllocGlobal>(&mut self, rt: &R) -> io::Result<Option<File>> {
+        let path = self.paths.log.as_str();
+        if let Some(file) = open_locked(rt, path, true)? {
+            return Ok(Some(file));
+        }
+        let next = self.paths.next_log.as_str();
+        // In a folder that takes no file, a note can be looked at all the same.
+        let Ok(file) = open_beside(rt, next) else {
+            return Ok(None);
+        };
+        match lock_next(rt, next, &file, path) {
+            Ok(()) => self.next = Some(file),
+            Err(error) if error.kind() == ErrorKind::PermissionDenied => {}
+            Err(error) => return Err(error),
+        }
+        Ok(None)
     }
 
     /// Adds lines at the end of the log, which is made where there is none; whenever the machine
@@ -136,7 +158,7 @@ impl Note {
 
     /// Closes the file whose name the text took last, if it is open.
     pub(crate) fn close_replaced(&mut self) {
-        self.text.close_replaced();
+        self.text.replaced = None;
     }
 
     /// Removes what was only locked in the place of a log that was never made, and a name that the log
@@ -150,42 +172,6 @@ impl Note {
             log.give_up(rt, path);
         }
     }
-}
-
-/// The log, locked; where there is none the file that will be it is locked.
-fn take_log<R: Files<File = File> + AllocGlobal>(
-    rt: &R,
-    paths: &Paths,
-    next: &mut Option<File>,
-) -> io::Result<Option<File>> {
-    for _ in 0..TRIES {
-        match try_log(rt, paths, next) {
-            Err(error) if error.kind() == ErrorKind::Interrupted => {}
-            answer => return answer,
-        }
-    }
-    Err(io::Error::from(ErrorKind::WouldBlock))
-}
-
-fn try_log<R: Files<File = File> + AllocGlobal>(
-    rt: &R,
-    paths: &Paths,
-    next: &mut Option<File>,
-) -> io::Result<Option<File>> {
-    let path = paths.log.as_str();
-    if let Some(file) = Log::open(rt, path)? {
-        return Ok(Some(file));
-    }
-    // In a folder that takes no file, a note can be looked at all the same.
-    let Ok(file) = open_beside(rt, paths.next_log.as_str()) else {
-        return Ok(None);
-    };
-    match lock_next(rt, paths.next_log.as_str(), &file, path) {
-        Ok(()) => *next = Some(file),
-        Err(error) if error.kind() == ErrorKind::PermissionDenied => {}
-        Err(error) => return Err(error),
-    }
-    Ok(None)
 }
 
 /// Locks the next log. `Interrupted` as of `lock_beside`, and where the log is there by now.
@@ -218,41 +204,31 @@ fn take_next<R: Files<File = File> + AllocGlobal>(
 }
 
 /// Writes all of the next log, and gives it the log's name. Its owner and rights are those of the log
-/// that stands there, or else of the text, where there is one.
-fn name_next<R: Files<File = File> + AllocGlobal>(
-    rt: &R,
-    paths: &Paths,
-    next: &mut File,
+/// that stands there, which is kept, or else of the text; with none only its owner may read it.
+fn name_next<'a, R: Files<File = File> + AllocGlobal>(
+    rt: &'a R,
+    paths: &'a Paths,
+    next: &'a mut File,
     lines: &LogLines,
     standing: Option<Metadata>,
 ) -> io::Result<Named> {
-    let (like, old) = match standing {
-        Some(log) => (Some(log), Old::Log),
-        None => (metadata_if_there(rt, paths.text.as_str())?, Old::Nothing),
+    let keeps = standing.is_some();
+    let like = match standing {
+        Some(log) => Some(log),
+        None => metadata_if_there(rt, paths.text.as_str())?,
     };
-    let how = How {
-        rights: Rights::Like(&like),
-        date: None,
-        old,
-    };
-    name_log(rt, paths, next, lines, how)
-}
-
-/// Writes all of the next log, and gives it the log's name. What stands there is kept.
-fn name_log<R: Files<File = File> + AllocGlobal>(
-    rt: &R,
-    paths: &Paths,
-    next: &mut File,
-    lines: &LogLines,
-    how: How<'_>,
-) -> io::Result<Named> {
-    let keeps = matches!(how.old, Old::Log);
+    match like {
+        Some(like) => take_mode(next, &like)?,
+        None => set_mode(next, OWN)?,
+    }
+    let old: Old<'a> = if keeps { Old::Log } else { Old::Nothing };
     let mut staged = Staged {
         rt,
         file: next,
         path: paths.next_log.as_str(),
         name: paths.log.as_str(),
-        how,
+        date: None,
+        old,
     };
     put_log(&mut staged, lines, keeps)
 }

@@ -12,8 +12,8 @@ const STRETCH: u64 = 4194304;
 #[derive(Drop)]
 pub(crate) struct Patient<'a> {
     file: &'a mut File,
-    /// Of which kind a failure was.
-    failed: Option<ErrorKind>,
+    /// Of which kind a failure was, where one was.
+    pub(crate) failed: Option<ErrorKind>,
     /// How many bytes were written since the device was asked.
     waiting: u64,
 }
@@ -27,20 +27,6 @@ impl<'a> Patient<'a> {
             waiting: 0,
         }
     }
-
-    /// Of which kind a failure was, where one was.
-    pub(crate) fn failed(self) -> Option<ErrorKind> {
-        self.failed
-    }
-
-    /// Notes bytes that were written, and asks the device to begin with a whole stretch of them.
-    fn note(&mut self, count: usize) {
-        self.waiting = self.waiting.saturating_add(count as u64);
-        if self.waiting >= STRETCH {
-            begin_last(self.file, self.waiting);
-            self.waiting = 0;
-        }
-    }
 }
 
 impl<'a> Write for Patient<'a> {
@@ -49,16 +35,16 @@ impl<'a> Write for Patient<'a> {
     ghost contents = { λ _. None };
 
     fn write(&mut self, buf: &[u8]) -> io::Result<usize> {
-        match self.file.write_all(buf) {
-            Ok(()) => {
-                self.note(buf.len());
-                Ok(buf.len())
-            }
-            Err(error) => {
-                self.failed = Some(error.kind());
-                Err(error)
-            }
+        if let Err(error) = self.file.write_all(buf) {
+            self.failed = Some(error.kind());
+            return Err(error);
         }
+        self.waiting = self.waiting.saturating_add(buf.len() as u64);
+        if self.waiting >= STRETCH {
+            begin_last(self.file, self.waiting);
+            self.waiting = 0;
+        }
+        Ok(buf.len())
     }
 
     fn flush(&mut self) -> io::Result<()> {
@@ -73,11 +59,8 @@ fn begin_last(file: &File, count: u64) {
     let Ok(metadata) = file.metadata() else {
         return;
     };
-    let Ok(from) = i64::try_from(metadata.len().saturating_sub(count)) else {
-        return;
-    };
-    let Ok(length) = i64::try_from(count) else {
-        return;
-    };
-    let _ = libc::posix_fadvise(file.as_raw_fd(), from, length, libc::POSIX_FADV_DONTNEED);
+    let from = i64::try_from(metadata.len().saturating_sub(count));
+    if let (Ok(from), Ok(length)) = (from, i64::try_from(count)) {
+        let _ = libc::posix_fadvise(file.as_raw_fd(), from, length, libc::POSIX_FADV_DONTNEED);
+    }
 }

@@ -1,5 +1,5 @@
 //! A port of files and sockets.
-ghost use Rattle.std.specs.Prelude.{◌≡◌, ◌≢◌, ◌<◌, Bool, Err, IfOk, IfErr, IfSome, length};
+ghost use Rattle.std.specs.Prelude.{◌≡◌, ◌≢◌, ◌<◌, Err, IfOk, IfErr, length};
 ghost use Rattle.mg_files.specs.Calls.{failures_after, failures_after_link};
 ghost use Rattle.mg_files.specs.declared.port.LinkFault.TheVariants.{NoPort};
 ghost use Rattle.mg_files.specs.declared.port.PortFault.TheVariants.{Memory};
@@ -36,7 +36,9 @@ pub struct FilePort<R: Files<File = File> + Net + AllocGlobal + Drop> {
 
 impl<R: Files<File = File> + Net + AllocGlobal + Drop> Drop for FilePort<R> {
     fn drop(self) {
-        self.leave();
+        for note in &self.notes {
+            note.leave(&self.rt);
+        }
         let FilePort {
             rt: _,
             number: _,
@@ -61,13 +63,6 @@ impl<R: Files<File = File> + Net + AllocGlobal + Drop> FilePort<R> {
             notes,
         }
     }
-
-    /// Removes what stands in the place of logs that were never made.
-    fn leave(&self) {
-        for note in &self.notes {
-            note.leave(&self.rt);
-        }
-    }
 }
 
 /// What a call for a file answered, in a port's words; a failure of the device is counted.
@@ -78,7 +73,7 @@ fn told<T: Drop>(failures: &mut u64, answer: io::Result<T>) -> Result<T, PortFau
         Ok(value) => Ok(value),
         Err(error) if error.kind() == ErrorKind::OutOfMemory => Err(PortFault::Memory),
         Err(_) => {
-            count_failure(failures);
+            *failures = failures.saturating_add(1);
             Err(PortFault::File)
         }
     }
@@ -89,13 +84,10 @@ fn link_told<T: Drop>(failures: &mut u64, answer: io::Result<T>) -> Result<T, Li
     ensures device { failures.new ≡ failures_after_link result failures.old }
     ensures port { result ≢ Err NoPort }
 {
-    match answer {
+    match told(failures, answer) {
         Ok(value) => Ok(value),
-        Err(error) if error.kind() == ErrorKind::OutOfMemory => Err(LinkFault::Memory),
-        Err(_) => {
-            count_failure(failures);
-            Err(LinkFault::Socket)
-        }
+        Err(PortFault::Memory) => Err(LinkFault::Memory),
+        Err(PortFault::File) => Err(LinkFault::Socket),
     }
 }
 
@@ -104,14 +96,6 @@ fn failures_with(failures: u64, more: u64) -> u64
     ensures { result ≡ raised failures more }
 {
     failures.saturating_add(more)
-}
-
-/// Counts a failure.
-fn count_failure(failures: &mut u64)
-    ensures { let refused = Err PortFault.File in
-        failures.new ≡ failures_after {A = Bool} refused failures.old }
-{
-    *failures = failures.saturating_add(1);
 }
 
 /// The index of the note of a name, which need not be loaded.
@@ -123,7 +107,10 @@ fn index_of<R: Files<File = File> + AllocGlobal>(
     ensures found { IfOk result (λ i. i < length notes.new.items) }
     ensures memory { IfErr result (λ e. e ≡ Memory) }
 {
-    if let Some(index) = known_index(notes, name) {
+    let known = notes
+        .iter()
+        .position(|note| note.paths.text.as_str() == name);
+    if let Some(index) = known {
         return Ok(index);
     }
     let Ok(paths) = Paths::new(rt, name) else {
@@ -134,15 +121,6 @@ fn index_of<R: Files<File = File> + AllocGlobal>(
         return Err(PortFault::Memory);
     };
     Ok(index)
-}
-
-/// The index of the note of a name that was asked for before.
-fn known_index(notes: &[Note], name: &str) -> Option<usize>
-    ensures { IfSome result (λ i. i < length notes.now) }
-{
-    notes
-        .iter()
-        .position(|note| note.paths.text.as_str() == name)
 }
 
 /// Closes the files whose names texts took. It is done where a peer is awaited, since it may take as
@@ -187,8 +165,7 @@ impl<R: Files<File = File> + Net + AllocGlobal + Drop> Port for FilePort<R> {
         ensures number { self.new.number ≡ self.old.number }
     {
         let index = index_of(&self.rt, &mut self.notes, name)?;
-        let note = &mut self.notes[index];
-        let found = note.load(&self.rt);
+        let found = self.notes[index].load(&self.rt);
         told(&mut self.failures, found)
     }
 
@@ -199,8 +176,7 @@ impl<R: Files<File = File> + Net + AllocGlobal + Drop> Port for FilePort<R> {
         ensures number { self.new.number ≡ self.old.number }
     {
         let index = index_of(&self.rt, &mut self.notes, name)?;
-        let note = &mut self.notes[index];
-        let answer = note.append(&self.rt, lines);
+        let answer = self.notes[index].append(&self.rt, lines);
         told(&mut self.failures, answer)
     }
 
@@ -211,8 +187,7 @@ impl<R: Files<File = File> + Net + AllocGlobal + Drop> Port for FilePort<R> {
         ensures number { self.new.number ≡ self.old.number }
     {
         let index = index_of(&self.rt, &mut self.notes, name)?;
-        let note = &mut self.notes[index];
-        let answer = note.replace(&self.rt, lines);
+        let answer = self.notes[index].replace(&self.rt, lines);
         told(&mut self.failures, answer)
     }
 
@@ -223,8 +198,7 @@ impl<R: Files<File = File> + Net + AllocGlobal + Drop> Port for FilePort<R> {
         ensures number { self.new.number ≡ self.old.number }
     {
         let index = index_of(&self.rt, &mut self.notes, name)?;
-        let note = &mut self.notes[index];
-        let answer = note.put_text(&self.rt, bytes);
+        let answer = self.notes[index].put_text(&self.rt, bytes);
         told(&mut self.failures, answer)
     }
 

@@ -1,12 +1,12 @@
 //! A log that is read whole, and written anew beside.
-use crate::disk::{Named, name_written};
+use crate::disk::name_written;
 use crate::files::{
-    TRIES, check_writable, fill, is_plain_there, metadata_if_there, open_beside, sync_folder,
-    take_beside, take_mode,
+    check_writable, is_plain_there, metadata_if_there, open_beside, open_locked, repeat,
+    sync_folder, take_beside, take_mode,
 };
-use crate::log::{Log, ends_in_a_newline};
+use crate::log::ends_in_a_newline;
 use crate::names::Paths;
-use crate::staged::{Date, How, Old, Rights, Staged, remove_next};
+use crate::staged::{Date, Old, Staged, remove_next};
 use crate::stamp::Stamp;
 use std::fs::File;
 use std::io;
@@ -45,22 +45,15 @@ impl OpenLog {
     ) -> io::Result<OpenLog> {
         let paths = Paths::new(rt, name)?;
         let path = paths.log.as_str();
-        for _ in 0..TRIES {
-            match Log::open(rt, path) {
-                Ok(Some(file)) => {
-                    check_writable(rt, path)?;
-                    return Ok(OpenLog {
-                        file,
-                        read: 0,
-                        refused: false,
-                    });
-                }
-                Ok(None) => return Err(io::Error::from(ErrorKind::NotFound)),
-                Err(error) if error.kind() == ErrorKind::Interrupted => {}
-                Err(error) => return Err(error),
-            }
-        }
-        Err(io::Error::from(ErrorKind::WouldBlock))
+        let Some(file) = repeat(|| open_locked(rt, path, true))? else {
+            return Err(io::Error::from(ErrorKind::NotFound));
+        };
+        check_writable(rt, path)?;
+        Ok(OpenLog {
+            file,
+            read: 0,
+            refused: false,
+        })
     }
 
     /// `WouldBlock` unless a path stands for the log, which has the length that was read.
@@ -110,7 +103,8 @@ pub(crate) fn keep_refused<R: Files<File = File> + AllocGlobal>(
     if length > 0 && !ends_in_a_newline(&refused, length)? {
         refused.write_all(b"\n")?;
     }
-    fill(&mut refused, bytes)?;
+    refused.write_all(bytes)?;
+    refused.sync_all()?;
     // One that was killed may have left it without a name on the device.
     sync_folder(rt, path.as_str())
 }
@@ -136,35 +130,23 @@ pub(crate) fn name_next<R: Files<File = File> + AllocGlobal>(
     rt: &R,
     name: &str,
     read: &OpenLog,
-    next: File,
+    mut next: File,
 ) -> io::Result<()> {
     let paths = Paths::new(rt, name)?;
-    name_beside(rt, &paths, read, next)?.settled()
-}
-
-fn name_beside<R: Files<File = File> + AllocGlobal>(
-    rt: &R,
-    paths: &Paths,
-    read: &OpenLog,
-    mut next: File,
-) -> io::Result<Named> {
     let path = paths.next_log.as_str();
     let mut staged = Staged {
         rt,
         file: &mut next,
         path,
         name: paths.log.as_str(),
-        how: How {
-            rights: Rights::AsMade,
-            date: read.date(),
-            old: Old::Read(read),
-        },
+        date: read.date(),
+        old: Old::Read(read),
     };
     let named = name_written(&mut staged, true);
     if named.is_err() {
         remove_next(rt, path, &next);
     }
-    named
+    named?.settled()
 }
 
 /// Removes a file beside a log of a name.

@@ -1,15 +1,13 @@
 //! Files that are written beside another, whose name they are to take.
 use crate::disk::Disk;
-use crate::files::{
-    Keeping, OWN, give_free_name, keep, set_mode, stands_for, sync_folder, take_mode, write_lines,
-};
+use crate::files::{Keeping, give_free_name, keep, stands_for, sync_folder, write_lines};
 use crate::rewriting::OpenLog;
 use crate::text::NextText;
 use mg_files::LogLines;
-use std::fs::{File, Metadata};
+use std::fs::File;
 use std::io::Write;
 use std::rt::Files;
-use std::time::{Duration, SystemTime};
+use std::time::Duration;
 use std::{fs, io};
 
 /// A file beside a log or a text, whose name it is to take.
@@ -19,24 +17,8 @@ pub(crate) struct Staged<'a, R> {
     pub(crate) file: &'a mut File,
     pub(crate) path: &'a str,
     pub(crate) name: &'a str,
-    pub(crate) how: How<'a>,
-}
-
-/// How a file takes a name.
-#[derive(Clone, Copy)]
-pub(crate) struct How<'a> {
-    pub(crate) rights: Rights<'a>,
     pub(crate) date: Option<Date<'a>>,
     pub(crate) old: Old<'a>,
-}
-
-/// The owner and the rights of a file that is staged.
-#[derive(Clone, Copy)]
-pub(crate) enum Rights<'a> {
-    /// Those that it was made with.
-    AsMade,
-    /// Those of a file; with none only its owner may read it.
-    Like(&'a Option<Metadata>),
 }
 
 /// By when a file was changed, and how many nanoseconds later, another one is dated.
@@ -65,11 +47,7 @@ impl<'a, R: Files<File = File> + AllocGlobal> Disk for Staged<'a, R> {
     ghost steps = { λ _. None };
 
     fn empty(&mut self) -> io::Result<()> {
-        self.file.set_len(0)?;
-        match self.how.rights {
-            Rights::AsMade => Ok(()),
-            Rights::Like(like) => take_rights(self.file, like),
-        }
+        self.file.set_len(0)
     }
 
     fn write(&mut self, bytes: &[u8]) -> io::Result<()> {
@@ -81,11 +59,11 @@ impl<'a, R: Files<File = File> + AllocGlobal> Disk for Staged<'a, R> {
     }
 
     fn sync(&mut self) -> io::Result<()> {
-        sync_dated(self.file, self.how.date)
+        sync_dated(self.file, self.date)
     }
 
     fn keep(&mut self) -> io::Result<()> {
-        match self.how.old {
+        match self.old {
             Old::Nothing => return Ok(()),
             Old::Log => {}
             Old::Text(text) => {
@@ -99,7 +77,7 @@ impl<'a, R: Files<File = File> + AllocGlobal> Disk for Staged<'a, R> {
     }
 
     fn take_name(&mut self) -> io::Result<()> {
-        match self.how.old {
+        match self.old {
             Old::Nothing => give_free_name(self.rt, self.path, self.name),
             _ => fs::rename(self.rt, self.path, self.name),
         }
@@ -107,14 +85,6 @@ impl<'a, R: Files<File = File> + AllocGlobal> Disk for Staged<'a, R> {
 
     fn sync_folder(&mut self) -> io::Result<()> {
         sync_folder(self.rt, self.name)
-    }
-}
-
-/// Gives a new file the owner and the rights of another; with none only its owner may read it.
-fn take_rights(file: &File, like: &Option<Metadata>) -> io::Result<()> {
-    match like {
-        Some(standing) => take_mode(file, standing),
-        None => set_mode(file, OWN),
     }
 }
 
@@ -136,15 +106,12 @@ pub(crate) fn sync_dated(file: &File, date: Option<Date<'_>>) -> io::Result<()> 
 
 impl<'a> Date<'a> {
     fn give_to(self, file: &File) {
-        let Ok(changed) = changed(self.of) else {
+        let changed = self.of.metadata().and_then(|of| of.modified());
+        let Ok(changed) = changed else {
             return;
         };
         if let Some(time) = changed.checked_add(Duration::from_nanos(self.later)) {
             let _ = file.set_modified(time);
         }
     }
-}
-
-fn changed(file: &File) -> io::Result<SystemTime> {
-    file.metadata()?.modified()
 }

@@ -1,12 +1,12 @@
 //! A text, as this port found and left it.
 use crate::disk::{Named, put_whole};
 use crate::files::{
-    Keeping, TRIES, check_writable, keep, lock, make_beside, plain_if_there, set_mode, stands_for,
-    take_owner,
+    Keeping, check_writable, keep, lock, make_beside, open_locked, plain_if_there, repeat,
+    set_mode, take_owner,
 };
 use crate::log::Log;
 use crate::names::Paths;
-use crate::staged::{Date, How, Old, Rights, Staged, remove_next, sync_dated};
+use crate::staged::{Date, Old, Staged, remove_next, sync_dated};
 use crate::stamp::{Stamp, is_dated_by};
 use std::fs::{File, Metadata};
 use std::io::{ErrorKind, Write};
@@ -26,7 +26,7 @@ pub(crate) struct Text {
     own: Option<Stamp>,
     /// The file whose name it took, still open: to close that may give up its place on the device,
     /// which takes as long as to wait for the device.
-    replaced: Option<File>,
+    pub(crate) replaced: Option<File>,
 }
 
 impl Text {
@@ -39,38 +39,17 @@ impl Text {
         }
     }
 
-    /// Closes the file whose name the text took last, if it is open.
-    pub(crate) fn close_replaced(&mut self) {
-        self.replaced = None;
-    }
-
-    /// Locks the text of a path, where it is there. `InvalidInput` where it is no plain file, and
-    /// `WouldBlock` where something else has it locked.
-    fn take<R: Files<File = File>>(&mut self, rt: &R, path: &str) -> io::Result<()> {
-        for _ in 0..TRIES {
-            if plain_if_there(rt, path)?.is_none() {
-                return Ok(());
-            }
-            let file = fs::open(rt, path)?;
-            lock(&file)?;
-            if stands_for(rt, path, &file)? {
-                self.file = Some(file);
-                return Ok(());
-            }
-        }
-        Err(io::Error::from(ErrorKind::WouldBlock))
-    }
-
-    /// The same beside a log that was read: the text need not be readable then. It is this port's
-    /// own where it was put beside this log; else it is read, and stays what another program left.
+    /// Locks the text beside a log that was read, where it is there. `WouldBlock` where something else
+    /// has it locked; else it need not be readable. It is this port's own where it was put beside this
+    /// log; else it is read, and stays what another program left.
     pub(crate) fn take_beside<R: Files<File = File> + AllocGlobal>(
         &mut self,
         rt: &R,
         path: &str,
         log: &Log,
     ) -> io::Result<Option<Vec<u8>>> {
-        match self.take(rt, path) {
-            Ok(()) => {}
+        match repeat(|| open_locked(rt, path, false)) {
+            Ok(file) => self.file = file,
             Err(error) if error.kind() == ErrorKind::WouldBlock => return Err(error),
             Err(_) => return Ok(None),
         }
@@ -89,13 +68,14 @@ impl Text {
         }
     }
 
-    /// Locks and reads the text, which is this port's own then.
+    /// Locks and reads the text, which is this port's own then. `InvalidInput` where it is no plain
+    /// file, and `WouldBlock` where something else has it locked.
     pub(crate) fn load<R: Files<File = File> + AllocGlobal>(
         &mut self,
         rt: &R,
         path: &str,
     ) -> io::Result<Option<Vec<u8>>> {
-        self.take(rt, path)?;
+        self.file = repeat(|| open_locked(rt, path, false))?;
         // It is looked at before it is read, so that what comes between is not taken for this port's.
         let stamp = match &self.file {
             Some(file) => Some(Stamp::of(&file.metadata()?)),
@@ -112,7 +92,7 @@ impl Text {
 
     /// Makes these bytes the text, beside a log. What stands there is kept, unless this port read it
     /// or put it, or it is the same; it is refused where it is no plain file, or may not be written.
-    /// The file whose name the text takes stays open until the next call, or until `close_replaced`.
+    /// The file whose name the text takes stays open as `replaced`, until the next call.
     pub(crate) fn put<R: Files<File = File> + AllocGlobal>(
         &mut self,
         rt: &R,
@@ -120,7 +100,7 @@ impl Text {
         bytes: &[u8],
         log: &Option<Log>,
     ) -> io::Result<()> {
-        self.close_replaced();
+        self.replaced = None;
         let path = paths.text.as_str();
         let there = plain_if_there(rt, path)?;
         if there.is_some() {
@@ -225,11 +205,8 @@ fn name_next<R: Files<File = File> + AllocGlobal>(
         file: next,
         path: paths.next_text.as_str(),
         name: paths.text.as_str(),
-        how: How {
-            rights: Rights::AsMade,
-            date: text.date,
-            old: Old::Text(text),
-        },
+        date: text.date,
+        old: Old::Text(text),
     };
     put_whole(&mut staged, text.bytes, true)
 }
