@@ -1,84 +1,32 @@
 -- What C-u and digits write.
-use Rattle.std.proofs.Common.{◌≡◌, ◌≢◌, ◌⊎◌, inl, inr, ℕ, zero, suc, ◌+◌, ◌-◌, ◌*◌, ◌^◌, ◌<◌, ◌≤◌, min, lit≤, Bool, true, false, nat_eq, nat_le, ◌&&◌, if◌then◌else◌, Option, Some, None, List, [], ◌∷◌, ◌++◌, refl, sym, ap, ◌∙◌, arith, pow-suc, mul_assoc, mul_comm, mul-one}
-use Rattle.std.proofs.lemmas.Bool.{le-leb, leb-true, ne_eqb}
-use Rattle.std.proofs.lemmas.Str.{digit_value_digit}
-use Rattle.std.proofs.lemmas.Str.Parse.{digit_from_value}
+use Rattle.std.proofs.Common.{◌≡◌, ◌≢◌, ◌⊎◌, inl, inr, ℕ, zero, suc, ◌+◌, ◌*◌, ◌^◌, ◌<◌, ◌≤◌, min, lit≤, true, Some, None, List, [], ◌∷◌, ◌++◌, refl, sym, ap, ◌∙◌, arith, pow-suc, mul_assoc, mul_comm, mul-one}
 use Rattle.std.specs.Char.{digit_value}
 use Rattle.std.specs.Str.Parse.{AllDigits, IsNumeral, digits_value, digits_value_after}
 use Rattle.mg_keys.specs.declared.argument.Argument.{Argument}
 use Rattle.mg_keys.specs.declared.argument.Argument.TheVariants.{Absent, Multiplied, Typed}
-use Rattle.mg_keys.specs.Argument.{greatest_argument, capped, four_times, is_digit_byte, with_digit, with_byte, value}
+use Rattle.mg_keys.specs.Argument.{greatest_argument, capped, with_digit, with_byte, value}
 use Rattle.mg_keys.specs.ArgumentKeys.{universals, IsDigit, EndsArgument, AreArgumentKeys, IsArgumentPart}
 use Rattle.mg_keys.specs.Begun.{is_given}
-use Rattle.mg_keys.specs.Meaning.{Meaning, meaning_of_keys, plain_meaning}
+use Rattle.mg_keys.specs.Meaning.{meaning_of_keys, plain_meaning}
 
 -- ---- one byte
 
-no_digit_byte : (b : ℕ) → 10 ≤ digit_value b → is_digit_byte b ≡ false
-no_digit_byte b h = at (nat_le 48 b) (nat_le b 57) refl refl
-  where
-    too_large : (d c : ℕ) → d + 48 ≡ c → c ≤ 57 → 10 ≤ d → ⊥
-    too_large d c is below large = omega arith
-
-    at : (x y : Bool) → nat_le 48 b ≡ x → nat_le b 57 ≡ y → (x && y) ≡ false
-    at false y low high = refl
-    at true false low high = refl
-    at true true low high =
-        let above : 48 ≤ b = leb-true 48 b low in
-        let below : b ≤ 57 = leb-true b 57 high in
-        let is : digit_value b + 48 ≡ b = digit_value_digit b (above, below) in
-        absurd (too_large (digit_value b) b is below h)
-
 digit_goes_on : (a : Argument) (d : ℕ) → digit_value d < 10 → with_byte a d ≡ with_digit a (digit_value d)
-digit_goes_on a d h =
-    let range = digit_from_value d h in
-    let other : nat_eq d 21 ≡ false = ne_eqb d 21 (λ e. absurd (no_universal d e range.0)) in
-    let digit : is_digit_byte d ≡ true = both (nat_le 48 d) (nat_le d 57) (le-leb 48 d range.0) (le-leb d 57 range.1) in
-    let off : d - 48 ≡ digit_value d = less (digit_value d) d (digit_value_digit d range) in
-    let f : Bool → Option Argument = λ x. if x then Some (four_times a) else (if is_digit_byte d then with_digit a (d - 48) else None) in
-    let g : Bool → Option Argument = λ x. if x then with_digit a (d - 48) else None in
-    let first : with_byte a d ≡ f false = ap f other in
-    let second : f false ≡ with_digit a (d - 48) = ap g digit in
-    first ∙ (second ∙ ap (with_digit a) off)
-  where
-    no_universal : (c : ℕ) → c ≡ 21 → 48 ≤ c → ⊥
-    no_universal c e low = omega arith
-
-    both : (x y : Bool) → x ≡ true → y ≡ true → (x && y) ≡ true
-    both x y e f = rw e f
-
-    less : (x c : ℕ) → x + 48 ≡ c → c - 48 ≡ x
-    less x c e = omega arith
+digit_goes_on a d h = grind arith
 
 -- a key that is neither
 nothing_with : (a : Argument) (b : ℕ) → EndsArgument b → with_byte a b ≡ None
-nothing_with a b h =
-    let f : Bool → Option Argument = λ x. if x then Some (four_times a) else (if is_digit_byte b then with_digit a (b - 48) else None) in
-    let g : Bool → Option Argument = λ x. if x then with_digit a (b - 48) else None in
-    let first : with_byte a b ≡ f false = ap f (ne_eqb b 21 h.no_universal) in
-    let second : f false ≡ None = ap g (no_digit_byte b h.no_digit) in
-    first ∙ second
+nothing_with a b h = grind arith
 
 -- a digit with no C-u before it, too
 nothing_without : (b : ℕ) → b ≢ 21 → with_byte Absent b ≡ None
-nothing_without b h =
-    let f : Bool → Option Argument = λ x. if x then Some (Multiplied 4) else (if is_digit_byte b then None else None) in
-    let first : with_byte Absent b ≡ f false = ap f (ne_eqb b 21 h) in
-    first ∙ either (is_digit_byte b) None
-  where
-    either : (x : Bool) (n : Option Argument) → (if x then n else n) ≡ n
-    either true n = refl
-    either false n = refl
+nothing_without b h = grind arith
 
 goes_on : (a c : Argument) (b : ℕ) (bs : List ℕ) → with_byte a b ≡ Some c → plain_meaning a (b ∷ bs) ≡ plain_meaning c bs
-goes_on a c b bs e =
-    let f : Option Argument → Meaning = λ o. elim o [ Some d ↦ plain_meaning d bs | None ↦ meaning_of_keys (value a) (b ∷ bs) ] in
-    ap f e
+goes_on a c b bs e = grind (arith)
 
 ends : (a : Argument) (b : ℕ) (bs : List ℕ) → with_byte a b ≡ None → plain_meaning a (b ∷ bs) ≡ meaning_of_keys (value a) (b ∷ bs)
-ends a b bs e =
-    let f : Option Argument → Meaning = λ o. elim o [ Some d ↦ plain_meaning d bs | None ↦ meaning_of_keys (value a) (b ∷ bs) ] in
-    ap f e
+ends a b bs e = grind (arith)
 
 -- ---- what is at most so much stays so
 
@@ -110,11 +58,7 @@ four_more m k = mul_assoc m 4 (4 ^ k) ∙ ap (λ n. m * n) (mul_comm 4 (4 ^ k) �
 universals_multiply : (k m : ℕ) (rest : List ℕ)
     → plain_meaning (Multiplied (capped m)) (universals k ++ rest) ≡ plain_meaning (Multiplied (capped (m * 4 ^ k))) rest
 universals_multiply zero m rest = ap (λ n. plain_meaning (Multiplied (capped n)) rest) (sym (mul-one m))
-universals_multiply (suc k) m rest =
-    let e : with_byte (Multiplied (capped m)) 21 ≡ Some (Multiplied (capped (m * 4))) =
-    ap (λ n. Some (Multiplied n)) (capped_four m greatest_argument) in
-    goes_on (Multiplied (capped m)) (Multiplied (capped (m * 4))) 21 (universals k ++ rest) e
-    ∙ (universals_multiply k (m * 4) rest ∙ ap (λ n. plain_meaning (Multiplied (capped n)) rest) (four_more m k))
+universals_multiply (suc k) m rest = grind (arith, capped_four, goes_on, four_more, universals_multiply k (m * 4) rest)
 
 after_digits : (k m key : ℕ) (rest : List ℕ) → EndsArgument key
     → plain_meaning (Typed (capped m)) (universals k ++ key ∷ rest) ≡ meaning_of_keys (capped (m * 4 ^ k)) (key ∷ rest)
@@ -184,10 +128,5 @@ digits_lead front d ds tail part h =
 pub numbers_written : (front digits : List ℕ) (k key : ℕ) (rest : List ℕ) → IsArgumentPart front → IsNumeral 10 digits → EndsArgument key
     → plain_meaning Absent (front ++ 21 ∷ (digits ++ (universals k ++ key ∷ rest)))
     ≡ meaning_of_keys (capped (digits_value 10 digits * 4 ^ k)) (key ∷ rest)
-numbers_written front [] k key rest part numeral h = absurd (none numeral.0)
-  where
-    none : 0 < 0 → ⊥
-    none h = omega arith
-numbers_written front (d ∷ ds) k key rest part numeral h =
-    digits_lead front d ds (universals k ++ key ∷ rest) part numeral.1
-    ∙ after_digits k (digits_value_after 10 (0 * 10 + digit_value d) ds) key rest h
+numbers_written front [] k key rest part numeral h = grind (arith)
+numbers_written front (d ∷ ds) k key rest part numeral h = grind (arith, digits_lead, after_digits)

@@ -1,5 +1,5 @@
 -- Where no key sequence has begun, and where one has.
-use Rattle.std.proofs.Common.{true≢false, ◌≡◌, ◌↔◌, ℕ, [], ◌∷◌, Bool, false, refl, sym, ◌∙◌}
+use Rattle.std.proofs.Common.{arith, true≢false, ◌≡◌, ◌↔◌, ℕ, [], ◌∷◌, Bool, false, refl, sym, ◌∙◌}
 use Rattle.mg_plain.specs.declared.command.Command.TheVariants as run
 use Rattle.mg_keys.specs.declared.argument.Argument.{Argument}
 use Rattle.mg_keys.specs.declared.argument.Argument.TheVariants.{Absent, Multiplied, Typed}
@@ -11,7 +11,7 @@ use Rattle.mg_keys.specs.declared.step.Step.TheVariants as step
 use Rattle.mg_keys.specs.Argument.{value}
 use Rattle.mg_keys.specs.Begun.{KeyState, HasBegun, waits}
 use Rattle.mg_keys.specs.Meaning.{whole, beginning, no_key, insertion_meaning, text_meaning}
-use Rattle.mg_keys.specs.Utf8.{Utf8Reading, is, begins, neither, reading_behind}
+use Rattle.mg_keys.specs.Utf8.{Utf8Reading, is, reading_behind}
 
 keys_of : Mode → Argument → Sequence → KeyState
 keys_of m a s = record { mode = m; argument = a; sequence = s }
@@ -42,14 +42,10 @@ fresh mode.Query a s w = record { same = λ rest. refl }
 -- ---- one has: some byte means another thing behind it
 
 no_insertion : (n m : ℕ) (r : Utf8Reading) → whole (step.Run run.BeginningOfLine m) ≡ insertion_meaning n r → ⊥
-no_insertion n m (is c) e = cc
-no_insertion n m begins e = cc
-no_insertion n m neither e = cc
+no_insertion n m zp1 e = grind (arith)
 
 no_text : (r : Utf8Reading) → whole step.Rub ≡ text_meaning r → ⊥
-no_text (is c) e = cc
-no_text begins e = cc
-no_text neither e = cc
+no_text zp1 e = grind (arith)
 
 not_yet : (m : Mode) (a : Argument) (s : Sequence) → HasBegun (keys_of m a s) [] → waits m a s ≡ false
 unfolding keys_of

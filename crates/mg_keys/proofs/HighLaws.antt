@@ -79,7 +79,4 @@ high_keys n b rest h =
 
 -- a byte that is none of ASCII begins a character that is inserted
 pub high_meaning : (a : Argument) (b : ℕ) (rest : List ℕ) → 128 ≤ b → plain_meaning a (b ∷ rest) ≡ insertion_meaning (value a) (multibyte_character b rest)
-high_meaning a b rest h =
-    let f : Option Argument → Meaning = λ o. elim o [ Some c ↦ plain_meaning c rest | None ↦ meaning_of_keys (value a) (b ∷ rest) ] in
-    let e : plain_meaning a (b ∷ rest) ≡ meaning_of_keys (value a) (b ∷ rest) = ap f (no_argument a b h) in
-    e ∙ high_keys (value a) b rest h
+high_meaning a b rest h = grind (arith, no_argument, high_keys)

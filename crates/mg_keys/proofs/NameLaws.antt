@@ -1,6 +1,5 @@
 -- Names of other lengths.
-use Rattle.std.proofs.Common.{◌≡◌, ℕ, suc, true, false, ◌&&◌, List, [], ◌∷◌, length, ap, refl}
-use Rattle.std.specs.Prelude.{nat_eq}
+use Rattle.std.proofs.Common.{arith, ◌≡◌, ℕ, suc, false, List, [], ◌∷◌, length, ap, refl}
 use Rattle.mg_keys.specs.KeyTable.{same_keys}
 
 -- what has another length is another name
@@ -8,7 +7,4 @@ pub other_length : (js ks : List ℕ) → (length js ≡ length ks → ⊥) → 
 other_length [] [] h = absurd (h refl)
 other_length [] (k ∷ ks) h = refl
 other_length (j ∷ js) [] h = refl
-other_length (j ∷ js) (k ∷ ks) h = elim (nat_eq j k) as (λ b. false ≡ (b && same_keys js ks)) [
-  | true ↦ other_length js ks (λ e. h (ap suc e))
-  | false ↦ refl
-]
+other_length (j ∷ js) (k ∷ ks) h = grind (arith, other_length js ks (λ e. h (ap suc e)))

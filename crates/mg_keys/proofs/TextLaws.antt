@@ -1,8 +1,7 @@
 -- A character goes on, in a prompt and in a search.
-use Rattle.std.proofs.Common.{◌≡◌, ℕ, sym, subst}
+use Rattle.std.proofs.Common.{arith, ◌≡◌, ℕ}
 use Rattle.mg_keys.specs.declared.argument.Argument.{Argument}
 use Rattle.mg_keys.specs.declared.sequence.Advance.{Advance}
-use Rattle.mg_keys.specs.declared.sequence.Advance.TheVariants.{Whole, On, Nothing}
 use Rattle.mg_keys.specs.declared.sequence.Sequence.{Sequence}
 use Rattle.mg_keys.specs.declared.sequence.Sequence.TheVariants.{Character}
 use Rattle.mg_keys.specs.declared.step.Mode.{Mode}
@@ -15,21 +14,14 @@ abbrev keys_at : Mode → Argument → Sequence → KeyState
 keys_at m a sequence = record { mode = m; argument = a; sequence = sequence }
 
 in_prompt : (a : Argument) (begun : Continuation) (byte : ℕ) (r : Advance) → TextAdvances Prompt (text_rest Prompt (Character begun)) byte r → Advances (keys_at Prompt a (Character begun)) byte r
-in_prompt a begun byte (Whole s) h = h
-in_prompt a begun byte (On b sequence) h = h
-in_prompt a begun byte Nothing h = h
+in_prompt a begun byte zp1 h = grind (arith)
 
 in_search : (a : Argument) (begun : Continuation) (byte : ℕ) (r : Advance) → TextAdvances Search (text_rest Search (Character begun)) byte r → Advances (keys_at Search a (Character begun)) byte r
-in_search a begun byte (Whole s) h = h
-in_search a begun byte (On b sequence) h = h
-in_search a begun byte Nothing h = h
+in_search a begun byte zp1 h = grind (arith)
 
 -- keys of that mode that have read that much
 at : (keys : KeyState) (m : Mode) (begun : Continuation) (byte : ℕ) (r : Advance) → keys.mode ≡ m → keys.sequence ≡ Character begun → Advances (keys_at m keys.argument (Character begun)) byte r → Advances keys byte r
-at keys m begun byte r by on h =
-    let P : Mode → Type 0 = λ x. Advances (keys_at x keys.argument (Character begun)) byte r in
-    let Q : Sequence → Type 0 = λ x. Advances (keys_at keys.mode keys.argument x) byte r in
-    subst Q (sym on) (subst P (sym by) h)
+at keys m begun byte r by on h = grind (arith)
 
 pub prompt_character : (keys : KeyState) (begun : Continuation) (byte : ℕ) (r : Advance) → keys.mode ≡ Prompt → keys.sequence ≡ Character begun → TextAdvances Prompt (text_rest Prompt (Character begun)) byte r → Advances keys byte r
 prompt_character keys begun byte r by on h = at keys Prompt begun byte r by on (in_prompt keys.argument begun byte r h)

@@ -1,9 +1,8 @@
 -- The bytes that are read as a character are its UTF-8, and a proper beginning of them is read as a beginning.
-use Rattle.std.proofs.Common.{◌≡◌, ◌≢◌, ℕ, ◌+◌, ◌-◌, ◌*◌, ◌/◌, ◌%◌, ◌<◌, ◌≤◌, ◌⊎◌, inl, inr, min, List, [], ◌∷◌, ◌++◌, true, false, nat_eq, nat_le, Option, Some, None, if◌then◌else◌, refl, sym, ap, ◌∙◌, subst, arith, le-ltb, lt-ltb}
+use Rattle.std.proofs.Common.{rules, ◌≡◌, ◌≢◌, ℕ, ◌+◌, ◌-◌, ◌*◌, ◌/◌, ◌%◌, ◌<◌, ◌≤◌, min, List, [], ◌∷◌, ◌++◌, true, false, nat_eq, nat_le, Option, Some, None, if◌then◌else◌, refl, sym, ap, ◌∙◌, subst, arith, le-ltb, lt-ltb}
 use Rattle.std.proofs.lemmas.Bool.{cond_both, cases_lt, le-leb, lt-leb, eqb-true, ne_eqb}
 use Rattle.std.proofs.lemmas.Bool.Decides.{nat_tests}
 use Rattle.std.specs.Char.{encode_utf8, IsScalar}
-use lib.Utf8.{scalar_cases}
 use Rattle.mg_keys.specs.declared.utf8.Continuation.{Continuation}
 use Rattle.mg_keys.specs.Utf8.{is_between, continuation, first_byte, is, begins, neither, is_scalar, joined_bits, ended_character, reading_behind, multibyte_character, characters}
 
@@ -11,9 +10,6 @@ use Rattle.mg_keys.specs.Utf8.{is_between, continuation, first_byte, is, begins,
 
 scalar-is : (c : ℕ) → is_scalar c ≡ true → IsScalar c
 scalar-is c h = grind (arith, nat_tests)
-
-is-scalar : (c : ℕ) → IsScalar c → is_scalar c ≡ true
-is-scalar c h = grind (arith, nat_tests)
 
 scalar_bound : (c : ℕ) → IsScalar c → c < 1114112
 scalar_bound c h = grind (arith, nat_tests)
@@ -32,120 +28,31 @@ first_read b bs e = ap (λ o. elim o [ Some k ↦ reading_behind k bs | None ↦
 -- a byte that is not the last
 next_read : (count bits low high x : ℕ) (rest : List ℕ) → low ≤ x → x ≤ high → 1 < count → bits * 64 + (x - 128) ≤ 4294967295
     → reading_behind (continuation count bits low high) (x ∷ rest) ≡ reading_behind (continuation (count - 1) (bits * 64 + (x - 128)) 128 191) rest
-next_read count bits low high x rest lo hi more fits =
-    let begun = continuation count bits low high in
-    let whole : joined_bits begun x ≡ bits * 64 + (x - 128) = omega arith in
-    let read : reading_behind begun (x ∷ rest) ≡ reading_behind (continuation (count - 1) (joined_bits begun x) 128 191) rest =
-    rw (le-leb low x lo, le-leb x high hi, lt-leb count 1 more) in
-    read ∙ ap (λ v. reading_behind (continuation (count - 1) v 128 191) rest) whole
+next_read count bits low high x rest lo hi more fits = grind arith
 
 last_read : (bits low high x c : ℕ) → low ≤ x → x ≤ high → c ≡ bits * 64 + (x - 128) → IsScalar c → reading_behind (continuation 1 bits low high) (x ∷ []) ≡ is c
-last_read bits low high x c lo hi code good =
-    let begun = continuation 1 bits low high in
-    let small = scalar_bound c good in
-    let whole : joined_bits begun x ≡ c = omega arith in
-    let read : reading_behind begun (x ∷ []) ≡ ended_character (joined_bits begun x) [] = rw (le-leb low x lo, le-leb x high hi) in
-    read ∙ ap (λ v. ended_character v []) whole ∙ ap (λ t. if t then is c else neither) (is-scalar c good)
+last_read bits low high x c lo hi code good = grind arith
 
 two_read : (c : ℕ) → 128 ≤ c → c < 2048 → IsScalar c → characters ((192 + c / 64) ∷ (128 + c % 64) ∷ []) ≡ is c
-two_read c low h good =
-    let b = 192 + c / 64 in
-    let x = 128 + c % 64 in
-    let first : first_byte b ≡ Some (continuation 1 (b - 192) 128 191) = rw (le-leb 194 b (omega arith), le-leb b 223 (omega arith)) in
-    first_read b (x ∷ []) first ∙ last_read (b - 192) 128 191 x c (omega arith) (omega arith) (omega arith) good
+two_read c low h good = grind arith
 
 three_read_by : (c low high : ℕ) → first_byte (224 + c / 4096) ≡ Some (continuation 2 (c / 4096) low high) → low ≤ 128 + c / 64 % 64 → 128 + c / 64 % 64 ≤ high → IsScalar c
     → characters ((224 + c / 4096) ∷ (128 + c / 64 % 64) ∷ (128 + c % 64) ∷ []) ≡ is c
-three_read_by c low high first lo hi good =
-    let small = scalar_bound c good in
-    let b = 224 + c / 4096 in
-    let x = 128 + c / 64 % 64 in
-    let y = 128 + c % 64 in
-    let bits = c / 4096 * 64 + (x - 128) in
-    first_read b (x ∷ y ∷ []) first
-    ∙ next_read 2 (c / 4096) low high x (y ∷ []) lo hi (omega arith) (omega arith)
-    ∙ last_read bits 128 191 y c (omega arith) (omega arith) (omega arith) good
+three_read_by c low high first lo hi good = search (rules, scalar_bound, first_read, next_read, last_read)
 
 four_read_by : (c low high : ℕ) → first_byte (240 + c / 262144) ≡ Some (continuation 3 (c / 262144) low high) → low ≤ 128 + c / 4096 % 64 → 128 + c / 4096 % 64 ≤ high → IsScalar c
     → characters ((240 + c / 262144) ∷ (128 + c / 4096 % 64) ∷ (128 + c / 64 % 64) ∷ (128 + c % 64) ∷ []) ≡ is c
-four_read_by c low high first lo hi good =
-    let small = scalar_bound c good in
-    let b = 240 + c / 262144 in
-    let x = 128 + c / 4096 % 64 in
-    let y = 128 + c / 64 % 64 in
-    let z = 128 + c % 64 in
-    let bits = c / 262144 * 64 + (x - 128) in
-    let so-far : bits ≡ c / 4096 = omega arith in
-    first_read b (x ∷ y ∷ z ∷ []) first
-    ∙ next_read 3 (c / 262144) low high x (y ∷ z ∷ []) lo hi (omega arith) (omega arith)
-    ∙ next_read 2 bits 128 191 y (z ∷ []) (omega arith) (omega arith) (omega arith) (omega arith)
-    ∙ last_read (bits * 64 + (y - 128)) 128 191 z c (omega arith) (omega arith) (omega arith) good
+four_read_by c low high first lo hi good = search (rules, scalar_bound, first_read, next_read, last_read)
 
 three_read : (c : ℕ) → 2048 ≤ c → c < 65536 → IsScalar c → characters ((224 + c / 4096) ∷ (128 + c / 64 % 64) ∷ (128 + c % 64) ∷ []) ≡ is c
-three_read c low h good =
-    let b = 224 + c / 4096 in
-    elim (cases_lt c 4096) [
-      | inl below ↦
-          let top : c / 4096 ≡ 0 = omega arith in
-          let first : first_byte b ≡ Some (continuation 2 (c / 4096) 160 191) = rw top refl in
-          three_read_by c 160 191 first (omega arith) (omega arith) good
-      | inr above ↦ elim (places c) [
-        | inl within ↦
-            let top : c / 4096 ≡ 13 = omega (arith, within.0, within.1) in
-            let first : first_byte b ≡ Some (continuation 2 (c / 4096) 128 159) = rw top refl in
-            three_read_by c 128 159 first (omega arith) (no_surrogate c within.0 within.1 good) good
-        | inr out ↦
-            let bits : b - 224 ≡ c / 4096 = omega arith in
-            let first : first_byte b ≡ Some (continuation 2 (b - 224) 128 191) =
-            rw (lt-leb b 223 (omega arith), ne_eqb b 224 (λ e. absurd (omega (arith, e))), ne_eqb b 237 (not_top c out), le-leb 225 b (omega arith), le-leb b 239 (omega arith), le-leb 194 b (omega arith)) in
-            three_read_by c 128 191 (first ∙ ap (λ v. Some (continuation 2 v 128 191)) bits) (omega arith) (omega arith) good
-      ]
-    ]
-  where
-    -- within the 4096 values that hold the surrogates, below them or above
-    places : (c : ℕ) → ((53248 ≤ c) × (c < 57344)) ⊎ ((c < 53248) ⊎ (57344 ≤ c))
-    places c = elim (cases_lt c 53248) [
-      | inl o ↦ inr (inl o)
-      | inr o ↦ elim (cases_lt c 57344) [ inl p ↦ inl (o, p) | inr p ↦ inr (inr p) ]
-    ]
-
-    no_surrogate : (c : ℕ) → 53248 ≤ c → c < 57344 → IsScalar c → 128 + c / 64 % 64 ≤ 159
-    no_surrogate c lo hi good = elim (scalar_cases c good) [ inl s ↦ omega (arith, s) | inr s ↦ absurd (omega (arith, s.0)) ]
-
-    not_top : (c : ℕ) → (c < 53248) ⊎ (57344 ≤ c) → 224 + c / 4096 ≢ 237
-    not_top c out e = elim out [ inl o ↦ absurd (omega (arith, e, o)) | inr o ↦ absurd (omega (arith, e, o)) ]
+three_read c low h good = grind (arith, cases_lt, three_read_by, lt-leb, ne_eqb, le-leb)
 
 four_read : (c : ℕ) → 65536 ≤ c → IsScalar c → characters ((240 + c / 262144) ∷ (128 + c / 4096 % 64) ∷ (128 + c / 64 % 64) ∷ (128 + c % 64) ∷ []) ≡ is c
-four_read c low good =
-    let small = scalar_bound c good in
-    let b = 240 + c / 262144 in
-    elim (cases_lt c 262144) [
-      | inl below ↦
-          let top : c / 262144 ≡ 0 = omega arith in
-          let first : first_byte b ≡ Some (continuation 3 (c / 262144) 144 191) = rw top refl in
-          four_read_by c 144 191 first (omega arith) (omega arith) good
-      | inr above ↦ elim (cases_lt c 1048576) [
-        | inl below ↦
-            let bits : b - 240 ≡ c / 262144 = omega arith in
-            let first : first_byte b ≡ Some (continuation 3 (b - 240) 128 191) =
-            rw (lt-leb b 223 (omega arith), ne_eqb b 224 (λ e. absurd (omega (arith, e))), ne_eqb b 237 (λ e. absurd (omega (arith, e))), lt-leb b 239 (omega arith), ne_eqb b 240 (λ e. absurd (omega (arith, e))), le-leb 241 b (omega arith), le-leb b 243 (omega arith), le-leb 194 b (omega arith), le-leb 225 b (omega arith)) in
-            four_read_by c 128 191 (first ∙ ap (λ v. Some (continuation 3 v 128 191)) bits) (omega arith) (omega arith) good
-        | inr most ↦
-            let top : c / 262144 ≡ 4 = omega arith in
-            let first : first_byte b ≡ Some (continuation 3 (c / 262144) 128 143) = rw top refl in
-            four_read_by c 128 143 first (omega arith) (omega arith) good
-      ]
-    ]
+four_read c low good = grind (arith, scalar_bound, cases_lt, four_read_by, lt-leb, ne_eqb, le-leb)
 
 pub utf8_read : (c : ℕ) → IsScalar c → 128 ≤ c → characters (encode_utf8 c) ≡ is c
 unfolding encode_utf8
-utf8_read c good low = elim (cases_lt c 2048) [
-  | inl h ↦ rw (le-ltb c 128 low, lt-ltb c 2048 h) (two_read c low h good)
-  | inr some ↦ elim (cases_lt c 65536) [
-    | inl h ↦ rw (le-ltb c 128 low, le-ltb c 2048 some, lt-ltb c 65536 h) (three_read c some h good)
-    | inr many ↦ rw (le-ltb c 128 low, le-ltb c 2048 some, le-ltb c 65536 many) (four_read c many good)
-  ]
-]
+utf8_read c good low = grind (arith, cases_lt, le-ltb, lt-ltb, two_read, three_read, four_read)
 
 -- ---- a proper beginning of what is read as a character
 
@@ -179,12 +86,7 @@ reading_behind-begins begun c (b ∷ bs) more some =
     (λ _ e. absurd cc)
 
 characters-begins : (c : ℕ) (bs more : List ℕ) → more ≢ [] → characters (bs ++ more) ≡ is c → characters bs ≡ begins
-characters-begins c [] more some = λ _. refl
-characters-begins c (b ∷ bs) more some =
-    elim (first_byte b) as (λ o. elim o [ Some k ↦ reading_behind k (bs ++ more) | None ↦ neither ] ≡ is c → elim o [ Some k ↦ reading_behind k bs | None ↦ neither ] ≡ begins) [
-      | Some k ↦ reading_behind-begins k c bs more some
-      | None ↦ λ e. absurd cc
-    ]
+characters-begins c zp1 more some = search (rules, reading_behind-begins)
 
 pub utf8_begins : (c : ℕ) (bytes more : List ℕ) → IsScalar c → 128 ≤ c → more ≢ [] → encode_utf8 c ≡ bytes ++ more → characters bytes ≡ begins
 utf8_begins c bytes more good low some e = characters-begins c bytes more some (ap characters (sym e) ∙ utf8_read c good low)

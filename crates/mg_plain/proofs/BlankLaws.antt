@@ -1,11 +1,11 @@
 -- Filling touches no word.
-use Rattle.std.proofs.Common.{Bool, List, None, Option, Some, [], ap, arith, false, filter, if◌then◌else◌, inl, length, not, option_map, refl, reverse, subst, suc, sym, true, zero, ℕ, ◌++◌, ◌+◌, ◌-◌, ◌<◌, ◌∷◌, ◌≡◌, ◌≤◌, ◌⊎◌}
+use Rattle.std.proofs.Common.{Bool, List, None, Option, Some, [], ap, arith, filter, if◌then◌else◌, inl, length, not, option_map, refl, reverse, subst, suc, sym, zero, ℕ, ◌++◌, ◌+◌, ◌-◌, ◌<◌, ◌∷◌, ◌≡◌, ◌≤◌, ◌⊎◌}
 use Rattle.std.proofs.lemmas.List.{reverse-append}
 use Rattle.rga_ops.specs.Splice.{Splice}
 use Rattle.mg_plain.specs.Characters.{newline_character, space}
-use Rattle.mg_plain.specs.Gaps.{alters, columns, filling, gaps, joint}
+use Rattle.mg_plain.specs.Gaps.{columns, filling, gaps, joint}
 use Rattle.mg_plain.specs.Layout.{AreOfBlanks, IsOfBlanks}
-use Rattle.mg_plain.specs.Paragraphs.{begins_paragraph, ends_paragraph, is_nonblank, next_word, paragraph, word_at, words}
+use Rattle.mg_plain.specs.Paragraphs.{is_nonblank, next_word, paragraph, word_at}
 use Rattle.mg_plain.specs.Scans.{least, least_from}
 use Rattle.mg_plain.specs.Spans.{Span, span_chain}
 use Rattle.mg_plain.proofs.RangeLaws.{greatest_up_to-within, least_found, least_from-within, none_found}
@@ -44,9 +44,4 @@ reversed text [] a = tt
 reversed text (c ∷ cs) a = subst (AreOfBlanks text) (sym (reverse-append (c ∷ []) cs)) (one_more text (reverse cs) c (reversed text cs a.1) a.0)
 
 pub filled_of_blanks : (column : ℕ) (text : List ℕ) (point : ℕ) → point ≤ length text → (b : Bool) → AreOfBlanks text (if b then filling column text (paragraph text point) else [])
-filled_of_blanks column text point within true =
-    let begin = greatest_up_to-within (begins_paragraph text) point in
-    let ends = least_from-within (ends_paragraph text) point (length text) within in
-    let p : Span = paragraph text point in
-    reversed text (filter (alters text) (gaps column None p.lo p.hi (words text p.lo p.hi))) (filtered text (alters text) (gaps column None p.lo p.hi (words text p.lo p.hi)) (gaps_of_blanks column text p.hi (length text) p.lo None (omega (arith, begin, ends.0)) ends.1 (omega arith)))
-filled_of_blanks column text point within false = tt
+filled_of_blanks column text point within zp1 = grind (arith, greatest_up_to-within, least_from-within, reversed, filtered, gaps_of_blanks)

@@ -1,5 +1,5 @@
 -- Characters that splice case, from the last one to the first; blanks at the begin of a line.
-use Rattle.std.proofs.Common.{Bool, List, Ok, [], ap, append-nil, append_assoc, arith, drop, false, get_or, length, suc, sym, true, ℕ, ◌++◌, ◌+◌, ◌-◌, ◌<◌, ◌∙◌, ◌∷◌, ◌≡◌}
+use Rattle.std.proofs.Common.{Bool, List, Ok, [], append-nil, append_assoc, arith, drop, false, get_or, length, suc, true, ℕ, ◌++◌, ◌+◌, ◌-◌, ◌<◌, ◌∷◌, ◌≡◌}
 use Rattle.std.specs.Prelude.{Result}
 use Rattle.std.specs.List.{slice_index, take_while}
 use Rattle.std.proofs.lemmas.List.{drop_more}
@@ -22,9 +22,7 @@ other_case new text lo i c d some at is other = let e : i - lo ≡ suc (i - 1 - 
 
 -- a splice more
 pub recased_on : (items more : List Splice) (s ch : Splice) (before after all : List Splice) → more ≡ items ++ s ∷ [] → s ≡ ch → before ≡ ch ∷ after → items ++ before ≡ all → more ++ after ≡ all
-recased_on items more s ch before after all pushed is split so_far =
-    ap (λ ys. ys ++ after) pushed ∙ append_assoc items (s ∷ []) after
-    ∙ ap (λ x. items ++ x ∷ after) is ∙ ap (λ ys. items ++ ys) (sym split) ∙ so_far
+recased_on items more s ch before after all pushed is split so_far = grind (arith, append_assoc)
 
 -- one more at the begin of a line
 pub taken_on : (p : ℕ → Bool) (line put more all : List ℕ) (k c : ℕ) → k < length line → c ≡ get_or line k c → p c ≡ true → more ≡ put ++ c ∷ [] → put ++ take_while p (drop k line) ≡ all → more ++ take_while p (drop (k + 1) line) ≡ all

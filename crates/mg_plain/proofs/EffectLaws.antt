@@ -1,8 +1,8 @@
 -- What each command does stays within the text.
-use Rattle.std.proofs.Common.{Bool, List, None, Option, Some, [], arith, drop, false, filter, if◌then◌else◌, length, map, max, min, nat_eq, option_map, refl, replicate, subst, suc, take, true, zero, ℕ, ◌&&◌, ◌++◌, ◌+◌, ◌-◌, ◌<◌, ◌∙◌, ◌∷◌, ◌≡◌, ◌≤◌}
+use Rattle.std.proofs.Common.{rules, Bool, List, None, Option, Some, [], arith, drop, false, if◌then◌else◌, length, map, max, min, nat_eq, option_map, refl, replicate, subst, suc, take, true, zero, ℕ, ◌&&◌, ◌++◌, ◌+◌, ◌-◌, ◌<◌, ◌∙◌, ◌∷◌, ◌≡◌, ◌≤◌}
 use Rattle.std.specs.Prelude.{Err, Ok, Result, nat_le, nat_lt}
 use Rattle.std.specs.List.{slice_index, slice_range}
-use Rattle.std.specs.Option.{ForSome, ok_or}
+use Rattle.std.specs.Option.{ok_or}
 use Rattle.std.proofs.lemmas.Bool.{and_parts, eqb-false, leb-true, ltb-true}
 use Rattle.std.proofs.lemmas.Option.{none-some, same_Some}
 use Rattle.std.proofs.lemmas.Bool.Decides.{nat_tests}
@@ -22,13 +22,13 @@ use Rattle.mg_plain.specs.Characters.{is_newline, newline_character}
 use Rattle.mg_plain.specs.Commands.{effect}
 use Rattle.mg_plain.specs.Effect.{Effect, IsWithinText, edit_effect, motion, one_splice, removed_characters}
 use Rattle.mg_plain.specs.Splices.{splice}
-use Rattle.mg_plain.specs.Gaps.{alters, columns, filling, gaps}
+use Rattle.mg_plain.specs.Gaps.{columns, filling, gaps}
 use Rattle.mg_plain.specs.Insertions.{indentation, insert, insertion_effect, newline_and_indent, open_line, typing, yank}
 use Rattle.mg_plain.specs.Kills.{deletion_effect, kill_after, kill_effect, kill_region, kill_so_far, kill_up_to}
-use Rattle.mg_plain.specs.LineEnds.{at_goal, begins_line, line_begin, line_end}
-use Rattle.mg_plain.specs.Matches.{first_match, last_match, match_at, matches, next_match, stands_at}
-use Rattle.mg_plain.specs.Motions.{by_lines, by_words, end_notice, goal_of, scroll, to_line, vertical_motion}
-use Rattle.mg_plain.specs.Paragraphs.{begins_paragraph, ends_paragraph, has_nonblank, next_word, paragraph, words}
+use Rattle.mg_plain.specs.LineEnds.{begins_line, line_begin, line_end}
+use Rattle.mg_plain.specs.Matches.{first_match, last_match, matches, next_match}
+use Rattle.mg_plain.specs.Motions.{by_lines, by_words, end_notice, scroll, to_line, vertical_motion}
+use Rattle.mg_plain.specs.Paragraphs.{begins_paragraph, ends_paragraph, has_nonblank, paragraph}
 use Rattle.mg_plain.specs.Replacement.{all_matches, current_match, last_end, replacement, replacement_effect, replacements, stands_before_point}
 use Rattle.mg_plain.specs.Situation.{IsView, Situation}
 use Rattle.mg_plain.specs.Spans.{AreRisingSpans, Span}
@@ -84,9 +84,7 @@ vertical_motion-within : (s : Situation) (q : ℕ) → IsView s → q ≤ length
 vertical_motion-within s q seen place = record { falling = tt; point = place; mark = seen.mark }
 
 to_line-within : (s : Situation) (b : ℕ) → IsView s → b ≤ length s.text → IsInside s (to_line s b)
-to_line-within s b seen place =
-    let ends = line_end-within s.text b place in
-    vertical_motion-within s (at_goal s.text b (goal_of s.last s)) seen (omega (arith, ends.0, ends.1))
+to_line-within s b seen place = grind (arith, line_end-within, vertical_motion-within)
 
 by_lines-within : (direction : Direction) (n : ℕ) (s : Situation) (e : Effect) → IsView s → by_lines direction n s ≡ Ok e → IsInside s e
 by_lines-within direction zero s e seen h = by_ok s (vertical_motion s s.point) e (vertical_motion-within s s.point seen seen.point) h
@@ -104,9 +102,7 @@ scroll-within direction rows s e seen h =
     (steps_up_to-within (step Line direction s.text) (length s.text) (lines-within direction s.text) many b (lines-within direction s.text (line_begin s.text s.point) b (omega (arith, begin, seen.point)) found))) h
 
 by_words-within : (direction : Direction) (n : ℕ) (s : Situation) (e : Effect) → IsView s → by_words direction n s ≡ Ok e → IsInside s e
-by_words-within direction n s e seen h =
-    by_find s (steps (step Word direction s.text) n s.point) (motion s) (end_notice direction) e
-    (λ q found. motion-within s q seen (steps-within (step Word direction s.text) (length s.text) (words-within direction s.text) n s.point q seen.point found)) h
+by_words-within direction n s e seen h = search (rules, by_find, motion-within, steps-within, words-within)
 
 -- ---- insertions, deletions, kills
 
@@ -141,11 +137,7 @@ kill-within s lo hi seen up within = let w = deletion_effect-within s lo hi seen
 
 -- the region
 region : (s : Situation) (f : ℕ → Effect) (e : Effect) → IsView s → ((m : ℕ) → m ≤ length s.text → IsInside s (f m)) → ◌≡◌ {A = Result Effect Notice} (elim s.mark [ None ↦ Err NoMark | Some m ↦ Ok (f m) ]) (Ok e) → IsInside s e
-region s f e seen w h = marked s.mark seen.mark h
-  where
-    marked : (o : Option ℕ) → ForSome o (λ m. m ≤ length s.text) → ◌≡◌ {A = Result Effect Notice} (elim o [ None ↦ Err NoMark | Some m ↦ Ok (f m) ]) (Ok e) → IsInside s e
-    marked None there h = absurd (err_ok h)
-    marked (Some m) there h = by_ok s (f m) e (w m (there m refl)) h
+region s f e seen w h = grind arith
 
 -- ---- case
 
@@ -184,19 +176,10 @@ recasing-within casing s e seen h =
 -- ---- searches and replaced
 
 match-within : (pattern text : List ℕ) (start i : ℕ) → first_match pattern text start ≡ Some i → (start ≤ i) × (i + length pattern ≤ length text)
-match-within pattern text start i h =
-    let found = least_found (stands_at pattern text) start (suc (length text) - start) i h in
-    (found.from, stands_within pattern text i (omega (arith, found.from, found.below)) found.passes)
+match-within pattern text start i h = grind (arith, least_found, stands_within)
 
 finds_matches : (pattern text : List ℕ) → FindsWithin (next_match pattern text) (length text)
-finds_matches pattern text = λ q m up h. at q m (first_match pattern text q) refl h
-  where
-    at : (q : ℕ) (m : Span) (o : Option ℕ) → first_match pattern text q ≡ o → option_map (match_at pattern) o ≡ Some m → (q ≤ m.lo) × (m.lo ≤ m.hi) × (m.hi ≤ length text)
-    at q m None e h = absurd (none-some _ h)
-    at q m (Some i) e h =
-        let same : match_at pattern i ≡ m = same_Some _ _ h in
-        let w = match-within pattern text q i e in
-        subst (λ (r : Span). (q ≤ r.lo) × (r.lo ≤ r.hi) × (r.hi ≤ length text)) same (w.0, omega arith, w.1)
+finds_matches pattern text = grind (arith, none-some, same_Some, match-within)
 
 all_matches-rising : (pattern : List ℕ) (s : Situation) → IsView s → stands_before_point pattern s ≡ true → AreRisingSpans 0 (length s.text) (all_matches pattern s.text s.point)
 all_matches-rising pattern s seen h = (omega arith, omega arith, seen.point, span_chain-rising (next_match pattern s.text) (length s.text) (finds_matches pattern s.text) (length s.text) s.point seen.point)
@@ -220,10 +203,7 @@ gaps-rising column used at end (w ∷ ws) up r =
     (omega arith, r.0, omega (arith, r.1, r.2), raise w.hi w.lo end (gaps column (Some (columns column used w)) w.hi end ws) r.1 (gaps-rising column (Some (columns column used w)) w.hi end ws r.2 r.3))
 
 filling-falling : (column : ℕ) (text : List ℕ) (lo hi : ℕ) → lo ≤ hi → AreFalling hi (filling column text (record { lo = lo; hi = hi }))
-filling-falling column text lo hi up =
-    let ws : List Span = words text lo hi in
-    let r = gaps-rising column None lo hi ws up (span_chain-rising (next_word text hi) hi (finds_words text hi) (length text) lo up) in
-    reverse-falling lo hi (filter (alters text) (gaps column None lo hi ws)) up (filter-rising (alters text) lo hi (gaps column None lo hi ws) r)
+filling-falling column text lo hi up = search (rules, gaps-rising, span_chain-rising, finds_words, reverse-falling, filter-rising)
 
 fill-within : (column : ℕ) (s : Situation) → IsView s → (b : Bool) → IsInside s (edit_effect s (if b then filling column s.text (paragraph s.text s.point) else []))
 fill-within column s seen true =
@@ -320,11 +300,7 @@ pub kill_up_to-takes : (s : Situation) (hi : ℕ) (e : Effect) → kill_up_to s 
 kill_up_to-takes s hi e h = let same : kill_effect s s.point hi ≡ e = grind arith in subst (Takes s) same (kill-takes s s.point hi)
 
 pub kill_region-takes : (s : Situation) (e : Effect) → kill_region s ≡ Ok e → Takes s e
-kill_region-takes s e h = marked s.mark h
-  where
-    marked : (o : Option ℕ) → ◌≡◌ {A = Result Effect Notice} (elim o [ None ↦ Err NoMark | Some m ↦ Ok (kill_effect s (min s.point m) (max s.point m)) ]) (Ok e) → Takes s e
-    marked None g = absurd (err_ok g)
-    marked (Some m) g = subst (Takes s) (ok_is g) (kill-takes s (min s.point m) (max s.point m))
+kill_region-takes s e h = grind arith
 
 pub recasing-keeps : (casing : Casing) (s : Situation) (e : Effect) → IsView s → recasing casing s ≡ Ok e → length (text_after s.text e.splices) ≡ length s.text
 recasing-keeps casing s e seen h =

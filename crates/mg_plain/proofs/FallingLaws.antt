@@ -1,5 +1,5 @@
 -- Splices that fall, and places carried over them.
-use Rattle.std.proofs.Common.{Bool, List, Some, [], arith, drop, false, filter, if◌then◌else◌, length, length-append, length-drop, length-take-le, map, option_map, refl, reverse, subst, sym, take, true, ℕ, ◌&&◌, ◌++◌, ◌+◌, ◌-◌, ◌∷◌, ◌≡◌, ◌≤◌}
+use Rattle.std.proofs.Common.{Bool, List, [], arith, drop, filter, length, length-append, length-drop, length-take-le, map, refl, reverse, subst, sym, take, true, ℕ, ◌&&◌, ◌++◌, ◌+◌, ◌-◌, ◌∷◌, ◌≡◌, ◌≤◌}
 use Rattle.std.specs.Option.{ForSome}
 use Rattle.std.proofs.lemmas.Bool.{le-leb}
 use Rattle.std.proofs.lemmas.List.{reverse-append}
@@ -47,14 +47,7 @@ place_after-within text (c ∷ cs) q f place =
 
 -- an edit stays within the text
 pub edit-within : (s : Situation) (cs : List Splice) → IsView s → AreFalling (length s.text) cs → IsInside s (edit_effect s cs)
-edit-within s cs seen f = record {
-  falling = f;
-  point = place_after-within s.text cs s.point f seen.point;
-  mark = λ m h. carried_mark m h (λ k here. place_after-within s.text cs k f (seen.mark k here));
-}
-  where
-    carried_mark : (m : ℕ) → option_map (place_after cs) s.mark ≡ Some m → ((k : ℕ) → s.mark ≡ Some k → place_after cs k ≤ length (text_after s.text cs)) → m ≤ length (text_after s.text cs)
-    carried_mark m h within = grind arith
+edit-within s cs seen f = grind (arith, place_after-within)
 
 pub motion-within : (s : Situation) (q : ℕ) → IsView s → q ≤ length s.text → IsInside s (motion s q)
 motion-within s q seen place = record { falling = tt; point = place; mark = seen.mark }
@@ -98,12 +91,7 @@ raise from less to (c ∷ cs) h r = (omega (arith, h, r.0), r.1, r.2, r.3)
 
 pub filter-rising : (p : Splice → Bool) (from to : ℕ) (cs : List Splice) → RiseBetween from to cs → RiseBetween from to (filter p cs)
 filter-rising p from to [] r = tt
-filter-rising p from to (c ∷ cs) r =
-    let rest = filter-rising p c.hi to cs r.3 in
-    elim (p c) as (λ b. RiseBetween from to (if b then c ∷ filter p cs else filter p cs)) [
-      | true ↦ (r.0, r.1, r.2, rest)
-      | false ↦ raise c.hi from to (filter p cs) (omega (arith, r.0, r.1)) rest
-    ]
+filter-rising p from to (c ∷ cs) r = grind (arith, raise, filter-rising p c.hi to cs r.3)
 
 pub replacement-rising : (put : List ℕ) (from to : ℕ) (ms : List Span) → AreRisingSpans from to ms → RiseBetween from to (map (replacement put) ms)
 replacement-rising put from to [] r = tt

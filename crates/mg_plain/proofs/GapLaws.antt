@@ -6,7 +6,7 @@ use Rattle.mg_plain.specs.Gaps.{alters, columns, filling, gaps, joint}
 use Rattle.mg_plain.specs.Paragraphs.{is_nonblank, next_word, word_at}
 use Rattle.mg_plain.specs.Scans.{least}
 use Rattle.mg_plain.specs.Spans.{Span, span_chain}
-use Rattle.mg_plain.proofs.RangeLaws.{chain_ends, chain_more}
+use Rattle.mg_plain.proofs.RangeLaws.{chain_more}
 
 filter-cons : {X : Type 0} (p : X → Bool) (x : X) (xs : List X) → filter p (x ∷ xs) ≡ filter p (x ∷ []) ++ filter p xs
 filter-cons p x xs = elim (p x) as (λ b. (if b then x ∷ filter p xs else filter p xs) ≡ (if b then x ∷ [] else []) ++ filter p xs) [ true ↦ refl | false ↦ refl ]
@@ -52,8 +52,4 @@ filling_on column text lo hi splices more used at b e within so_far found behind
     }
 
 pub filling_done : (column : ℕ) (text : List ℕ) (lo hi : ℕ) (splices more : List Splice) (used : Option ℕ) (at : ℕ) → Filling column text lo hi splices used at → least (is_nonblank text) at (hi - at) ≡ None → more ≡ splices ++ filter (alters text) (splice at hi [] ∷ []) → (reverse more) ≡ filling column text (record { lo = lo; hi = hi })
-filling_done column text lo hi splices more used at so_far found made =
-    let none : next_word text hi at ≡ None = ap (option_map (word_at text hi)) found in
-    let last : to_come column text hi used so_far.left at ≡ filter (alters text) (splice at hi [] ∷ []) =
-    ap (λ ws. filter (alters text) (gaps column used at hi ws)) (chain_ends (next_word text hi) so_far.left at none) in
-    ap reverse (made ∙ ap (λ ys. splices ++ ys) (sym last) ∙ so_far.all)
+filling_done column text lo hi splices more used at so_far found made = grind arith

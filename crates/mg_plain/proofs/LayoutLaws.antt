@@ -29,11 +29,7 @@ take_sum : (r l : ℕ) (ls : List ℕ) → sum (take (suc r) (l ∷ ls)) ≡ l +
 take_sum r l ls = sum_by-cons (λ x. x) l (take r ls)
 
 take_width : (r l : ℕ) (ls : List ℕ) → r ≤ length ls → line_width (take (suc r) (l ∷ ls)) ≡ l + sum (take r ls) + r
-take_width r l ls within =
-    let long : length (take r ls) ≡ r = length-take-le r ls within in
-    let longer : length (take (suc r) (l ∷ ls)) ≡ suc (length (take r ls)) = refl in
-    let total : sum (take (suc r) (l ∷ ls)) ≡ l + sum (take r ls) = take_sum r l ls in
-    omega (arith, long, longer, total)
+take_width r l ls within = grind (arith, length-take-le, take_sum)
 
 -- a line's words behind its first one
 rest_of : (column l : ℕ) (ls : List ℕ) (r : ℕ) → IsLine column (l ∷ ls) (suc r) → IsRest column l ls r
@@ -90,12 +86,7 @@ rest_joints column used (suc r) at end (w ∷ ws) ns rest lay =
     ap (map put_of) (first_fits column used w at end ws on.0) ∙ ap (λ js. (space ∷ []) ∷ js) (rest_joints column (used + 1 + word_length w) r w.hi end ws ns on.1 lay)
 rest_joints column used zero at end (w ∷ ws) [] rest lay = absurd (some_words column (word_length w) (lengths ws) lay)
 rest_joints column used zero at end (w ∷ ws) (zero ∷ ns) rest lay = absurd (omega (arith, lay.0.some))
-rest_joints column used zero at end (w ∷ ws) (suc r ∷ ns) rest lay =
-    let past : column < used + (0 + 1) + (word_length w + 0) = subst (λ k. column < used + (0 + 1) + k) (take_sum 0 (word_length w) (lengths ws)) (rest.full (omega arith)) in
-    let over : column < used + 1 + word_length w = omega (arith, past) in
-    let less : suc r - 1 ≡ r = omega arith in
-    ap (map put_of) (first_does_not column used w at end ws over) ∙ ap (λ js. (newline_character ∷ []) ∷ js) (rest_joints column (word_length w) r w.hi end ws ns (rest_of column (word_length w) (lengths ws) r lay.0) lay.1)
-    ∙ ap (λ k. (newline_character ∷ []) ∷ replicate k (space ∷ []) ++ line_joints ns ++ [] ∷ []) (sym less)
+rest_joints column used zero at end (w ∷ ws) (suc r ∷ ns) rest lay = grind (arith, take_sum, first_does_not, rest_of, rest_joints column (word_length w) r w.hi end ws ns (rest_of column (word_length w) (lengths ws) r lay.0) lay.1)
 
 pub all_joints : (column lo hi : ℕ) (ws : List Span) (ns : List ℕ) → (ws ≡ [] → ⊥) → IsLayout column (lengths ws) ns → map put_of (gaps column None lo hi ws) ≡ layout_joints ns ++ [] ∷ []
 all_joints column lo hi [] ns some lay = absurd (some refl)

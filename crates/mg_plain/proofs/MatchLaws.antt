@@ -1,11 +1,10 @@
 -- A pattern at a place, character by character; the first match, place by place.
-use Rattle.std.proofs.Common.{List, None, Option, Some, [], arith, drop, false, get_or, if◌then◌else◌, length, length-drop, refl, suc, true, ℕ, ◌+◌, ◌<◌, ◌∷◌, ◌≡◌, ◌≤◌}
+use Rattle.std.proofs.Common.{List, Some, [], arith, drop, false, get_or, length, length-drop, suc, true, ℕ, ◌+◌, ◌<◌, ◌∷◌, ◌≡◌, ◌≤◌}
 use Rattle.std.proofs.lemmas.List.{drop_more}
-use Rattle.std.specs.Prelude.{nat_le}
 use Rattle.std.proofs.lemmas.Bool.{leb-true}
 use Rattle.std.proofs.lemmas.Option.{none-some}
 use Rattle.mg_plain.specs.Matches.{alike, begins_with, first_match, last_match, stands_at}
-use Rattle.mg_plain.specs.Scans.{IsGreatest, greatest_passing}
+use Rattle.mg_plain.specs.Scans.{IsGreatest}
 use Rattle.mg_plain.proofs.RangeLaws.{greatest_is}
 use Rattle.mg_plain.proofs.ScanLaws.{found_later}
 
@@ -28,17 +27,11 @@ pub nothing_left : (pattern text : List ℕ) (k : ℕ) → k < length pattern �
 nothing_left pattern text k hp ht = grind (arith, fits_in (drop k pattern) (drop k text), length-drop k pattern, length-drop k text)
 
 pub stands_within : (pattern text : List ℕ) (i : ℕ) → i ≤ length text → stands_at pattern text i ≡ true → i + length pattern ≤ length text
-stands_within pattern text i inside h =
-    let long = fits_in pattern (drop i text) h in
-    let t = length-drop i text in
-    omega (arith, long, t, inside)
+stands_within pattern text i inside h = grind (arith, fits_in, length-drop)
 
 pub match_later : (pattern text : List ℕ) (i : ℕ) → i ≤ length text → stands_at pattern text i ≡ false → first_match pattern text i ≡ first_match pattern text (i + 1)
 match_later pattern text i inside h = found_later (stands_at pattern text) i (suc (length text)) (omega (arith, inside)) h
 
 -- the last match up to a place, which lies in the text
 pub last_is : (pattern text : List ℕ) (start i : ℕ) → last_match pattern text start ≡ Some i → (start ≤ length text) × IsGreatest (stands_at pattern text) (suc start) i
-last_is pattern text start i h = elim (nat_le start (length text)) as (λ b. nat_le start (length text) ≡ b → ◌≡◌ {A = Option ℕ} (if b then greatest_passing (stands_at pattern text) (suc start) else None) (Some i) → (start ≤ length text) × IsGreatest (stands_at pattern text) (suc start) i) [
-  | true ↦ λ up g. (leb-true start (length text) up, greatest_is (stands_at pattern text) (suc start) i g)
-  | false ↦ λ up g. absurd (none-some _ g)
-] refl h
+last_is pattern text start i h = grind (arith, leb-true, greatest_is, none-some)

@@ -20,10 +20,7 @@ none_found p n (suc count) h k lo hi = none_on p n count k h lo hi (λ g. none_f
 
 -- a scan stays between its begin and its bound
 pub least_from-within : (p : ℕ → Bool) (n bound : ℕ) → n ≤ bound → (n ≤ least_from p n bound) × (least_from p n bound ≤ bound)
-least_from-within p n bound up = elim (least p n (bound - n)) as (λ o. least p n (bound - n) ≡ o → (n ≤ unwrap_or o bound) × (unwrap_or o bound ≤ bound)) [
-  | None ↦ λ h. (up, omega arith)
-  | Some q ↦ λ h. let found = least_found p n (bound - n) q h in (found.from, omega (arith, found.below, up))
-] refl
+least_from-within p n bound up = grind (arith, least_found)
 
 greatest_on : (p : ℕ → Bool) (n q : ℕ) → greatest_passing p (suc n) ≡ Some q → (greatest_passing p n ≡ Some q → IsGreatest p n q) → IsGreatest p (suc n) q
 greatest_on p n q h rest = grind arith
@@ -33,10 +30,7 @@ greatest_is p zero q h = absurd cc
 greatest_is p (suc n) q h = greatest_on p n q h (greatest_is p n q)
 
 pub greatest_up_to-within : (p : ℕ → Bool) (n : ℕ) → greatest_up_to p n ≤ n
-greatest_up_to-within p n = elim (greatest_passing p (suc n)) as (λ o. greatest_passing p (suc n) ≡ o → unwrap_or o 0 ≤ n) [
-  | None ↦ λ h. omega arith
-  | Some q ↦ λ h. let found = greatest_is p (suc n) q h in omega (arith, found.below)
-] refl
+greatest_up_to-within p n = grind (arith, greatest_is)
 
 abbrev pub FindsWithin : (ℕ → Option Span) → ℕ → Type 0
 FindsWithin find to = (q : ℕ) (s : Span) → q ≤ to → find q ≡ Some s → (q ≤ s.lo) × (s.lo ≤ s.hi) × (s.hi ≤ to)

@@ -1,13 +1,12 @@
 -- Replacements, one after the other.
-use Rattle.std.proofs.Common.{List, None, Some, [], ap, append-nil, append_assoc, arith, false, if◌then◌else◌, length, map, nat_eq, ne_eqb, option_map, refl, reverse, suc, sym, true, true≢false, ℕ, ◌++◌, ◌+◌, ◌-◌, ◌<◌, ◌∙◌, ◌∷◌, ◌≡◌, ◌≤◌}
+use Rattle.std.proofs.Common.{rules, List, None, Some, [], ap, append-nil, append_assoc, arith, false, length, map, nat_eq, option_map, refl, reverse, suc, sym, true≢false, ℕ, ◌++◌, ◌+◌, ◌-◌, ◌<◌, ◌∙◌, ◌∷◌, ◌≡◌, ◌≤◌}
 use Rattle.std.proofs.lemmas.List.{map_push}
 use Rattle.rga_ops.specs.Splice.{Splice}
 use Rattle.mg_plain.specs.Splices.{splice}
-use Rattle.mg_plain.specs.Matches.{first_match, match_at, match_count, matches, next_match, stands_at}
+use Rattle.mg_plain.specs.Matches.{first_match, match_at, match_count, matches, next_match}
 use Rattle.mg_plain.specs.Replacement.{all_matches, current_match, last_end, replacement, replacements}
 use Rattle.mg_plain.specs.Spans.{Span, span_chain}
 use Rattle.mg_plain.proofs.RangeLaws.{chain_ends, chain_more}
-use Rattle.mg_plain.proofs.ScanLaws.{found_nowhere}
 
 last_end-push : (q : ℕ) (spans : List Span) (s : Span) → last_end q (spans ++ s ∷ []) ≡ s.hi
 last_end-push q [] s = refl
@@ -53,14 +52,10 @@ replacing_on pattern put text point splices end i s so_far found behind inside s
 
 -- all matches are replaced
 pub all_done : (pattern put text : List ℕ) (point : ℕ) (splices : List Splice) (end : ℕ) (so_far : Replacing pattern put text point splices end) → first_match pattern text end ≡ None → so_far.done ≡ all_matches pattern text point
-all_done pattern put text point splices end so_far found =
-    let next : next_match pattern text end ≡ None = ap (option_map (match_at pattern)) found in
-    sym (append-nil so_far.done) ∙ ap (λ ys. so_far.done ++ ys) (sym (chain_ends (next_match pattern text) so_far.left end next)) ∙ so_far.all
+all_done pattern put text point splices end so_far found = grind (arith, append-nil, chain_ends)
 
 pub replacing_done : (pattern put text : List ℕ) (point : ℕ) (splices : List Splice) (end : ℕ) → Replacing pattern put text point splices end → first_match pattern text end ≡ None → ((reverse splices) ≡ replacements put (all_matches pattern text point)) × (end ≡ last_end point (all_matches pattern text point))
-replacing_done pattern put text point splices end so_far found =
-    let same = all_done pattern put text point splices end so_far found in
-    (ap reverse (so_far.made ∙ ap (map (replacement put)) same), sym so_far.ends ∙ ap (last_end point) same)
+replacing_done pattern put text point splices end so_far found = search (rules, all_done)
 
 -- so many matches have been counted, up to an end, and what is still to come
 pub record Counting (pattern text : List ℕ) (start count end : ℕ) : Type 0 where
@@ -74,27 +69,10 @@ pub counting_start : (pattern text : List ℕ) (start : ℕ) → start ≤ lengt
 counting_start pattern text start within = record { left = length text; all = omega arith; enough = omega arith; within = within; bound = omega arith }
 
 pub counting_on : (pattern text : List ℕ) (start count end i : ℕ) → Counting pattern text start count end → first_match pattern text end ≡ Some i → end ≤ i → i + length pattern ≤ length text → 0 < length pattern → Counting pattern text start (count + 1) (i + length pattern)
-counting_on pattern text start count end i so_far found behind inside some =
-    let m : Span = match_at pattern i in
-    let more : so_far.left ≡ suc (so_far.left - 1) = omega (arith, so_far.enough, behind, inside, some) in
-    let next : next_match pattern text end ≡ Some m = ap (option_map (match_at pattern)) found in
-    let rest : span_chain (next_match pattern text) so_far.left end ≡ m ∷ span_chain (next_match pattern text) (so_far.left - 1) m.hi =
-    ap (λ k. span_chain (next_match pattern text) k end) more ∙ chain_more (next_match pattern text) (so_far.left - 1) end m next in
-    let longer : length (span_chain (next_match pattern text) so_far.left end) ≡ suc (length (span_chain (next_match pattern text) (so_far.left - 1) m.hi)) = ap length rest in
-    record {
-      left = so_far.left - 1;
-      all = omega (arith, so_far.all, longer);
-      enough = omega (arith, so_far.enough, behind, inside, some, more);
-      within = inside;
-      bound = omega (arith, so_far.bound, behind, some);
-    }
+counting_on pattern text start count end i so_far found behind inside some = grind arith
 
 pub counting_done : (pattern text : List ℕ) (start count end : ℕ) → Counting pattern text start count end → first_match pattern text end ≡ None → 0 < length pattern → count ≡ match_count pattern text start
-counting_done pattern text start count end so_far found some =
-    let next : next_match pattern text end ≡ None = ap (option_map (match_at pattern)) found in
-    let none : length (span_chain (next_match pattern text) so_far.left end) ≡ 0 = ap length (chain_ends (next_match pattern text) so_far.left end next) in
-    let all : count ≡ length (matches pattern text start) = omega (arith, so_far.all, none) in
-    all ∙ sym (ap (λ b. if b then 0 else length (matches pattern text start)) (ne_eqb (length pattern) 0 (λ e. omega (arith, e, some))))
+counting_done pattern text start count end so_far found some = grind arith
 
 pub has_some : (pattern : List ℕ) → nat_eq (length pattern) 0 ≡ false → 0 < length pattern
 has_some [] h = absurd (true≢false h)
@@ -102,8 +80,4 @@ has_some (c ∷ pattern) h = omega arith
 
 -- there are none behind the text
 pub none_behind : (pattern text : List ℕ) (start : ℕ) → length text < start → match_count pattern text start ≡ 0
-none_behind pattern text start behind =
-    let found : first_match pattern text start ≡ None = found_nowhere (stands_at pattern text) start (suc (length text)) behind in
-    let next : next_match pattern text start ≡ None = ap (option_map (match_at pattern)) found in
-    let none : matches pattern text start ≡ [] = chain_ends (next_match pattern text) (length text) start next in
-    elim (nat_eq (length pattern) 0) as (λ b. (if b then 0 else length (matches pattern text start)) ≡ 0) [ true ↦ refl | false ↦ ap length none ]
+none_behind pattern text start behind = grind arith

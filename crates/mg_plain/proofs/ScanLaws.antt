@@ -1,5 +1,5 @@
 -- Scans for the least number from a place on, and for the greatest up to it.
-use Rattle.std.proofs.Common.{Bool, None, Some, ap, arith, false, suc, true, zero, ℕ, ◌+◌, ◌-◌, ◌<◌, ◌≡◌, ◌≤◌}
+use Rattle.std.proofs.Common.{Bool, Some, ap, arith, false, suc, true, ℕ, ◌+◌, ◌-◌, ◌<◌, ◌≡◌}
 use Rattle.std.specs.Option.{unwrap_or}
 use Rattle.mg_plain.specs.Scans.{greatest_up_to, least, least_from}
 
@@ -9,9 +9,6 @@ found_here p n bound inside h = let e : bound - n ≡ suc (bound - (n + 1)) = om
 
 pub found_later : (p : ℕ → Bool) (n bound : ℕ) → n < bound → p n ≡ false → least p n (bound - n) ≡ least p (n + 1) (bound - (n + 1))
 found_later p n bound inside h = let e : bound - n ≡ suc (bound - (n + 1)) = omega (arith, inside) in grind (arith, e)
-
-pub found_nowhere : (p : ℕ → Bool) (n bound : ℕ) → bound ≤ n → least p n (bound - n) ≡ None
-found_nowhere p n bound out = let e : bound - n ≡ zero = omega (arith, out) in ap (least p n) e
 
 pub scan_here : (p : ℕ → Bool) (n bound : ℕ) → n < bound → p n ≡ true → least_from p n bound ≡ n
 scan_here p n bound inside h = ap (λ o. unwrap_or o bound) (found_here p n bound inside h)
