@@ -42,10 +42,10 @@ fresh mode.Query a s w = record { same = λ rest. refl }
 -- ---- one has: some byte means another thing behind it
 
 no_insertion : (n m : ℕ) (r : Utf8Reading) → whole (step.Run run.BeginningOfLine m) ≡ insertion_meaning n r → ⊥
-no_insertion n m zp1 e = grind (arith)
+no_insertion n m r e = grind (arith)
 
 no_text : (r : Utf8Reading) → whole step.Rub ≡ text_meaning r → ⊥
-no_text zp1 e = grind (arith)
+no_text r e = grind (arith)
 
 not_yet : (m : Mode) (a : Argument) (s : Sequence) → HasBegun (keys_of m a s) [] → waits m a s ≡ false
 unfolding keys_of

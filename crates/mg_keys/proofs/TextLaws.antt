@@ -14,10 +14,10 @@ abbrev keys_at : Mode → Argument → Sequence → KeyState
 keys_at m a sequence = record { mode = m; argument = a; sequence = sequence }
 
 in_prompt : (a : Argument) (begun : Continuation) (byte : ℕ) (r : Advance) → TextAdvances Prompt (text_rest Prompt (Character begun)) byte r → Advances (keys_at Prompt a (Character begun)) byte r
-in_prompt a begun byte zp1 h = grind (arith)
+in_prompt a begun byte r h = grind (arith)
 
 in_search : (a : Argument) (begun : Continuation) (byte : ℕ) (r : Advance) → TextAdvances Search (text_rest Search (Character begun)) byte r → Advances (keys_at Search a (Character begun)) byte r
-in_search a begun byte zp1 h = grind (arith)
+in_search a begun byte r h = grind (arith)
 
 -- keys of that mode that have read that much
 at : (keys : KeyState) (m : Mode) (begun : Continuation) (byte : ℕ) (r : Advance) → keys.mode ≡ m → keys.sequence ≡ Character begun → Advances (keys_at m keys.argument (Character begun)) byte r → Advances keys byte r

@@ -86,7 +86,7 @@ reading_behind-begins begun c (b ∷ bs) more some =
     (λ _ e. absurd cc)
 
 characters-begins : (c : ℕ) (bs more : List ℕ) → more ≢ [] → characters (bs ++ more) ≡ is c → characters bs ≡ begins
-characters-begins c zp1 more some = search (rules, reading_behind-begins)
+characters-begins c bs more some = search (rules, reading_behind-begins)
 
 pub utf8_begins : (c : ℕ) (bytes more : List ℕ) → IsScalar c → 128 ≤ c → more ≢ [] → encode_utf8 c ≡ bytes ++ more → characters bytes ≡ begins
 utf8_begins c bytes more good low some e = characters-begins c bytes more some (ap characters (sym e) ∙ utf8_read c good low)

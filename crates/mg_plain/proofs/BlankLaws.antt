@@ -44,4 +44,4 @@ reversed text [] a = tt
 reversed text (c ∷ cs) a = subst (AreOfBlanks text) (sym (reverse-append (c ∷ []) cs)) (one_more text (reverse cs) c (reversed text cs a.1) a.0)
 
 pub filled_of_blanks : (column : ℕ) (text : List ℕ) (point : ℕ) → point ≤ length text → (b : Bool) → AreOfBlanks text (if b then filling column text (paragraph text point) else [])
-filled_of_blanks column text point within zp1 = grind (arith, greatest_up_to-within, least_from-within, reversed, filtered, gaps_of_blanks)
+filled_of_blanks column text point within b = grind (arith, greatest_up_to-within, least_from-within, reversed, filtered, gaps_of_blanks)

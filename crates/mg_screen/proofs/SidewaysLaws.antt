@@ -48,10 +48,10 @@ cells_same a b (c ∷ cs) same =
 -- a cell that begins behind the columns is left whole
 pub whole_left : (line : List ℕ) (column skip : ℕ) → column ≡ skip → 0 < length line → skip - column < width_of (cells_from column (take 1 line))
     → cells_from (column % tab_stop) line ≡ cells_behind (skip - column) (cells_from column line)
-whole_left zp1 column skip is some to = grind (arith, cells_same, mod-mod, nat_tests)
+whole_left line column skip is some to = grind (arith, cells_same, mod-mod, nat_tests)
 
 -- a cell that begins within the columns is left as blanks
 pub part_left : (line : List ℕ) (column skip w d : ℕ) → column < skip → 0 < length line → skip - column < width_of (cells_from column (take 1 line))
     → d ≡ get_or line 0 d → w ≡ (cell_of column d).width
     → rest_cells (w - (skip - column)) (column % tab_stop + w) (take (length line - 1) (drop 1 line)) ≡ cells_behind (skip - column) (cells_from column line)
-part_left zp1 column skip w d from some to met is = grind (arith, take_all, cells_same, mod-add-mod, nat_tests)
+part_left line column skip w d from some to met is = grind (arith, take_all, cells_same, mod-add-mod, nat_tests)

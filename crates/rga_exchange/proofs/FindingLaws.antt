@@ -27,7 +27,7 @@ less_so : (o : Ordering) → is_lt o ≡ true → o ≡ Less
 less_so o h = less_of o (subst T (sym h) tt)
 
 above_so : (o : Ordering) → is_lt o ≡ false → is_eq o ≡ false → ordering_reverse o ≡ Less
-above_so zp1 h k = grind (arith)
+above_so o h k = grind (arith)
 
 pub later_above : {B : Type 0} (x : Identifier) (e : Identifier × B) (es : List (Identifier × B)) → T (below_all id_cmp x (e ∷ es)) → T (is_lt (id_cmp x e.0)) × T (below_all id_cmp x es)
 later_above x e es h = both_so (is_lt (id_cmp x e.0)) (below_all id_cmp x es) h

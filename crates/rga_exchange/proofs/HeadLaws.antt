@@ -38,7 +38,7 @@ head-iff Log n = (λ e. absurd cc, λ p. let clash : Log ≡ Exchange = p.0 in a
 head-iff Exchange n = (λ e. (refl, eqb-true n 1 e), λ p. eq-eqb n 1 p.1)
 
 says_head : (r : AnyReading) → is_head r ≡ true → r ≡ Ok Head
-says_head zp1 e = grind (arith)
+says_head r e = grind (arith)
 
 -- a head where none may be is the fault of its line
 pub head_elsewhere : (form : Form) (limit n : ℕ) (c : Content) (line : List ℕ) (lines : List (List ℕ)) → any_line_at line ≡ Ok Head → may_be_head form (n + 1) ≡ false
@@ -49,7 +49,7 @@ head_elsewhere form limit n c line lines says none = grind (arith)
 
 -- a line is taken as one of a log, but for a head where one may be
 as_line : (form : Form) (limit n : ℕ) (c : Content) (r : AnyReading) → (is_head r ≡ true → may_be_head form n ≡ false) → after_line form limit n c r ≡ after_line Log limit n c r
-as_line form limit n c zp1 none = grind (arith)
+as_line form limit n c r none = grind (arith)
 
 pub as_log : (form : Form) (limit n : ℕ) (c : Content) (lines : List (List ℕ)) → may_be_head form (n + 1) ≡ false → lines_taken form limit n c lines ≡ lines_taken Log limit n c lines
 as_log form limit n c [] none = refl
@@ -88,7 +88,7 @@ through_body form limit n c (line ∷ lines) = by_place (may_be_head form (n + 1
 -- ---- lines that are to be operations
 
 pub body-append : (form : Form) (n : ℕ) (xs ys : List (List ℕ)) → body_behind form n (xs ++ ys) ≡ body_behind form n xs ++ body_behind form (n + length xs) ys
-body-append form n zp1 ys = grind arith
+body-append form n xs ys = grind arith
 
 -- a head stands for no operations, be it taken or not
 pub body_alone : (form : Form) (n : ℕ) (line : List ℕ) → operations_of (body_behind form n (line ∷ [])) ≡ operations_of (line ∷ [])

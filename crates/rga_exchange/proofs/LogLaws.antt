@@ -72,7 +72,7 @@ parts_taken limit c d lines others all h =
 
 -- a rest that is not empty and no operation
 none_torn : (b : ℕ) (bytes : List ℕ) (e : LineFault) → operations_at (b ∷ bytes) ≡ Err e → (b ∷ bytes ≡ []) ⊎ IsOperation (b ∷ bytes) → ⊥
-none_torn b bytes e reads zp1 = grind arith
+none_torn b bytes e reads given = grind arith
 
 abbrev ReadTo : ℕ → ℕ → Content → Content → List ℕ → Type 0
 ReadTo limit n c d rest = (read : LogRead) × (after_rest limit n c rest ≡ (d, Ok read)) × ((rest ≡ []) ⊎ IsOperation rest → HasNothingTorn read.end)
@@ -99,7 +99,7 @@ rest_read limit n c d (b ∷ bytes) within h = elim (some_or_none limit c (any_l
 
 -- a rest that is an operation, or none, is not too long
 rest_is_short : (rest : List ℕ) → (rest ≡ []) ⊎ IsOperation rest → length rest ≤ MAX_LINE
-rest_is_short rest zp1 = grind (arith, cases_lt, stands_for_none, stands_for, long_stands)
+rest_is_short rest given = grind (arith, cases_lt, stands_for_none, stands_for, long_stands)
 
 log_to_end : (limit : ℕ) (c : Content) (bytes : List ℕ) → AllByRecursion IsOperation (lines_of bytes) → length (rest_of bytes) ≤ MAX_LINE → IsJoinable c (log_operations bytes) → finite_set.len (known_ids (join c (content_of (log_operations bytes)))) ≤ limit → (read : LogRead) × (log_outcome limit c bytes ≡ (join c (content_of (log_operations bytes)), Ok read)) × ((rest_of bytes ≡ []) ⊎ IsOperation (rest_of bytes) → HasNothingTorn read.end)
 log_to_end limit c bytes operations short joinable fits =

@@ -91,7 +91,7 @@ module _ (took : Intake) (n : ℕ) (rest : List ℕ) where
   rest_takes r some h = grind arith
 
   pub rest_fails : (e : LogFault) → TakesRest took n rest (Err e) → (e ≢ fault.Memory → after_rest took.limit n took.old rest ≡ ran (Err e) took.new) × TakesNone took × (e ≢ fault.Read)
-  rest_fails zp1 h = grind (arith)
+  rest_fails e h = grind (arith)
 
 -- how the rest of a log ends it, at content c behind n lines
 pub record RestTaken (limit n : ℕ) (c d : Content) (read : LogRead) (rest : List ℕ) : Type 0 where

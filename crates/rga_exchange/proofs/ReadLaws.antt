@@ -27,7 +27,7 @@ use Rattle.rga_exchange.proofs.OperationLaws.{ends_at_once, stream_lines_end, lo
 
 -- what holds of all bytes that were read, whatever follows them, holds of what the reader is known to give
 pub on_all : (old now : Option (List ℕ)) (all : List ℕ) (P : List ℕ → Type 0) → Consumes old now all → ((more : List ℕ) → P (all ++ more)) → IfSome old P
-on_all zp1 now all zp2 read holds = grind (arith)
+on_all old now all P read holds = grind (arith)
 
 abbrev all_read : {R : Type 0} {form : Form} {remaining : R → Option (List ℕ)} {r s : Calls R} → EndsWithLastRead form remaining r s → List ℕ
 all_read h = h.before ++ h.last

@@ -113,7 +113,7 @@ front_full max id ch behind chars last rest begun full = begun_whole front_from 
 
 none_left : (last : Identifier) (room : ℕ) (ops : List Op) → length ops ≡ 0 → front_characters last room ops ≡ []
 unfolding front_characters
-none_left last zp1 ops none = grind (arith)
+none_left last room ops none = grind (arith)
 
 pub front_last : (max : ℕ) (id : Identifier) (ch : ℕ) (behind : List Op) (chars : List ℕ) (last : Identifier) (rest : List Op) → IsFrontBegun max id ch behind chars last rest → length rest ≡ 0 → chars ≡ ch ∷ front_characters id (max - 1) behind
 front_last max id ch behind chars last rest begun none = begun_whole front_from max (ch ∷ front_characters id (max - 1) behind) chars (last, rest) begun (none_left last (max - length chars) rest none)

@@ -74,7 +74,7 @@ operations_are_taken form limit n c d lines within all h =
     w.same ∙ log_is_taken limit w.before c d (body_behind form n lines) within all h ∙ ap (λ k. progress k d AllTaken) w.count
 
 goes_on_so : (form : Form) (limit n : ℕ) (c : Content) (lines : List (List ℕ)) (stop : Stop) → GoesOnWith form limit n c lines stop → lines_taken form limit n c lines ≡ progress n c stop
-goes_on_so form limit n c lines zp1 none = grind arith
+goes_on_so form limit n c lines stop none = grind arith
 
 pub taken_up_to-iff : (form : Form) (limit : ℕ) (c : Content) (lines : List (List ℕ)) (t : Progress) → finite_set.len (known_ids c) ≤ limit → (lines_taken form limit 0 c lines ≡ t) ↔ IsTakenUpTo form limit c lines t
 taken_up_to-iff form limit c lines t within = (there, back)

@@ -69,7 +69,7 @@ lines_taken-append form limit n m c d (x ∷ xs) ys h =
 
 -- and so does a line that is too long
 pub begins_long : (form : Form) (limit n : ℕ) (c : Content) (lines : List (List ℕ)) (rest : List ℕ) → BeginsLong lines rest → with_rest rest (lines_taken form limit n c lines) ≡ progress n c (AtFault (fault.Line (n + 1) line_fault.Long))
-begins_long form limit n c zp1 rest h = grind (arith, lt-ltb, too_long)
+begins_long form limit n c lines rest h = grind (arith, lt-ltb, too_long)
 
 -- no line waits: the rest alone is left, which is not too long
 pub only_rest : (form : Form) (limit n : ℕ) (c : Content) (waiting : List ℕ) → lines_of waiting ≡ [] → rest_of waiting ≡ waiting → length waiting ≤ MAX_LINE → bytes_taken form limit n c (waiting ++ []) ≡ progress n c AllTaken
@@ -304,4 +304,4 @@ module _ {form : Form} {limit own : ℕ} {c d : Content} {first : List Op → Ty
 
 -- at a fault the first of them were taken, and but for want of memory the stream stops there
 pub faulted : (form : Form) (took : Intake) (p : Stage) (n j : ℕ) (s : Splitting) (e : LogFault) → TakesLines form took p n j s (Err e) → TakesFirst form took p n j × ((e ≡ fault.Memory → ⊥) → StopsAs form took p n (AtFault e))
-faulted form took p n j s zp1 h = grind arith
+faulted form took p n j s e h = grind arith

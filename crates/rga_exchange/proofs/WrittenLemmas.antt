@@ -9,7 +9,7 @@ Appends-nil None = tt
 Appends-nil (Some xs) = sym (append-nil xs)
 
 pub Appends-then : (a b c : Option (List ℕ)) (xs ys : List ℕ) → Appends a b xs → Appends b c ys → Appends a c (xs ++ ys)
-Appends-then zp1 b c xs ys h k = grind (arith, append_assoc)
+Appends-then a b c xs ys h k = grind (arith, append_assoc)
 
 module _ {W : Type 0} (contents : W → Option (List ℕ)) where
   pub begun_start : (a : Calls W) (text : List ℕ) → WritesAllBut contents a a text text

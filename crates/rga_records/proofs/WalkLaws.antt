@@ -16,7 +16,7 @@ pub record IsLeft (next : List ℕ) (shown : List (Option ℕ)) (chain : List �
 
 -- two that the same number stands for are the same
 one_code : (x : ℕ) (o p : Option ℕ) → SomeIff o (IsScalar x) x → SomeIff p (IsScalar x) x → o ≡ p
-one_code x zp1 zp2 h k = grind (arith)
+one_code x o p h k = grind (arith)
 
 pub code_at : (codes : List ℕ) (kept : List (Option ℕ)) (i d : ℕ) (o : Option ℕ) → AreCodes codes kept → i < length codes → SomeIff o (IsScalar (get_or codes i d)) (get_or codes i d) → get_or kept i None ≡ o
 code_at [] kept i d o h w is = absurd (omega (arith, w))
