@@ -147,9 +147,6 @@ module _ {S : Type 0} (m : IndexMap Identifier Node S) (place : ℕ) (id : Ident
 
 -- ---- a node that is made
 
-one_more : (n : ℕ) → suc n ≡ 1 + n
-one_more n = omega arith
-
 pub place_made : (ns : Nodes) (id : Identifier) (w : Node) → StandsAt (insert_entry is_id ns id w) (position_or_len (is_id id) (keys_of ns)) id
 place_made [] id w = refl
 place_made (n ∷ ns) id w = grind (arith, is_id-is id n.0, place_made ns id w)

@@ -31,6 +31,10 @@ inserted_ids = ids_where (λ v. is_some v.element)
 abbrev pub marked_ids : Nodes → List Identifier
 marked_ids = ids_where (λ v. v.deleted)
 
+-- whether a node is marked, or else whether it has an element
+abbrev pub is_picked : Bool → Node → Bool
+is_picked marked v = if marked then v.deleted else is_some v.element
+
 -- what the nodes stand for; one with neither an element nor a mark stands for nothing
 abbrev pub content_of_nodes : Nodes → Content
 content_of_nodes ns = record {

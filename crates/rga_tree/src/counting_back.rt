@@ -1,7 +1,7 @@
 //! Visible elements counted from an element back through the order, by look-ups. Takes no memory.
 ghost use Rattle.std.specs.Prelude.{◌≡◌, ◌≤◌, ◌++◌, ◌∷◌, [], false, true, length, slice_get, is_some, None, Some, IfSome};
 ghost use Rattle.std.specs.FinMap as finite_map;
-ghost use Rattle.rga_ops.specs.Prelude.{is_root, order, place, visible, IsSound};
+ghost use Rattle.rga_ops.specs.Prelude.{is_root, order, visible, IsSound};
 ghost use Rattle.rga_ops.specs.RootPath.{is_complete, root_path};
 ghost use Rattle.rga_ops.specs.Order.{shown};
 ghost use Rattle.rga_ops.specs.Places.{is_visible};
@@ -14,17 +14,6 @@ use crate::nodes::{Node, find_node};
 use crate::preceding::{element_before, last_under};
 use indexmap::IndexMap;
 use rga_ops::Id;
-
-/// How many elements are visible.
-pub(crate) fn visible_len(nodes: &IndexMap<Id, Node>) -> usize
-    requires apart { AreDistinctNodes nodes.now.entries }
-    requires family { HasFamilies nodes.now.entries }
-    requires sound { IsSound (content_of_nodes nodes.now.entries) }
-    requires few { finite_map.len (content_of_nodes nodes.now.entries).inserted ≤ MAX_LIMIT }
-    ensures { result ≡ length (visible (content_of_nodes nodes.now.entries)) }
-{
-    count_up_to(nodes, last_element(nodes, &mut 0))
-}
 
 /// The visible element at an index; none past the end.
 pub(crate) fn element_at(nodes: &IndexMap<Id, Node>, k: usize) -> Option<Id>
@@ -51,23 +40,8 @@ pub(crate) fn element_at(nodes: &IndexMap<Id, Node>, k: usize) -> Option<Id>
     None
 }
 
-/// How many visible elements are the element or stand before it; 0 for the root, and none for what
-/// is neither the root nor complete.
-pub(crate) fn place_of(nodes: &IndexMap<Id, Node>, id: Id) -> Option<usize>
-    requires apart { AreDistinctNodes nodes.now.entries }
-    requires family { HasFamilies nodes.now.entries }
-    requires sound { IsSound (content_of_nodes nodes.now.entries) }
-    requires few { finite_map.len (content_of_nodes nodes.now.entries).inserted ≤ MAX_LIMIT }
-    ensures { result ≡ place (content_of_nodes nodes.now.entries) id }
-{
-    if !reaches_root(nodes, id) {
-        return None;
-    }
-    Some(count_up_to(nodes, id))
-}
-
 /// How many visible elements there are up to the root or a complete element.
-fn count_up_to(nodes: &IndexMap<Id, Node>, id: Id) -> usize
+pub(crate) fn count_up_to(nodes: &IndexMap<Id, Node>, id: Id) -> usize
     requires apart { AreDistinctNodes nodes.now.entries }
     requires family { HasFamilies nodes.now.entries }
     requires sound { IsSound (content_of_nodes nodes.now.entries) }
@@ -125,7 +99,7 @@ pub(crate) fn last_element(nodes: &IndexMap<Id, Node>, near: &mut usize) -> Id
 }
 
 /// Whether an identifier is the root or complete: up the parents from it.
-fn reaches_root(nodes: &IndexMap<Id, Node>, id: Id) -> bool
+pub(crate) fn reaches_root(nodes: &IndexMap<Id, Node>, id: Id) -> bool
     requires apart { AreDistinctNodes nodes.now.entries }
     requires sound { IsSound (content_of_nodes nodes.now.entries) }
     ensures { result ≡ is_some (root_path (content_of_nodes nodes.now.entries) id) }

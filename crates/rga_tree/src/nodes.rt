@@ -1,12 +1,12 @@
 //! A node for each identifier that is inserted, deleted, or named as a parent.
-ghost use Rattle.std.specs.Prelude.{◌≡◌, [], true, false, None, IfOk, IfErr, IfSome, OnOk, OnErr};
+ghost use Rattle.std.specs.Prelude.{◌≡◌, true, false, None, IfOk, IfErr, IfSome, OnOk, OnErr};
 ghost use Rattle.std.specs.FinMap as finite_map;
 ghost use Rattle.std.specs.FinSet as finite_set;
 ghost use Rattle.std.specs.Map.{lookup};
 ghost use Rattle.std.specs.Option.{option_copied, option_map};
 ghost use Rattle.rga_ops.specs.Prelude.{is_id, join, single};
 ghost use Rattle.rga_ops.specs.Found.{facts_of};
-ghost use Rattle.rga_tree.specs.Children.{children_in, has_child};
+ghost use Rattle.rga_tree.specs.Children.{has_child};
 ghost use Rattle.rga_tree.specs.Nodes.{content_of_nodes, children_of, KeepsChildren, AddsChildUnder, RemovesChildUnder, AreRising, AreDistinctNodes, StandsAt, KeepsIndexes};
 ghost use Rattle.rga_store.specs.Without.{without_insertion, without_deletion};
 
@@ -23,21 +23,6 @@ pub(crate) struct Node {
     pub(crate) element: Option<(Id, char)>,
     pub(crate) deleted: bool,
     pub(crate) children: ChildList,
-}
-
-impl Node {
-    /// A node that means nothing yet. Takes no memory.
-    fn new(alloc: Global) -> Node
-        ensures element { result.element ≡ None }
-        ensures unmarked { result.deleted ≡ false }
-        ensures childless { children_in result.children ≡ [] }
-    {
-        Node {
-            element: None,
-            deleted: false,
-            children: ChildList::new(alloc),
-        }
-    }
 }
 
 /// Sees to it that an identifier has a node, and says at which index. A new one means nothing, and
@@ -60,7 +45,12 @@ pub(crate) fn ensure_node(
     if let Some(index) = last_index(nodes, id) {
         return Ok(index);
     }
-    match nodes.insert_full(id, Node::new(alloc)) {
+    let node = Node {
+        element: None,
+        deleted: false,
+        children: ChildList::new(alloc),
+    };
+    match nodes.insert_full(id, node) {
         Ok((index, None)) => Ok(index),
         Ok((index, Some(node))) => {
             nodes[index] = node;

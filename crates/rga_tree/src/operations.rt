@@ -4,7 +4,7 @@ ghost use Rattle.std.specs.List.{filter_map};
 ghost use Rattle.std.specs.FinMap as finite_map;
 ghost use Rattle.std.specs.FinSet as finite_set;
 ghost use Rattle.rga_ops.specs.Operations.{insertion_at, rising};
-ghost use Rattle.rga_tree.specs.Nodes.{content_of_nodes, inserted_ids, marked_ids, AreDistinctNodes};
+ghost use Rattle.rga_tree.specs.Nodes.{content_of_nodes, ids_where, is_picked, AreDistinctNodes};
 
 use crate::nodes::{Node, element_of};
 use indexmap::IndexMap;
@@ -25,7 +25,7 @@ pub(crate) fn list_insertions(
     ensures memory { IfErr result (λ e. e ≡ Refusal.Memory) }
 {
     let mut ids = Vec::new(alloc);
-    push_inserted(&mut ids, nodes)?;
+    push_ids(&mut ids, nodes, false)?;
     ids.sort_unstable();
     push_insertions(ops, nodes, &ids)
 }
@@ -43,20 +43,20 @@ pub(crate) fn list_deletions(
     ensures memory { IfErr result (λ e. e ≡ Refusal.Memory) }
 {
     let mut ids = Vec::new(alloc);
-    push_marked(&mut ids, nodes)?;
+    push_ids(&mut ids, nodes, true)?;
     ids.sort_unstable();
     push_deletions(ops, &ids)
 }
 
-/// The identifiers of the nodes that have an element.
-fn push_inserted(ids: &mut Vec<Id>, nodes: &IndexMap<Id, Node>) -> Result<(), Refusal>
-    ensures ok { OnOk result (ids.new.items ≡ ids.old.items ++ inserted_ids nodes.now.entries) }
+/// The identifiers of the nodes that are marked as deleted, or else of those that have an element.
+fn push_ids(ids: &mut Vec<Id>, nodes: &IndexMap<Id, Node>, marked: bool) -> Result<(), Refusal>
+    ensures ok { OnOk result
+        (ids.new.items ≡ ids.old.items ++ ids_where (is_picked marked) nodes.now.entries) }
     ensures memory { IfErr result (λ e. e ≡ Refusal.Memory) }
 {
     for i in 0..nodes.len() {
         if let Some((id, node)) = nodes.get_index(i) {
-            let inserted = node.element.is_some();
-            if inserted {
+            if is_picked(node, marked) {
                 ids.push(*id)?;
             }
         }
@@ -64,20 +64,14 @@ fn push_inserted(ids: &mut Vec<Id>, nodes: &IndexMap<Id, Node>) -> Result<(), Re
     Ok(())
 }
 
-/// The identifiers of the nodes that are marked as deleted.
-fn push_marked(ids: &mut Vec<Id>, nodes: &IndexMap<Id, Node>) -> Result<(), Refusal>
-    ensures ok { OnOk result (ids.new.items ≡ ids.old.items ++ marked_ids nodes.now.entries) }
-    ensures memory { IfErr result (λ e. e ≡ Refusal.Memory) }
+/// Whether a node is marked as deleted, or else whether it has an element.
+fn is_picked(node: &Node, marked: bool) -> bool
+    ensures { result ≡ is_picked marked node.now }
 {
-    for i in 0..nodes.len() {
-        if let Some((id, node)) = nodes.get_index(i) {
-            let deleted = node.deleted;
-            if deleted {
-                ids.push(*id)?;
-            }
-        }
+    if marked {
+        return node.deleted;
     }
-    Ok(())
+    node.element.is_some()
 }
 
 fn push_insertions(ops: &mut Vec<Op>, nodes: &IndexMap<Id, Node>, ids: &[Id]) -> Result<(), Refusal>

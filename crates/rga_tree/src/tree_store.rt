@@ -9,7 +9,7 @@ ghost use Rattle.rga_ops.specs.Found.{facts_of};
 mod removal;
 mod whole_list;
 
-use crate::counting_back::{element_at, place_of, visible_len};
+use crate::counting_back::{count_up_to, element_at, last_element, reaches_root};
 use crate::merging::{count_unknown, knows, least_conflict};
 use crate::nodes::{Node, add_child, element_of, ensure_node, found_at, mark, set_element};
 use crate::operations::{list_deletions, list_insertions, tell_each};
@@ -68,7 +68,7 @@ impl Taker for TreeStore {
     ghost follows_on = { λ s t u xs ys a b. tt };
 
     fn apply(&mut self, op: Op) -> Result<Taken, Refusal> {
-        let answer = self.answer(op);
+        let answer = answer_to(op, self.find(op.id()));
         if answer != Ok(Taken::New) {
             return answer;
         }
@@ -108,13 +108,6 @@ impl Lookup for TreeStore {
 }
 
 impl TreeStore {
-    /// The answer to an operation, want of memory aside.
-    fn answer(&self, op: Op) -> Result<Taken, Refusal>
-        ensures { result ≡ answer self.now.limit self.now.content op }
-    {
-        answer_to(op, self.find(op.id()))
-    }
-
     /// What is known of an identifier, by one search.
     fn find(&self, id: Id) -> Found
         ensures { facts_of result ≡ facts self.now.limit self.now.content id }
@@ -258,7 +251,7 @@ impl TextStore for TreeStore {
     }
 
     fn visible_len(&self) -> usize {
-        visible_len(&self.nodes)
+        count_up_to(&self.nodes, last_element(&self.nodes, &mut 0))
     }
 
     fn element_at(&self, k: usize) -> Option<Id> {
@@ -273,7 +266,10 @@ impl TextStore for TreeStore {
     }
 
     fn place_of(&self, id: Id) -> Option<usize> {
-        place_of(&self.nodes, id)
+        if !reaches_root(&self.nodes, id) {
+            return None;
+        }
+        Some(count_up_to(&self.nodes, id))
     }
 
     fn waiting_count(&self) -> Result<usize, Refusal> {

@@ -31,6 +31,4 @@ returns-clause-visible c =
     visible_if_shown held c.args.id c.in_ok-parent.parent c.in_ok-parent.ch its (c.requires.complete (no_root held c.requires.sound c.args.id c.in_ok-parent.parent c.in_ok-parent.ch its))
 
 pub returns-clause-shown : goal.returns-clause-shown
-returns-clause-shown c =
-    let its : IsShownChild (content_of_nodes c.args.nodes.now.entries) c.args.id c.in_ok-parent.parent c.in_ok-parent.ch = child c.in_ok-parent.was c.parent_and_char.ensures.shown in
-    its.shows
+returns-clause-shown c = (child c.in_ok-parent.was c.parent_and_char.ensures.shown).shows

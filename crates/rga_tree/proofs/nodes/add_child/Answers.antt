@@ -59,14 +59,10 @@ pub returns-clause-others : goal.returns-clause-others
 returns-clause-others c = places_still c.args.nodes.now c.args.index c.args.parent c.index_mut.result.now (written c) c.requires.apart c.requires.index c.index_mut.ensures.value
 
 pub returns-clause-content : goal.returns-clause-content
-returns-clause-content c =
-    content_kept c.args.nodes.now.entries (after c) c.args.parent (Some c.index_mut.result.now) (written c) c.requires.apart (apart c) (put c) refl refl
+returns-clause-content c = content_kept _ _ _ _ _ c.requires.apart (apart c) (put c) refl refl
 
 pub returns-clause-apart : goal.returns-clause-apart
 returns-clause-apart c = apart c
 
 pub returns-clause-same : goal.returns-clause-same
-returns-clause-same c =
-    on_err_map c.put.result
-    (λ same. children_kept c.args.nodes.now.entries (after c) c.args.parent (Some c.index_mut.result.now) (written c) c.requires.apart (apart c) (put c) (ap children_in same))
-    c.put.ensures.same
+returns-clause-same c = on_err_map c.put.result (λ same. children_kept _ _ _ _ _ c.requires.apart (apart c) (put c) (ap children_in same)) c.put.ensures.same

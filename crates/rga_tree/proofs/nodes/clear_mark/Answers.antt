@@ -26,12 +26,10 @@ returns-in-Some-clause-inserted c =
     ∙ sym (ap is_some (inserted_at c.args.nodes.now.entries c.get_mut.ensures.unique c.args.id ∙ ap element_of (found c)))
 
 pub returns-in-Some-clause-content : goal.returns-in-Some-clause-content
-returns-in-Some-clause-content c =
-    content_undeleted c.args.nodes.now.entries (after c) c.args.id (Some c.in-Some.node.now) (written c) c.get_mut.ensures.unique (c.get_mut.follows.holds (written c)).4 (put c) refl refl
+returns-in-Some-clause-content c = content_undeleted _ _ _ _ _ c.get_mut.ensures.unique (c.get_mut.follows.holds (written c)).4 (put c) refl refl
 
 pub returns-in-Some-clause-children : goal.returns-in-Some-clause-children
-returns-in-Some-clause-children c =
-    children_kept c.args.nodes.now.entries (after c) c.args.id (Some c.in-Some.node.now) (written c) c.get_mut.ensures.unique (c.get_mut.follows.holds (written c)).4 (put c) refl
+returns-in-Some-clause-children c = children_kept _ _ _ _ _ c.get_mut.ensures.unique (c.get_mut.follows.holds (written c)).4 (put c) refl
 
 -- there is a node
 pub returns-in-None : goal.returns-in-None

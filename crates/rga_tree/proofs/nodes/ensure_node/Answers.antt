@@ -1,4 +1,4 @@
-use Rattle.std.proofs.Common.{◌≡◌, ℕ, sym, ap, ◌∙◌, subst}
+use Rattle.std.proofs.Common.{◌≡◌, false, refl, sym, ap, ◌∙◌, subst}
 use Rattle.std.specs.Prelude.{None}
 use Rattle.indexmap.specs.IndexMap.{insert_entry, set_value_at}
 use Rattle.std.specs.Option.{option_map}
@@ -10,7 +10,7 @@ use Rattle.rga_tree.proofs.nodes.ensure_node.Goals as goal
 
 -- ---- a node is made
 
-put : (c : goal.In-Ok-default-None) → IsPut c.args.nodes.now.entries c.insert_full.new.self.entries c.args.id None c.new.result
+put : (c : goal.In-Ok-default-None) → IsPut c.args.nodes.now.entries c.insert_full.new.self.entries c.args.id None (record { element = None; deleted = false; children = c.new.result })
 put c = record {
   found = sym c.in-Ok-default-None.ensures.old ∙ c.in-Ok-default-None.field-0-1-is;
   now = c.in-Ok-default-None.ensures.updates.0;
@@ -18,38 +18,31 @@ put c = record {
 
 pub returns-in-Ok-default-None-clause-index : goal.returns-in-Ok-default-None-clause-index
 returns-in-Ok-default-None-clause-index c =
-    subst (λ (ns : Nodes). StandsAt ns c.in-Ok-default-None.index c.args.id) (sym c.in-Ok-default-None.ensures.entries)
-    (subst (λ i. StandsAt (insert_entry is_id c.args.nodes.now.entries c.args.id c.new.result) i c.args.id) (sym c.in-Ok-default-None.ensures.index)
-    (place_made c.args.nodes.now.entries c.args.id c.new.result))
+    rw (c.in-Ok-default-None.ensures.entries, c.in-Ok-default-None.ensures.index) (place_made _ _ _)
 
 pub returns-in-Ok-default-None-clause-others : goal.returns-in-Ok-default-None-clause-others
-returns-in-Ok-default-None-clause-others c = λ i q h.
-    subst (λ (ns : Nodes). StandsAt ns i q) (sym c.in-Ok-default-None.ensures.entries) (places_made c.args.nodes.now.entries c.args.id c.new.result i q h)
+returns-in-Ok-default-None-clause-others c = λ i q h. rw c.in-Ok-default-None.ensures.entries (places_made _ _ _ i q h)
 
 pub returns-in-Ok-default-None-clause-content : goal.returns-in-Ok-default-None-clause-content
-returns-in-Ok-default-None-clause-content c =
-    content_kept c.args.nodes.now.entries c.insert_full.new.self.entries c.args.id None c.new.result c.requires c.in-Ok-default-None.ensures.unique (put c)
-    (ap (option_map (λ (x : Identifier × ℕ). element x.0 x.1)) c.new.ensures.element) c.new.ensures.unmarked
+returns-in-Ok-default-None-clause-content c = content_kept _ _ _ _ _ c.requires c.in-Ok-default-None.ensures.unique (put c) refl refl
 
 pub returns-in-Ok-default-None-clause-children : goal.returns-in-Ok-default-None-clause-children
-returns-in-Ok-default-None-clause-children c =
-    children_kept c.args.nodes.now.entries c.insert_full.new.self.entries c.args.id None c.new.result c.requires c.in-Ok-default-None.ensures.unique (put c) c.new.ensures.childless
+returns-in-Ok-default-None-clause-children c = children_kept _ _ _ _ _ c.requires c.in-Ok-default-None.ensures.unique (put c) c.new.ensures
 
 -- ---- a node was there, and is put back
 
 same : (c : goal.Joined-index_mut-node) → set_value_at c.insert_full.new.self.entries c.in-Ok-default-Some.index c.in-Ok-default-Some.node ≡ c.args.nodes.now.entries
 same c =
     (λ k. set_value_at (c.in-Ok-default-Some.ensures.entries k) (c.in-Ok-default-Some.ensures.index k) c.in-Ok-default-Some.node)
-    ∙ put_back c.args.nodes.now.entries c.args.id c.in-Ok-default-Some.node c.new.result (sym c.in-Ok-default-Some.ensures.old ∙ c.in-Ok-default-Some.field-0-1-is)
+    ∙ put_back c.args.nodes.now.entries c.args.id c.in-Ok-default-Some.node _ (sym c.in-Ok-default-Some.ensures.old ∙ c.in-Ok-default-Some.field-0-1-is)
 
 pub returns-in-Ok-default-Some-clause-index : goal.returns-in-Ok-default-Some-clause-index
 returns-in-Ok-default-Some-clause-index c =
-    subst (λ (ns : Nodes). StandsAt ns c.in-Ok-default-Some.index c.args.id) (sym (same c))
-    (subst (λ i. StandsAt c.args.nodes.now.entries i c.args.id) (sym c.in-Ok-default-Some.ensures.index)
-    (place_found c.args.nodes.now.entries c.args.id c.in-Ok-default-Some.node (sym c.in-Ok-default-Some.ensures.old ∙ c.in-Ok-default-Some.field-0-1-is)))
+    rw (same c, c.in-Ok-default-Some.ensures.index)
+    (place_found c.args.nodes.now.entries c.args.id c.in-Ok-default-Some.node (sym c.in-Ok-default-Some.ensures.old ∙ c.in-Ok-default-Some.field-0-1-is))
 
 pub returns-in-Ok-default-Some-clause-others : goal.returns-in-Ok-default-Some-clause-others
-returns-in-Ok-default-Some-clause-others c = λ i q h. subst (λ (ns : Nodes). StandsAt ns i q) (sym (same c)) h
+returns-in-Ok-default-Some-clause-others c = λ i q h. rw (same c) h
 
 pub returns-in-Ok-default-Some-clause-content : goal.returns-in-Ok-default-Some-clause-content
 returns-in-Ok-default-Some-clause-content c = ap content_of_nodes (same c)

@@ -24,12 +24,10 @@ returns-clause-inserted c =
     ∙ sym (ap is_some (inserted_at c.args.nodes.now.entries c.requires.apart c.args.id ∙ ap element_of (put c).found))
 
 pub returns-clause-content : goal.returns-clause-content
-returns-clause-content c =
-    content_deleted c.args.nodes.now.entries (after c) c.args.id (Some c.index_mut-node.result.now) (written c) c.requires.apart (apart c) (put c) refl refl
+returns-clause-content c = content_deleted _ _ _ _ _ c.requires.apart (apart c) (put c) refl refl
 
 pub returns-clause-children : goal.returns-clause-children
-returns-clause-children c =
-    children_kept c.args.nodes.now.entries (after c) c.args.id (Some c.index_mut-node.result.now) (written c) c.requires.apart (apart c) (put c) refl
+returns-clause-children c = children_kept _ _ _ _ _ c.requires.apart (apart c) (put c) refl
 
 pub returns-clause-apart : goal.returns-clause-apart
 returns-clause-apart c = apart c

@@ -12,7 +12,7 @@ use Rattle.rga_tree.proofs.NodeLaws.{IsPut, content_kept, children_put, children
 use Rattle.rga_tree.proofs.nodes.remove_child.Goals as goal
 
 pub remove-requires : goal.remove-requires
-remove-requires c = subst (λ ks. IsRising ks) (ap children_at (sym c.get_mut.ensures.value ∙ ap option_copied_mut c.in-Some.is)) (c.requires c.args.parent)
+remove-requires c = rw (← ap children_at (sym c.get_mut.ensures.value ∙ ap option_copied_mut c.in-Some.is)) (c.requires c.args.parent)
 
 found : (c : goal.After-nodes-in-Some-1) → lookup (is_id c.args.parent) c.args.nodes.now.entries ≡ Some c.in-Some.node.now
 found c = sym c.get_mut.ensures.value ∙ ap option_copied_mut c.in-Some.is
@@ -43,5 +43,4 @@ returns-in-Some-clause-rising c =
     rising_now (children_of c.args.nodes.now.entries) (children_of (after c)) c.args.parent (subst (λ ks. IsRising ks) (sym (here c)) c.remove.ensures.rising) (there c) c.requires
 
 pub returns-in-Some-clause-content : goal.returns-in-Some-clause-content
-returns-in-Some-clause-content c =
-    content_kept c.args.nodes.now.entries (after c) c.args.parent (Some c.in-Some.node.now) (written c) c.get_mut.ensures.unique (c.get_mut.follows.holds (written c)).4 (put c) refl refl
+returns-in-Some-clause-content c = content_kept _ _ _ _ _ c.get_mut.ensures.unique (c.get_mut.follows.holds (written c)).4 (put c) refl refl

@@ -23,12 +23,10 @@ returns-clause-deleted c =
     sym (deleted_at c.args.nodes.now.entries c.requires.apart c.args.id ∙ ap mark_of (put c).found)
 
 pub returns-clause-content : goal.returns-clause-content
-returns-clause-content c =
-    content_inserted c.args.nodes.now.entries (after c) c.args.id (Some c.index_mut-node.result.now) (written c) c.requires.apart (apart c) (put c) c.args.parent c.args.ch refl refl c.requires.absent
+returns-clause-content c = content_inserted _ _ _ _ _ c.requires.apart (apart c) (put c) _ _ refl refl c.requires.absent
 
 pub returns-clause-children : goal.returns-clause-children
-returns-clause-children c =
-    children_kept c.args.nodes.now.entries (after c) c.args.id (Some c.index_mut-node.result.now) (written c) c.requires.apart (apart c) (put c) refl
+returns-clause-children c = children_kept _ _ _ _ _ c.requires.apart (apart c) (put c) refl
 
 pub returns-clause-apart : goal.returns-clause-apart
 returns-clause-apart c = apart c

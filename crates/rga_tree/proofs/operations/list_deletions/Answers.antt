@@ -13,7 +13,7 @@ use Rattle.rga_tree.proofs.operations.list_deletions.Goals as goal
 pub returns-clause-ok : goal.returns-clause-ok
 returns-clause-ok c =
     let ns : Nodes = c.args.nodes.now.entries in
-    let gathered : c.push_marked.new.ids.items ≡ marked_ids ns = c.in_ok-push_marked.ensures.ok ∙ ap (λ xs. xs ++ marked_ids ns) c.new-ids.ensures.items in
+    let gathered : c.push_ids.new.ids.items ≡ marked_ids ns = c.in_ok-push_ids.ensures.ok ∙ ap (λ xs. xs ++ marked_ids ns) c.new-ids.ensures.items in
     let sorted : c.sort_unstable.new.self.items ≡ rising (finite_set.items (content_of_nodes ns).deleted) =
     sorted_rising (finite_set.items (content_of_nodes ns).deleted) (marked_ids ns) c.sort_unstable.new.self.items
     (subst (λ xs. IsPermutation xs c.sort_unstable.new.self.items) gathered c.sort_unstable.ensures.permutation)

@@ -14,7 +14,7 @@ pub returns-clause-ok : goal.returns-clause-ok
 returns-clause-ok c =
     let ns : Nodes = c.args.nodes.now.entries in
     let held : Content = content_of_nodes ns in
-    let gathered : c.push_inserted.new.ids.items ≡ inserted_ids ns = c.in_ok-push_inserted.ensures.ok ∙ ap (λ xs. xs ++ inserted_ids ns) c.new-ids.ensures.items in
+    let gathered : c.push_ids.new.ids.items ≡ inserted_ids ns = c.in_ok-push_ids.ensures.ok ∙ ap (λ xs. xs ++ inserted_ids ns) c.new-ids.ensures.items in
     let sorted : c.sort_unstable.new.self.items ≡ finite_map.keys held.inserted =
     sorted_keys held.inserted (inserted_ids ns) c.sort_unstable.new.self.items
     (subst (λ xs. IsPermutation xs c.sort_unstable.new.self.items) gathered c.sort_unstable.ensures.permutation)

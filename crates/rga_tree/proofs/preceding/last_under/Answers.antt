@@ -7,16 +7,10 @@ pub loop-child-init : goal.loop-child-init
 loop-child-init c = descent_start (content_of_nodes c.args.nodes.now.entries) c.args.id c.requires.complete
 
 pub loop-child-smaller : goal.loop-child-smaller
-loop-child-smaller c =
-    descent_smaller (content_of_nodes c.args.nodes.now.entries) (children_of c.args.nodes.now.entries) c.requires.family c.requires.sound c.loop-child.last c.in-Some.child
-    (sym c.oldest_child.ensures ∙ c.in-Some.is)
+loop-child-smaller c = descent_smaller _ _ c.requires.family c.requires.sound _ _ (sym c.oldest_child.ensures ∙ c.in-Some.is)
 
 pub loop-child-preserved : goal.loop-child-preserved
-loop-child-preserved c =
-    descent_step (content_of_nodes c.args.nodes.now.entries) (children_of c.args.nodes.now.entries) c.requires.family c.requires.sound c.args.id c.loop-child.last c.loop-child.invariant c.in-Some.child
-    (sym c.oldest_child.ensures ∙ c.in-Some.is)
+loop-child-preserved c = descent_step _ _ c.requires.family c.requires.sound _ _ c.loop-child.invariant _ (sym c.oldest_child.ensures ∙ c.in-Some.is)
 
 pub returns : goal.returns
-returns c =
-    descent_end (content_of_nodes c.args.nodes.now.entries) (children_of c.args.nodes.now.entries) c.requires.family c.requires.sound c.args.id c.loop-child.last c.loop-child.invariant
-    (sym c.oldest_child.ensures ∙ c.in_default.is)
+returns c = descent_end _ _ c.requires.family c.requires.sound _ _ c.loop-child.invariant (sym c.oldest_child.ensures ∙ c.in_default.is)

@@ -17,9 +17,7 @@ returns-in_err-index-clause-growth c = λ _.
 
 pub invariant_of-self-2 : goal.invariant_of-self-2
 invariant_of-self-2 c =
-    tree_deletion c.self.inside.nodes.entries c.mark-inserted.new.nodes.entries c.self.inside.clock c.self.inside.inserted c.self.inside.known c.self.inside.limit c.self.invariant
-    c.mark-inserted.ensures.apart c.args.id c.raise.new.clock c.count_unless.new.count
-    (subst (λ (v : Kept). answer v.limit v.content (Delete c.args.id) ≡ Ok New) (sym c.self.view_is) c.requires)
+    tree_deletion _ _ _ _ _ _ c.self.invariant c.mark-inserted.ensures.apart c.args.id _ _ (subst (λ (v : Kept). answer v.limit v.content (Delete c.args.id) ≡ Ok New) (sym c.self.view_is) c.requires)
     (c.mark-inserted.ensures.content ∙ ap (λ d. join d (single (Delete c.args.id))) c.in_ok-index.ensures.content)
     (λ p. c.mark-inserted.ensures.children p ∙ c.in_ok-index.ensures.children p)
     (c.raise.ensures ∙ ap (max c.self.inside.clock) c.counter.ensures.value)

@@ -4,20 +4,16 @@ use Rattle.rga_store.proofs.BackLaws.{last_step, without_noted-push}
 use Rattle.rga_tree.proofs.tree_store.TreeStore.go_back.Goals as goal
 
 pub remove-requires-clause-held : goal.remove-requires-clause-held
-remove-requires-clause-held c =
-    (last_step c.pop.new.self.items c.in-Some.step c.loop-step.self.content (subst (λ ss. CanTakeBack ss c.loop-step.self.content) c.in-Some.ensures.items c.loop-step.invariant.left)).held
+remove-requires-clause-held c = (last_step c.pop.new.self.items c.in-Some.step c.loop-step.self.content (rw (← c.in-Some.ensures.items) c.loop-step.invariant.left)).held
 
 pub remove-requires-clause-clock : goal.remove-requires-clause-clock
-remove-requires-clause-clock c =
-    (last_step c.pop.new.self.items c.in-Some.step c.loop-step.self.content (subst (λ ss. CanTakeBack ss c.loop-step.self.content) c.in-Some.ensures.items c.loop-step.invariant.left)).clocked
+remove-requires-clause-clock c = (last_step c.pop.new.self.items c.in-Some.step c.loop-step.self.content (rw (← c.in-Some.ensures.items) c.loop-step.invariant.left)).clocked
 
 pub loop-step-preserved : goal.loop-step-preserved
 loop-step-preserved c =
-    let was_last : IsLastNoted c.pop.new.self.items c.in-Some.step.op.now c.in-Some.step.clock c.loop-step.self.content =
-    last_step c.pop.new.self.items c.in-Some.step c.loop-step.self.content (subst (λ ss. CanTakeBack ss c.loop-step.self.content) c.in-Some.ensures.items c.loop-step.invariant.left) in
     record {
       limit = c.remove.ensures.limit ∙ c.loop-step.invariant.limit;
-      left = subst (λ d. CanTakeBack c.pop.new.self.items d) (sym c.remove.ensures.content) was_last.rest;
+      left = rw c.remove.ensures.content (last_step c.pop.new.self.items c.in-Some.step c.loop-step.self.content (rw (← c.in-Some.ensures.items) c.loop-step.invariant.left)).rest;
       start = ap (without_noted c.pop.new.self.items) c.remove.ensures.content
           ∙ sym (without_noted-push c.pop.new.self.items c.in-Some.step c.loop-step.self.content)
           ∙ ap (λ ss. without_noted ss c.loop-step.self.content) (sym c.in-Some.ensures.items) ∙ c.loop-step.invariant.start;

@@ -18,9 +18,7 @@ use Rattle.rga_tree.proofs.TreeLaws.{tree_same, tree_insertion}
 use Rattle.rga_tree.proofs.tree_store.TreeStore.insert.Goals as goal
 
 pub overflow_add-self : goal.overflow_add-self
-overflow_add-self c =
-    let few : c.self.inside.inserted ≤ 1000000 = few_inserted (content_of_nodes c.self.inside.nodes.entries) c.self.inside.clock c.self.inside.inserted c.self.inside.known c.self.inside.limit c.self.invariant.counted in
-    omega arith
+overflow_add-self c = let few = few_inserted _ _ _ _ _ c.self.invariant.counted in omega arith
 
 -- until the element comes the content is as it was
 before : (c : goal.After-raise) → content_of_nodes c.add_child.new.nodes.entries ≡ content_of_nodes c.self.inside.nodes.entries
@@ -48,18 +46,15 @@ answered c =
 
 pub invariant_of-self-2 : goal.invariant_of-self-2
 invariant_of-self-2 c =
-    tree_insertion c.self.inside.nodes.entries c.set_element-deleted.new.nodes.entries c.self.inside.clock c.self.inside.inserted c.self.inside.known c.self.inside.limit c.self.invariant
-    c.set_element-deleted.ensures.apart c.args.id c.args.parent c.args.ch c.raise.new.clock c.count_unless.new.count
-    (answered c)
+    tree_insertion _ _ _ _ _ _ c.self.invariant c.set_element-deleted.ensures.apart c.args.id c.args.parent c.args.ch _ _ (answered c)
     (c.set_element-deleted.ensures.content ∙ ap (λ d. join d (single (Insert c.args.id c.args.parent c.args.ch))) (before c))
     (children c)
-    (λ p. subst (λ ks. IsRising ks) (sym (c.set_element-deleted.ensures.children p)) (c.in_ok-add_child.ensures.rising p))
+    (λ p. rw (c.set_element-deleted.ensures.children p) (c.in_ok-add_child.ensures.rising p))
     (c.raise.ensures ∙ ap (max c.self.inside.clock) c.counter.ensures.value)
     (c.count_unless.ensures ∙ ap (λ b. cond b c.self.inside.known (c.self.inside.known + 1)) (c.set_element-deleted.ensures.deleted ∙ ap (λ (d : Content). finite_set.contains d.deleted c.args.id) (before c)))
 
 pub add_child-requires-clause-rising : goal.add_child-requires-clause-rising
-add_child-requires-clause-rising c = λ p.
-    subst (λ ks. IsRising ks) (sym (c.in_ok-index.ensures.children p ∙ c.in_ok-above.ensures.children p)) (c.self.invariant.family.rising p)
+add_child-requires-clause-rising c = λ p. rw (c.in_ok-index.ensures.children p, c.in_ok-above.ensures.children p) (c.self.invariant.family.rising p)
 
 pub set_element-deleted-requires-clause-index : goal.set_element-deleted-requires-clause-index
 set_element-deleted-requires-clause-index c = c.add_child.ensures.others c.in_ok-index.index c.args.id c.in_ok-index.ensures.index
@@ -68,12 +63,11 @@ set_element-deleted-requires-clause-index c = c.add_child.ensures.others c.in_ok
 
 pub invariant_of-self-then-ne : goal.invariant_of-self-then-ne
 invariant_of-self-then-ne c =
-    tree_same c.self.inside.nodes.entries _ c.self.inside.clock c.self.inside.inserted c.self.inside.known c.self.inside.limit c.self.invariant c.in_ok-index.ensures.apart
-    (c.in_ok-index.ensures.content ∙ c.in_ok-above.ensures.content) (λ p. c.in_ok-index.ensures.children p ∙ c.in_ok-above.ensures.children p)
+    tree_same _ _ _ _ _ _ c.self.invariant c.in_ok-index.ensures.apart (c.in_ok-index.ensures.content ∙ c.in_ok-above.ensures.content) (λ p. c.in_ok-index.ensures.children p ∙ c.in_ok-above.ensures.children p)
 
 pub invariant_of-self-in_err-add_child : goal.invariant_of-self-in_err-add_child
 invariant_of-self-in_err-add_child c =
-    tree_same c.self.inside.nodes.entries _ c.self.inside.clock c.self.inside.inserted c.self.inside.known c.self.inside.limit c.self.invariant c.add_child.ensures.apart
+    tree_same _ _ _ _ _ _ c.self.invariant c.add_child.ensures.apart
     (c.add_child.ensures.content ∙ c.in_ok-index.ensures.content ∙ c.in_ok-above.ensures.content) (λ p. c.in_err-add_child.ensures.same p ∙ c.in_ok-index.ensures.children p ∙ c.in_ok-above.ensures.children p)
 
 pub returns-then-ne-clause-same : goal.returns-then-ne-clause-same

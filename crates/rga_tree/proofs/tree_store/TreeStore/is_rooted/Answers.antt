@@ -11,9 +11,7 @@ use Rattle.rga_store.proofs.CountedLaws.{few_inserted}
 use Rattle.rga_tree.proofs.tree_store.TreeStore.is_rooted.Goals as goal
 
 pub overflow_add-self-inside : goal.overflow_add-self-inside
-overflow_add-self-inside c =
-    let few : c.self.inside.inserted ≤ 1000000 = few_inserted (content_of_nodes c.self.inside.nodes.entries) c.self.inside.clock c.self.inside.inserted c.self.inside.known c.self.inside.limit c.self.invariant.counted in
-    omega arith
+overflow_add-self-inside c = let few = few_inserted _ _ _ _ _ c.self.invariant.counted in omega arith
 
 pub returns : goal.returns
 returns c = λ h.

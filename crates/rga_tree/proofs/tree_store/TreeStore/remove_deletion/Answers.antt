@@ -12,16 +12,11 @@ pub clear_mark-inserted-requires : goal.clear_mark-inserted-requires
 clear_mark-inserted-requires c = ap (λ (v : Kept). finite_set.contains v.content.deleted c.args.id) c.self.view_is ∙ c.requires.deleted
 
 pub uncount_unless-requires : goal.uncount_unless-requires
-uncount_unless-requires c =
-    subst (λ b. cond b 0 1 ≤ c.self.inside.known) (sym c.clear_mark-inserted.ensures.inserted)
-    (one_deletion_known (content_of_nodes c.self.inside.nodes.entries) c.self.inside.clock c.self.inside.inserted c.self.inside.known c.self.inside.limit c.self.invariant.counted c.args.id
-    (ap (λ (v : Kept). finite_set.contains v.content.deleted c.args.id) c.self.view_is ∙ c.requires.deleted))
+uncount_unless-requires c = rw c.clear_mark-inserted.ensures.inserted (one_deletion_known _ _ _ _ _ c.self.invariant.counted c.args.id (ap (λ (v : Kept). finite_set.contains v.content.deleted c.args.id) c.self.view_is ∙ c.requires.deleted))
 
 pub invariant_of-self : goal.invariant_of-self
 invariant_of-self c =
-    tree_without_deletion c.self.inside.nodes.entries c.clear_mark-inserted.new.nodes.entries c.self.inside.clock c.self.inside.inserted c.self.inside.known c.self.inside.limit c.self.invariant
-    c.clear_mark-inserted.ensures.apart c.args.id c.args.clock c.uncount_unless.new.count
-    (ap (λ (v : Kept). finite_set.contains v.content.deleted c.args.id) c.self.view_is ∙ c.requires.deleted)
+    tree_without_deletion _ _ _ _ _ _ c.self.invariant c.clear_mark-inserted.ensures.apart c.args.id _ _ (ap (λ (v : Kept). finite_set.contains v.content.deleted c.args.id) c.self.view_is ∙ c.requires.deleted)
     c.clear_mark-inserted.ensures.content c.clear_mark-inserted.ensures.children
     (c.requires.clock ∙ ap (λ (v : Kept). clock_of (without_deletion c.args.id v.content)) (sym c.self.view_is))
     (c.uncount_unless.ensures ∙ ap (λ b. cond b c.self.inside.known (c.self.inside.known - 1)) c.clear_mark-inserted.ensures.inserted)

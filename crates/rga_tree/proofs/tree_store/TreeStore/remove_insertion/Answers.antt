@@ -17,24 +17,17 @@ clear_element-deleted-requires c =
 
 pub overflow_sub-self : goal.overflow_sub-self
 overflow_sub-self c =
-    let held : Content = content_of_nodes c.self.inside.nodes.entries in
-    let its : is_child held c.args.parent c.args.id ≡ true = ap (λ (v : Kept). is_child v.content c.args.parent c.args.id) c.self.view_is ∙ c.requires.child in
-    let found : IsChild held c.args.parent c.args.id = child_found held c.args.parent c.args.id its in
-    one_inserted held c.self.inside.clock c.self.inside.inserted c.self.inside.known c.self.inside.limit c.self.invariant.counted c.args.id found.element found.found
+    let found = child_found (content_of_nodes c.self.inside.nodes.entries) c.args.parent c.args.id (ap (λ (v : Kept). is_child v.content c.args.parent c.args.id) c.self.view_is ∙ c.requires.child) in
+    one_inserted _ _ _ _ _ c.self.invariant.counted c.args.id found.element found.found
 
 pub uncount_unless-requires : goal.uncount_unless-requires
 uncount_unless-requires c =
-    let held : Content = content_of_nodes c.self.inside.nodes.entries in
-    let its : is_child held c.args.parent c.args.id ≡ true = ap (λ (v : Kept). is_child v.content c.args.parent c.args.id) c.self.view_is ∙ c.requires.child in
-    let found : IsChild held c.args.parent c.args.id = child_found held c.args.parent c.args.id its in
-    subst (λ b. cond b 0 1 ≤ c.self.inside.known) (sym c.clear_element-deleted.ensures.deleted)
-    (one_insertion_known held c.self.inside.clock c.self.inside.inserted c.self.inside.known c.self.inside.limit c.self.invariant.counted c.args.id found.element found.found)
+    let found = child_found (content_of_nodes c.self.inside.nodes.entries) c.args.parent c.args.id (ap (λ (v : Kept). is_child v.content c.args.parent c.args.id) c.self.view_is ∙ c.requires.child) in
+    rw c.clear_element-deleted.ensures.deleted (one_insertion_known _ _ _ _ _ c.self.invariant.counted c.args.id found.element found.found)
 
 pub invariant_of-self : goal.invariant_of-self
 invariant_of-self c =
-    let held : Content = content_of_nodes c.self.inside.nodes.entries in
-    tree_without_insertion c.self.inside.nodes.entries c.remove_child.new.nodes.entries c.self.inside.clock c.self.inside.inserted c.self.inside.known c.self.inside.limit c.self.invariant
-    c.remove_child.ensures.apart c.args.id c.args.parent c.args.clock c.uncount_unless.new.count
+    tree_without_insertion _ _ _ _ _ _ c.self.invariant c.remove_child.ensures.apart c.args.id c.args.parent _ _
     (ap (λ (v : Kept). is_child v.content c.args.parent c.args.id) c.self.view_is ∙ c.requires.child)
     (c.remove_child.ensures.content ∙ c.clear_element-deleted.ensures.content)
     (λ p k. c.remove_child.ensures.removed p k ∙ ap (λ ks. has_child ks k && not (is_id c.args.parent p && is_id c.args.id k)) (c.clear_element-deleted.ensures.children p))

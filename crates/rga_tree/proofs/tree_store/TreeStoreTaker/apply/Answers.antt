@@ -10,8 +10,8 @@ use Rattle.rga_tree.proofs.tree_store.TreeStoreTaker.apply.Goals as goal
 
 pub returns-then-ne-clause-took : goal.returns-then-ne-clause-took
 returns-then-ne-clause-took c =
-    one_taken c.args.self.now.limit c.args.self.now.content c.args.self.now.content c.args.op c.answer-answer.result
-    (λ _. c.answer-answer.ensures) (search rules) (λ _. refl)
+    one_taken c.args.self.now.limit c.args.self.now.content c.args.self.now.content c.args.op c.answer_to-answer.result
+    (λ _. search rules) (search rules) (λ _. refl)
 
 pub returns-in-Insert-clause-took : goal.returns-in-Insert-clause-took
 returns-in-Insert-clause-took c =

@@ -11,6 +11,5 @@ use Rattle.rga_tree.proofs.tree_store.TreeStoreTeller.tell_deletions.Goals as go
 pub returns-clause-ok : goal.returns-clause-ok
 returns-clause-ok g c =
     let held : Content = content_of_nodes c.self.inside.nodes.entries in
-    subst (λ ops. OnOk c.tell_each.result (g.L.Listener.hears c.args.listener.now ops c.tell_each.new.listener))
-    (c.deref.ensures.value ∙ c.in_ok-list_deletions.ensures.ok ∙ ap (λ xs. xs ++ map Delete (rising (finite_set.items held.deleted))) c.new-told.ensures.items ∙ ap (λ (v : Kept). deletions v.content) c.self.view_is)
+    rw (← (c.deref.ensures.value ∙ c.in_ok-list_deletions.ensures.ok ∙ ap (λ xs. xs ++ map Delete (rising (finite_set.items held.deleted))) c.new-told.ensures.items ∙ ap (λ (v : Kept). deletions v.content) c.self.view_is))
     c.tell_each.ensures.ok

@@ -12,6 +12,5 @@ use Rattle.rga_tree.proofs.tree_store.TreeStoreTeller.tell_insertions.Goals as g
 pub returns-clause-ok : goal.returns-clause-ok
 returns-clause-ok g c =
     let held : Content = content_of_nodes c.self.inside.nodes.entries in
-    subst (λ ops. OnOk c.tell_each.result (g.L.Listener.hears c.args.listener.now ops c.tell_each.new.listener))
-    (c.deref.ensures.value ∙ c.in_ok-list_insertions.ensures.ok ∙ ap (λ xs. xs ++ filter_map (insertion_at held) (finite_map.keys held.inserted)) c.new-told.ensures.items ∙ insertions_by_keys held ∙ ap (λ (v : Kept). insertions v.content) c.self.view_is)
+    rw (← (c.deref.ensures.value ∙ c.in_ok-list_insertions.ensures.ok ∙ ap (λ xs. xs ++ filter_map (insertion_at held) (finite_map.keys held.inserted)) c.new-told.ensures.items ∙ insertions_by_keys held ∙ ap (λ (v : Kept). insertions v.content) c.self.view_is))
     c.tell_each.ensures.ok

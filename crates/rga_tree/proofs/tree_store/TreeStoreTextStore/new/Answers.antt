@@ -6,5 +6,5 @@ use Rattle.rga_tree.proofs.tree_store.TreeStoreTextStore.new.Goals as goal
 
 pub invariant_of-result : goal.invariant_of-result
 invariant_of-result c =
-    subst (λ ns. IsTree ns 0 0 0 c.args.limit) (sym c.new.ensures.empty)
+    rw c.new.ensures.empty
     (empty_tree c.args.limit (and_from (nat_le 1 c.args.limit) (nat_le c.args.limit 1000000) (le-leb 1 c.args.limit (omega arith)) (le-leb c.args.limit 1000000 (omega arith))))
