@@ -1,23 +1,21 @@
 -- No proper beginning of the line of an operation, or of a run, is one of either: the bracket that closes its object is
 -- still missing.
 use Rattle.rga_lines.proofs.Prelude.{◌≡◌, ℕ, ◌<◌, ◌^◌, zero, suc, Bool, true, false, cond, ◌==◌, ◌-◌, take, nat_lt, if◌then◌else◌, List, [], ◌∷◌, ◌++◌, length, codes, decimal, Option, Some, None, option_map, option_and_then, Err, refl, sym, ap, ◌∙◌}
-use Rattle.rga_lines.proofs.Prelude.{subst, arith, append_assoc, length-append, drop, get_or, ⊤, is_utf8, flat_map, IsNumber-decimal, Data, read, of_json, of_items, max_depth, as_object, Identifier, Op, Insert, Delete, LineFault, Stretch, escaped}
+use Rattle.rga_lines.proofs.Prelude.{subst, arith, append_assoc, length-append, drop, get_or, ⊤, is_utf8, flat_map, IsNumber-decimal, Data, read, of_json, max_depth, as_object, Identifier, Op, Insert, Delete, LineFault, Stretch, escaped}
 use Rattle.rga_lines.proofs.Prelude.{pair_text, run_from, IsWritable, IsWritableRun, MAX_LINE, text_line}
-use Rattle.json.specs.Token.{Token, begin_object, end_object, begin_array, end_array, key, string, number, boolean, null, bad}
+use Rattle.json.specs.Token.{Token, end_object, key, number, boolean, null, bad}
 use Rattle.json.specs.Word.{word, head, ends_word, literal, number_before, after_number}
-use Rattle.json.specs.Text.{content, plain}
+use Rattle.json.specs.Text.{content}
 use Rattle.json.specs.Lex.{Lexeme, token, comma, colon, string_token, Class, class, Mode, lex, lex_byte, between, in_string, Place, begins_colon, if_allowed, place_token, punctuate, tokens}
 use Rattle.json.specs.Json.{Json, Items, Members, Parse, parse_map, after_end_array, items_step, items, members, value_with, value, if_last}
 use Rattle.json.proofs.Printed.Numbers.{lex-number}
 use Rattle.json.proofs.Printed.Strings.{lex-escape}
-use Rattle.serde_json.specs.Read.{number_of}
 use Rattle.rga_lines.specs.Spelling.{line, run_line}
 use Rattle.rga_lines.specs.Table.{value_line, any_line_at}
 use Rattle.rga_lines.proofs.SpellingLemmas.{escape-encode}
 use Rattle.rga_lines.proofs.ReadBack.{InBounds, within, in_bounds}
 use Rattle.rga_lines.proofs.RunBack.{escape-encodes}
 use Rattle.json.specs.Ascii as ascii
-use Rattle.serde_json.specs.Data as datum
 use Rattle.rga_lines.specs.declared.fault.LineFault.TheVariants as fault
 
 -- ---- lexemes and tokens, none of which closes an object
@@ -66,13 +64,7 @@ word_stays t = choose (head t == ascii.lower_t) (head t == ascii.lower_f) (head 
 -- ---- a beginning of bytes that close nothing closes nothing
 
 byte_stays : (m : Mode) (c : Class) (x : ℕ) (xs ys : List ℕ) (j k : Mode → List Lexeme) → ((n : Mode) → OpenLexemes (j n) → OpenLexemes (k n)) → OpenLexemes (lex_byte m c x xs j) → OpenLexemes (lex_byte m c x ys k)
-byte_stays Mode.between Class.quote x xs ys j k on h = (string_stays (content plain ys), on _ h.1)
-byte_stays Mode.between Class.backslash x xs ys j k on h = (tt, on _ h.1)
-byte_stays Mode.between Class.operator x xs ys j k on h = (h.0, on _ h.1)
-byte_stays Mode.between Class.other x xs ys j k on h = (word_stays (x ∷ ys), on _ h.1)
-byte_stays Mode.in_word Class.operator x xs ys j k on h = (h.0, on _ h.1)
-byte_stays Mode.in_string Class.operator x xs ys j k on h = on _ h
-byte_stays m c x xs ys j k on h = on _ h
+byte_stays m c x xs ys j k h h2 = grind (arith, string_stays, word_stays)
 
 front_open : (m : Mode) (front back : List ℕ) → OpenLexemes (lex m (front ++ back)) → OpenLexemes (lex m front)
 unfolding lex
@@ -86,12 +78,7 @@ allowed true t k next h on = (h, on next)
 allowed false t k next h on = (tt, tt)
 
 placed : (p : Place) (t : Token) (colon_next : Bool) (k : Place → List Token) → Stays t → ((q : Place) → Open (k q)) → Open (place_token p t colon_next k)
-placed p end_object c k h on = absurd h
-placed p (key s) c k h on = (tt, tt)
-placed p bad c k h on = (tt, tt)
-placed p (string s) true k h on = allowed _ _ k _ tt on
-placed p (string s) false k h on = allowed _ _ k _ tt on
-placed p t c k h on = allowed _ _ k _ tt on
+placed p t colon_next k h h2 = grind arith
 
 punctuated : (p : Place) (ls : List Lexeme) → OpenLexemes ls → Open (punctuate p ls)
 unfolding punctuate
@@ -125,11 +112,7 @@ leaves_map f None h = tt
 leaves_map f (Some p) h = h
 
 end_leaves : (ts : List Token) → Open ts → (rest : List Token) → after_end_array ts ≡ Some rest → Open rest
-end_leaves (end_array ∷ ts) h rest e = subst Open (some_is e) h.1
-  where
-    some_is : {a b : List Token} → Some a ≡ Some b → a ≡ b
-    some_is q = cc
-end_leaves ts h rest e = absurd cc
+end_leaves ts h rest h2 = grind arith
 
 module _ (value_of : Parse Json) (reads : ReadsOpen value_of) where
   and_items : (more : Parse Items) → ((ts : List Token) → Open ts → Leaves (more ts)) → (o : Option (Json × List Token)) → Reads o → Leaves (option_and_then (λ q. parse_map (Items.item q.0) (more q.1)) o)
@@ -164,13 +147,7 @@ object_reads None e = tt
 object_reads (Some p) e = absurd cc
 
 one_level : (a : Parse Items) (o : Parse Members) → ((ts : List Token) → Open ts → Leaves (a ts)) → ((ts : List Token) → Open ts → o ts ≡ None) → ReadsOpen (value_with a o)
-one_level a o p q (begin_object ∷ ts) h = object_reads (o ts) (q ts h.1)
-one_level a o p q (begin_array ∷ ts) h = array_reads (a ts) (p ts h.1)
-one_level a o p q (string s ∷ ts) h = (tt, h.1)
-one_level a o p q (number s ∷ ts) h = (tt, h.1)
-one_level a o p q (boolean b ∷ ts) h = (tt, h.1)
-one_level a o p q (null ∷ ts) h = (tt, h.1)
-one_level a o p q x h = tt
+one_level a o h h2 = grind arith
 
 value_reads : (depth : ℕ) → ReadsOpen (value depth)
 unfolding value
@@ -188,10 +165,7 @@ of_option f h None = tt
 of_option f h (Some a) = h a
 
 no_object : (j : Json) → NoObject j → IsNone (of_json j)
-no_object (Json.number s) h = of_option datum.number (λ n. refl) (number_of s)
-no_object (Json.array js) h = of_option datum.array (λ ds. refl) (of_items js)
-no_object (Json.object ms) h = absurd h
-no_object j h = refl
+no_object j h = grind arith
 
 if_last_none : (j : Json) (ts : List Token) → NoObject j → IsNone (option_and_then of_json (if_last j ts))
 if_last_none j [] h = no_object j h
@@ -225,12 +199,7 @@ open_number n h b more ended on = subst OpenLexemes (sym (lex-number (decimal n)
 
 open_pair : (s : Identifier) → InBounds s → (more : List ℕ) → OpenLexemes (lex between more) → OpenLexemes (lex between (pair_text s ++ more))
 unfolding lex
-open_pair s h more on =
-    let two : OpenLexemes (lex between (44 ∷ (decimal s.replica ++ 93 ∷ more))) = (tt, open_number s.replica (omega (arith, h.replica)) 93 more refl (tt, on)) in
-    let one : OpenLexemes (lex between (91 ∷ (decimal s.counter ++ 44 ∷ (decimal s.replica ++ 93 ∷ more)))) = (tt, open_number s.counter (omega (arith, h.counter)) 44 (decimal s.replica ++ 93 ∷ more) refl two) in
-    let parts : pair_text s ++ more ≡ 91 ∷ (decimal s.counter ++ 44 ∷ (decimal s.replica ++ 93 ∷ more)) =
-    ap (λ (l : List ℕ). 91 ∷ l) (append_assoc (decimal s.counter) (44 ∷ (decimal s.replica ++ 93 ∷ [])) more ∙ ap (λ (l : List ℕ). decimal s.counter ++ 44 ∷ l) (append_assoc (decimal s.replica) (93 ∷ []) more)) in
-    subst (λ (l : List ℕ). OpenLexemes (lex between l)) (sym parts) one
+open_pair s h more on = grind (arith, decimal, open_number, pair_text, append_assoc)
 
 open_char : (c : ℕ) (more : List ℕ) → OpenLexemes (lex between more) → OpenLexemes (lex in_string (escaped c ++ 34 ∷ more))
 open_char c more on = subst OpenLexemes (sym (ap (λ (l : List ℕ). lex in_string (l ++ 34 ∷ more)) (sym (escape-encode c)) ∙ lex-escape _ more)) on
@@ -242,9 +211,7 @@ before_last (Delete id) more = codes "{\"id\":" ++ (pair_text id ++ (codes ",\"o
 
 open_line : (op : Op) → IsWritable op → OpenLexemes (lex between (before_last op []))
 unfolding lex content
-open_line (Insert id parent ch) h =
-    (tt, (tt, (tt, (string_stays _, open_char ch _ (tt, (tt, (tt, open_pair id (within id h.0) _ (tt, (tt, (tt, (tt, (tt, (tt, (tt, open_pair parent (in_bounds parent h.1) [] tt))))))))))))))
-open_line (Delete id) h = (tt, (tt, (tt, open_pair id (within id h) _ (tt, (tt, (tt, (tt, tt)))))))
+open_line op h = grind (arith, string_stays, open_char, open_pair, within, in_bounds)
 
 closed : (op : Op) → line op ≡ before_last op (125 ∷ [])
 unfolding line
@@ -267,9 +234,7 @@ within_init (x ∷ xs) (y ∷ front) back a b e =
 
 -- a beginning of bytes that close nothing but by their last one, which it lacks
 cut_refused : (text before front back : List ℕ) (b : ℕ) → text ≡ before ++ 125 ∷ [] → OpenLexemes (lex between before) → text ≡ front ++ b ∷ back → IsRefused front
-cut_refused text before front back b closes opens e =
-    let inside = within_init before front back 125 b (sym closes ∙ e) in
-    open_refused front (front_open between front inside.0 (subst (λ (l : List ℕ). OpenLexemes (lex between l)) inside.1 opens))
+cut_refused text before front back b closes opens e = grind (arith, within_init, open_refused, front_open)
 
 -- no proper beginning of an operation's line is an operation, or the end of an exchange
 pub beginning_refused : (op : Op) (front : List ℕ) (b : ℕ) (back : List ℕ) → IsWritable op → line op ≡ front ++ b ∷ back → IsRefused front

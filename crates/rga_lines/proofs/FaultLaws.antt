@@ -1,13 +1,13 @@
 -- The fault of a line is that of the first demand that it does not meet.
 use Rattle.rga_lines.proofs.Prelude.{◌≡◌, ℕ, suc, ◌+◌, Bool, true, false, List, [], ◌∷◌, ◌++◌, length, Option, Some, None, nat_lt, nat_le, if◌then◌else◌, ◌&&◌, ◌||◌, refl, sym, ap, ◌∙◌, arith, codes, ◌==◌, not, Result, Ok, Err, IfSome, ok_or}
-use Rattle.rga_lines.proofs.Prelude.{is_some, option_map, option_and_then, unwrap_or, is_utf8, chars, bytes_eq, Data, array, object, members_len, read, get_member, as_str, as_array, Identifier, identifier, is_root, is_in_range, MAX_COUNTER, Insert}
-use Rattle.rga_lines.proofs.Prelude.{DeletionRun, LineFault, One, Run, Deletions, Head, Last, longest_run, deletion_run, stretch, Reading, AnyReading, two_numbers, element_of, parent_of, if_in_range, if_root_or_in_range, longest_line, Demand, demand}
+use Rattle.rga_lines.proofs.Prelude.{is_some, option_map, option_and_then, unwrap_or, chars, bytes_eq, Data, object, members_len, read, get_member, as_str, as_array, Identifier, identifier, is_root, is_in_range, MAX_COUNTER}
+use Rattle.rga_lines.proofs.Prelude.{DeletionRun, LineFault, Head, Reading, AnyReading, two_numbers, element_of, parent_of, if_in_range, if_root_or_in_range, longest_line, Demand, demand}
 use Rattle.rga_lines.proofs.Prelude.{first_fault, kinds, kind_among, kind_of, one_character, run_text, element, element_or_root, deletion_count, operation_count, version, number_in, has_type, is_identifier, length_in, is_run_length, has_length}
 use Rattle.rga_lines.proofs.Prelude.{counter_in, kind_demands, value_demands, read_demands, line_demands, is_operation, operation_demands}
 use Rattle.std.proofs.lemmas.Bool.Decides.{nat_tests}
 use Rattle.std.specs.Option.{option_or}
 use Rattle.std.specs.Result.{result_err}
-use Rattle.serde_json.specs.Data.{null, boolean, number, string, Items, Members}
+use Rattle.serde_json.specs.Data.{Items, Members}
 use Rattle.rga_lines.specs.Table.{number_of}
 use Rattle.rga_lines.proofs.SoundLemmas.{kind_by, reading_by, IsSound, sound_line}
 use Rattle.rga_lines.specs.declared.fault.LineFault.TheVariants as fault
@@ -64,17 +64,11 @@ parent_counter (Some p) = counter_is (is_root (identifier p.0 p.1) || is_in_rang
 -- ---- an insertion
 
 order : (id parent : Identifier) (ch : ℕ) → result_err (table.with_order id parent ch) ≡ first_fault (demand (nat_lt parent.counter id.counter) fault.Order ∷ [])
-order id parent ch =
-    unless (nat_le id.counter parent.counter) (nat_lt parent.counter id.counter) fault.Order (Ok (Insert id parent ch)) []
-    (above parent.counter id.counter) refl
+order id parent ch = grind arith
 
 insertion_characters : (id parent : Identifier) (cs : List ℕ) → result_err (table.with_char id parent (table.only_char cs))
     ≡ first_fault (demand (all_three (length cs == 1) true true) fault.Char ∷ demand (nat_lt parent.counter id.counter) fault.Order ∷ [])
-insertion_characters id parent [] = refl
-insertion_characters id parent (c ∷ []) = order id parent c
-insertion_characters id parent (c ∷ d ∷ cs) =
-    let more : (length (c ∷ d ∷ cs) == 1) ≡ false = two_or_more (length cs) in
-    rw more refl
+insertion_characters id parent cs = grind arith
 
 insertion_identifiers : (t : List ℕ) (i p : Option Identifier) (n m : ℕ) → IfSome i (λ id. n ≡ id.counter) → IfSome p (λ id. m ≡ id.counter)
     → result_err (table.with_identifiers i p t)
@@ -87,9 +81,7 @@ insertion_types : (t : Option (List ℕ)) (i p : Option Items) → result_err (t
     ≡ first_fault (demand (all_three (is_some t) (is_some i) (is_some p)) fault.Kind
     ∷ demand (all_three true (is_some (option_and_then element_of i)) (is_some (option_and_then parent_of p)) && true) fault.Id
     ∷ demand (all_three (text_length t == 1) true true) fault.Char ∷ demand (nat_lt (first_number p) (first_number i)) fault.Order ∷ [])
-insertion_types (Some t) (Some i) (Some p) =
-    insertion_identifiers t (element_of i) (parent_of p) (first (two_numbers i)) (first (two_numbers p)) (element_counter (two_numbers i)) (parent_counter (two_numbers p))
-insertion_types t i p = refl
+insertion_types t i p = grind arith
 
 insertion_members : (four : Bool) (c i p : Option Data)
     → result_err (if four && (is_some c && (is_some i && is_some p))
@@ -125,19 +117,12 @@ deletion_members two i = refl
 
 run_order : (id parent : Identifier) (cs : List ℕ) → result_err (table.with_run_order id parent cs)
     ≡ first_fault (demand (nat_lt parent.counter id.counter) fault.Order ∷ [])
-run_order id parent cs =
-    unless (nat_le id.counter parent.counter) (nat_lt parent.counter id.counter) fault.Order (Ok (Run (stretch id parent cs))) []
-    (above parent.counter id.counter) refl
+run_order id parent cs = grind arith
 
 run_end : (id parent : Identifier) (cs : List ℕ) → result_err (table.with_run_end id parent cs)
     ≡ first_fault (demand (nat_le (id.counter + length cs) (MAX_COUNTER + 1)) fault.Id
     ∷ demand (all_three true true (is_run_length (length cs))) fault.Char ∷ demand (nat_lt parent.counter id.counter) fault.Order ∷ [])
-run_end id parent cs =
-    let ordered : List Demand = demand (nat_lt parent.counter id.counter) fault.Order ∷ [] in
-    unless (nat_lt (MAX_COUNTER + 1) (id.counter + length cs)) (nat_le (id.counter + length cs) (MAX_COUNTER + 1)) fault.Id (table.with_run_chars id parent cs)
-    (demand (is_run_length (length cs) && true) fault.Char ∷ ordered) (at_most (id.counter + length cs) (MAX_COUNTER + 1))
-    (unless ((length cs == 0) || nat_lt longest_run (length cs)) (is_run_length (length cs) && true) fault.Char (table.with_run_order id parent cs) ordered
-    (run_length (length cs) longest_run) (run_order id parent cs))
+run_end id parent cs = grind arith
 
 run_identifiers : (t : List ℕ) (i p : Option Identifier) (n m : ℕ) → IfSome i (λ id. n ≡ id.counter) → IfSome p (λ id. m ≡ id.counter)
     → result_err (table.with_run_identifiers i p t)
@@ -151,10 +136,7 @@ run_types : (t : Option (List ℕ)) (i p : Option Items) → result_err (table.w
     ∷ demand (all_three (is_some (option_and_then element_of i)) (is_some (option_and_then parent_of p)) true
     && nat_le (first_number i + text_length t) (MAX_COUNTER + 1)) fault.Id
     ∷ demand (all_three true true (is_run_length (text_length t))) fault.Char ∷ demand (nat_lt (first_number p) (first_number i)) fault.Order ∷ [])
-run_types (Some t) (Some i) (Some p) =
-    run_identifiers t (element_of i) (parent_of p) (first (two_numbers i)) (first (two_numbers p)) (element_counter (two_numbers i)) (parent_counter (two_numbers p))
-run_types None (Some i) (Some p) = refl
-run_types t i p = refl
+run_types t i p = grind (arith, run_identifiers, element_of, parent_of, two_numbers, element_counter, parent_counter)
 
 run_members : (four : Bool) (i p t : Option Data)
     → result_err (if four && (is_some i && (is_some p && is_some t))
@@ -170,11 +152,7 @@ run_members four i p t = refl
 
 deletions_end : (id : Identifier) (n : ℕ) → result_err (table.with_deletion_end id n)
     ≡ first_fault (demand (nat_le (id.counter + n) (MAX_COUNTER + 1)) fault.Id ∷ demand (is_run_length n && true) fault.Char ∷ demand true fault.Order ∷ [])
-deletions_end id n =
-    unless (nat_lt (MAX_COUNTER + 1) (id.counter + n)) (nat_le (id.counter + n) (MAX_COUNTER + 1)) fault.Id (table.with_deletion_count id n)
-    (demand (is_run_length n && true) fault.Char ∷ demand true fault.Order ∷ []) (at_most (id.counter + n) (MAX_COUNTER + 1))
-    (unless ((n == 0) || nat_lt longest_run n) (is_run_length n && true) fault.Char (Ok (deletion_run id n)) (demand true fault.Order ∷ [])
-    (run_length n longest_run) refl)
+deletions_end id n = grind arith
 
 deletions_identifier : (count : ℕ) (i : Option Identifier) (n : ℕ) → IfSome i (λ id. n ≡ id.counter) → result_err (table.with_deletion_identifier i count)
     ≡ first_fault (demand (both true (is_some i) && nat_le (n + count) (MAX_COUNTER + 1)) fault.Id
@@ -241,9 +219,7 @@ last (Err e) = refl
 
 -- demands that are met change nothing at the end
 met_last : (x y : Bool) (f g : LineFault) → first_fault (demand x f ∷ demand y g ∷ []) ≡ first_fault (demand x f ∷ demand y g ∷ demand true fault.Id ∷ demand true fault.Char ∷ demand true fault.Order ∷ [])
-met_last false y f g = refl
-met_last true false f g = refl
-met_last true true f g = refl
+met_last x y f g = grind arith
 
 of_kind : (ms : Members) (i d r ds h e : Bool) → result_err (reading_by ms i d r ds h e) ≡ first_fault (kind_demands (object ms) (kind_by i d r ds h e))
 of_kind ms true d r ds h e =
@@ -291,10 +267,7 @@ of_text is_text d = refl
 
 pub line_faults : (bytes : List ℕ) → result_err (table.any_line_at bytes) ≡ first_fault (line_demands bytes)
 unfolding table.any_line_at
-line_faults bytes =
-    unless (nat_lt longest_line (length bytes)) (nat_le (length bytes) longest_line) fault.Long (table.text_line (is_utf8 bytes) (read bytes))
-    (demand (is_utf8 bytes && is_some (read bytes)) fault.Json ∷ read_demands (read bytes))
-    (at_most (length bytes) longest_line) (of_text (is_utf8 bytes) (read bytes))
+line_faults bytes = grind (arith, longest_line, read, demand, read_demands, at_most, of_text)
 
 -- ---- one operation alone
 
@@ -309,10 +282,7 @@ after (d ∷ ds) es = after_one d.is_met d.fault (first_fault (ds ++ es)) (first
 
 -- where one operation alone may stand, a reading has its fault, and one of a line that is none has `Kind`
 alone : (r : AnyReading) (single : Bool) → IsSound single r → result_err (table.operation_alone r) ≡ option_or (result_err r) (first_fault (demand single fault.Kind ∷ []))
-alone (Ok Head) single h = rw h refl
-alone (Ok (Last operations)) single h = rw h refl
-alone (Err e) single h = refl
-alone r single h = rw h.1 refl
+alone r single h = grind arith
 
 pub operation_faults : (bytes : List ℕ) → result_err (table.line_at bytes) ≡ first_fault (operation_demands bytes)
 unfolding table.line_at

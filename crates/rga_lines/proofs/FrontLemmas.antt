@@ -1,5 +1,5 @@
 -- The front of bytes, once more is put behind it; and numbers that are put with the digits of their hundred.
-use Rattle.rga_lines.proofs.Prelude.{◌≡◌, ℕ, ◌+◌, ◌-◌, ◌*◌, ◌/◌, ◌%◌, ◌^◌, ◌<◌, ◌≤◌, List, ◌++◌, length, take, decimal, sym, ap, ◌∙◌, arith, append_assoc, take-take, length-take, decimal_pair, pair}
+use Rattle.rga_lines.proofs.Prelude.{◌≡◌, ℕ, ◌+◌, ◌-◌, ◌*◌, ◌/◌, ◌^◌, ◌<◌, ◌≤◌, List, ◌++◌, length, take, decimal, sym, ap, ◌∙◌, arith, append_assoc, take-take, length-take, decimal_pair, pair}
 use Rattle.std.proofs.Math.Seq.{take-append_seam, take-append-add}
 
 -- of what is known to begin so, a shorter front is the same
@@ -19,14 +19,7 @@ part_put at count room new old front put within fits =
 
 -- a number has the digits of its hundred, and two more
 decimal_of_hundred : (n first : ℕ) → 100 ≤ first → first / 100 * 100 ≡ first → first ≤ n → n - first < 100 → n < 2 ^ 64 → decimal n ≡ decimal (first / 100) ++ pair (n - first)
-decimal_of_hundred n first lo round above near small =
-    let digits : n / 100 ≡ first / 100 = omega arith in
-    let two : n % 100 ≡ n - first = omega arith in
-    rw (decimal_pair n (omega arith) small, digits, two)
+decimal_of_hundred n first lo round above near small = grind (arith, decimal_pair)
 
 pub hundred_put : (before front new held piece : List ℕ) (n first : ℕ) → front ≡ before ++ held → held ≡ piece ++ decimal (first / 100) → new ≡ front ++ pair (n - first) → 100 ≤ first → first / 100 * 100 ≡ first → first ≤ n → n - first < 100 → n < 2 ^ 64 → new ≡ before ++ (piece ++ decimal n)
-hundred_put before front new held piece n first h d two lo round above near small =
-    let rest = pair (n - first) in
-    let digits = decimal (first / 100) in
-    let all : held ++ rest ≡ piece ++ decimal n = ap (λ l. l ++ rest) d ∙ append_assoc piece digits rest ∙ ap (λ l. piece ++ l) (sym (decimal_of_hundred n first lo round above near small)) in
-    two ∙ ap (λ l. l ++ rest) h ∙ append_assoc before held rest ∙ ap (λ l. before ++ l) all
+hundred_put before front new held piece n first h d two lo round above near small = grind (arith, pair, decimal, append_assoc, decimal_of_hundred)

@@ -1,5 +1,5 @@
 -- No line that is written has a newline in it.
-use Rattle.rga_lines.proofs.Prelude.{◌≡◌, ◌≢◌, ℕ, ◌+◌, ◌<◌, ◌^◌, ◌/◌, ◌%◌, ◌&&◌, Bool, true, false, cond, not, eqb, ltb, List, [], ◌∷◌, ◌++◌, ◌⊎◌, inl, inr, codes, decimal, refl, sym, subst, arith, encode_utf8, digit_char, cases_eq, cases_lt}
+use Rattle.rga_lines.proofs.Prelude.{◌≡◌, ◌≢◌, ℕ, ◌+◌, ◌<◌, ◌^◌, ◌%◌, ◌&&◌, Bool, true, not, eqb, List, [], ◌∷◌, ◌++◌, inl, inr, codes, decimal, refl, sym, subst, arith, encode_utf8, digit_char, cases_eq, cases_lt}
 use Rattle.rga_lines.proofs.Prelude.{and_parts, eqb-false, not-true, All-from_recursion, encode_ascii, decimal_by_steps, Identifier, Op, Insert, Delete, flat_map, AllByRecursion, DeletionRun, Stretch, IsDeletionRun, pair_text, IsWritable}
 use Rattle.rga_lines.proofs.Prelude.{IsWritableRun, newline, HasNoNewline}
 use Rattle.rga_lines.specs.Spelling.{escaped, line, run_line, deletion_run_line, head_line, end_line}
@@ -31,24 +31,14 @@ HasNo-decimal n h =
     decimal_by_steps (λ _ ds. HasNo ds) (λ k lt. (λ e. omega arith, tt)) (λ k ds le done. HasNo-append ds ((48 + k % 10) ∷ []) done (λ e. omega arith, tt)) n h
 
 digit : (d : ℕ) → digit_char d ≡ newline → ⊥
-digit d = go (ltb d 10)
-  where
-    go : (b : Bool) → cond b (48 + d) (87 + d) ≡ newline → ⊥
-    go true e = omega arith
-    go false e = omega arith
+digit d h = grind arith
 
 HasNo-encode : (c : ℕ) → (c ≡ newline → ⊥) → HasNo (encode_utf8 c)
 HasNo-encode c ne = elim (cases_lt c 128) [ inl lt ↦ subst HasNo (sym (encode_ascii c lt)) (ne, tt) | inr le ↦ HasNo-Plain (encode_utf8 c) (Plain-encode c le) ]
 
 HasNo-escaped : (c : ℕ) → HasNo (escaped c)
 unfolding escaped
-HasNo-escaped c = go (cases_eq c newline)
-  where
-    go : (c ≡ newline) ⊎ (c ≡ newline → ⊥) → HasNo (escaped c)
-    go (inl e) = subst (λ (x : ℕ). HasNo (escaped x)) (sym e) (literal (codes "\\n") refl)
-    go (inr ne) =
-        escaped_all HasNo c (literal (codes "\\b") refl) (literal (codes "\\t") refl) (literal (codes "\\n") refl) (literal (codes "\\f") refl) (literal (codes "\\r") refl) (λ e. omega arith, (ne, tt))
-        (HasNo-append (codes "\\u00") (digit_char (c / 16) ∷ digit_char (c % 16) ∷ []) (literal (codes "\\u00") refl) (digit (c / 16), (digit (c % 16), tt))) (HasNo-encode c ne)
+HasNo-escaped c = grind (arith, cases_eq, escaped_all, HasNo-append, digit_char, digit, HasNo-encode)
 
 record Clear (xs : List ℕ) : Type 0 where
   all : HasNo xs

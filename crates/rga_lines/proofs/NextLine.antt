@@ -1,6 +1,6 @@
 -- What the next line is, by the index of the first newline in what waits.
-use Rattle.rga_lines.proofs.Prelude.{◌≡◌, ℕ, ◌+◌, ◌<◌, ◌≤◌, Bool, false, List, ◌∷◌, length, take, drop, Some, None, position, refl, sym, ap, ap₂, ◌∙◌, arith, lt-ltb, le-ltb, length-take-le, take_all, MAX_LINE, lines_of, HasNoNewline, EndsNextLine}
-use Rattle.rga_lines.proofs.Prelude.{Splitting, splitting_with, gave_up, Answer, next_of_lines, next_of}
+use Rattle.rga_lines.proofs.Prelude.{◌≡◌, ℕ, ◌+◌, ◌<◌, ◌≤◌, Bool, false, List, ◌∷◌, length, take, drop, Some, None, position, sym, ap, ap₂, ◌∙◌, arith, lt-ltb, le-ltb, length-take-le, take_all, MAX_LINE, lines_of, HasNoNewline, EndsNextLine}
+use Rattle.rga_lines.proofs.Prelude.{Splitting, splitting_with, gave_up, next_of_lines, next_of}
 use Rattle.rga_lines.proofs.SplitterLemmas.{gave, gave_none, failed}
 use Rattle.rga_lines.proofs.StreamLemmas.{is_newline, FirstLine, first_line, no_first_line, lines-line, lines-none}
 use Rattle.rga_lines.specs.declared.fault.LineFault.TheVariants as fault
@@ -19,22 +19,10 @@ whole : (s : Splitting) (slice : List ℕ) → s.broken ≡ false → slice ≡ 
 whole s slice good waiting = ap₂ state (sym waiting) good
 
 pub line_waits : (s : Splitting) (slice : List ℕ) (n : ℕ) → s.broken ≡ false → slice ≡ s.waiting → Some n ≡ position is_newline slice → n ≤ MAX_LINE → EndsNextLine s n
-line_waits s slice n good waiting at short =
-    let first : FirstLine s.waiting n = first_line s.waiting n (ap (position is_newline) (sym waiting) ∙ sym at) in
-    let long : length (take n s.waiting) ≡ n = length-take-le n s.waiting (omega (arith, first.within)) in
-    record {
-      within = first.within;
-      next =
-          ap next_of (whole s s.waiting good refl)
-          ∙ ap (next_of_lines s.waiting) (by_index s.waiting n first)
-          ∙ rw (le-ltb MAX_LINE (length (take n s.waiting)) (omega (arith, long))) (ap (λ (k : ℕ). let p : Answer × Splitting = (gave (take n s.waiting), splitting_with (drop (k + 1) s.waiting)) in p) long);
-    }
+line_waits s slice n good waiting at short = grind (arith, first_line, position, is_newline, length-take-le, next_of, whole, next_of_lines, by_index, le-ltb, gave, splitting_with)
 
 pub none_waits : (s : Splitting) (slice : List ℕ) → s.broken ≡ false → slice ≡ s.waiting → None ≡ position is_newline slice → length slice ≤ MAX_LINE → next_of s ≡ (gave_none, s)
-none_waits s slice good waiting none short =
-    let same = whole s slice good waiting in
-    let gives : next_of (splitting_with slice) ≡ (gave_none, splitting_with slice) = ap (next_of_lines slice) (lines-none slice (no_first_line slice (sym none))) ∙ rw (le-ltb MAX_LINE (length slice) short) in
-    ap next_of same ∙ gives ∙ ap (λ (t : Splitting). let p : Answer × Splitting = (gave_none, t) in p) (sym same)
+none_waits s slice good waiting none short = grind (arith, whole, next_of, splitting_with, gave_none, next_of_lines, lines-none, no_first_line, le-ltb)
 
 -- what stands before the newline was searched
 pub none_before : (slice waiting : List ℕ) (n : ℕ) → Some n ≡ position is_newline slice → slice ≡ waiting → HasNoNewline (take n waiting)
@@ -45,9 +33,7 @@ index_within slice n at = (first_line slice n (sym at)).within
 
 -- all of it was searched
 pub none_among : (slice waiting : List ℕ) → None ≡ position is_newline slice → slice ≡ waiting → HasNoNewline (take (length slice) waiting)
-none_among slice waiting none is =
-    let all : take (length slice) waiting ≡ slice = take_all (length slice) waiting (omega (arith, ap length is)) ∙ sym is in
-    rw all (no_first_line slice (sym none))
+none_among slice waiting none is = grind (arith, take_all, no_first_line)
 
 pub long_line_waits : (s : Splitting) (slice : List ℕ) (n : ℕ) → s.broken ≡ false → slice ≡ s.waiting → Some n ≡ position is_newline slice → MAX_LINE < n → next_of s ≡ (failed fault.Long, gave_up)
 long_line_waits s slice n good waiting at long =

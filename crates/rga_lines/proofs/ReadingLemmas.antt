@@ -1,6 +1,6 @@
 -- What the bytes of a line say by their value, and that what is read is well-formed.
 use Rattle.rga_lines.proofs.Prelude.{◌≡◌, ◌≢◌, ℕ, ◌<◌, ◌≤◌, Bool, true, false, List, length, Option, Some, None, Ok, Err, refl, sym, ap, ◌∙◌, lt-ltb, le-ltb, IsUtf8, is_utf8, is_utf8-from_IsUtf8, IsUtf8-from_is_utf8, Data, read, checked, Op, One}
-use Rattle.rga_lines.proofs.Prelude.{Run, Deletions, Head, Last, MAX_LINE, DeletionRun, is_operation, Stretch, IsRun, IsDeletionRun, Reading, AnyReading, value_line, text_line, operation_alone}
+use Rattle.rga_lines.proofs.Prelude.{Run, Deletions, MAX_LINE, DeletionRun, is_operation, Stretch, IsRun, IsDeletionRun, Reading, AnyReading, value_line, text_line, operation_alone}
 use Rattle.rga_lines.specs.Table.{any_line_at, line_at}
 use Rattle.rga_lines.proofs.SoundLemmas.{IsSound, IsSoundOperation, sound_line}
 use Rattle.rga_lines.specs.declared.fault.LineFault.TheVariants as fault

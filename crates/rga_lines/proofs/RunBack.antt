@@ -39,16 +39,7 @@ escaped_all-length [] = omega arith
 escaped_all-length (c ∷ cs) = omega (arith, escaped-length c, escaped_all-length cs, length-append (escaped c) (flat_map escaped cs))
 
 run-length : (inside : List ℕ) (id parent : Identifier) → length inside ≤ 24576 → InBounds id → InBounds parent → length (run_text inside id parent) ≤ MAX_LINE
-run-length inside id parent small h k =
-    let after = codes ",\"text\":\"" ++ (inside ++ codes "\"}") in
-    omega (
-      arith,
-      length-append inside (codes "\"}"),
-      length-append (pair_text parent) after,
-      length-append (pair_text id) (codes ",\"op\":\"run\",\"parent\":" ++ (pair_text parent ++ after)),
-      pair_text-length id h,
-      pair_text-length parent k,
-    )
+run-length inside id parent small h k = grind (arith, length-append, pair_text, pair_text-length)
 
 run-utf8 : (text : List ℕ) (id parent : Identifier) → IsUtf8 text → InBounds id → InBounds parent → IsUtf8 (compact_text (run_data text id parent))
 unfolding serde_json_on_literals

@@ -5,8 +5,7 @@ use Rattle.rga_lines.proofs.SpellingLemmas.{escaped_all}
 
 flat-push : (xs : List ℕ) (c : ℕ) (rest : List ℕ) → flat_map escaped (xs ++ c ∷ []) ++ rest ≡ flat_map escaped xs ++ (escaped c ++ rest)
 flat-push [] c rest = ap (λ (l : List ℕ). l ++ rest) (append-nil (escaped c))
-flat-push (x ∷ xs) c rest =
-    append_assoc (escaped x) (flat_map escaped (xs ++ c ∷ [])) rest ∙ ap (λ (l : List ℕ). escaped x ++ l) (flat-push xs c rest) ∙ sym (append_assoc (escaped x) (flat_map escaped xs) (escaped c ++ rest))
+flat-push (x ∷ xs) c rest = grind (arith, append_assoc, escaped, flat_map, flat-push xs c rest)
 
 scalars-push : (xs : List ℕ) (c : ℕ) → AllByRecursion IsScalar xs → IsScalar c → AllByRecursion IsScalar (xs ++ c ∷ [])
 scalars-push [] c h k = (k, tt)

@@ -1,9 +1,9 @@
 -- What a line says is well-formed, and an operation alone where its kind is one.
-use Rattle.rga_lines.proofs.Prelude.{◌≡◌, ℕ, ◌<◌, ◌≤◌, ◌+◌, zero, suc, ◌&&◌, ◌||◌, ◌==◌, Bool, true, false, cond, nat_le, nat_lt, List, length, Option, Some, None, Result, Ok, Err, option_and_then, refl, arith, ne_eqb, and_left, and_parts, leb-true}
-use Rattle.rga_lines.proofs.Prelude.{leb-false, ltb-false, ⊤, codes, is_some, if◌then◌else◌, is_utf8, chars, bytes_eq, Data, array, object, members_len, read, get_member, as_str, as_array, Identifier, identifier, is_root, is_in_range, MAX_COUNTER}
-use Rattle.rga_lines.proofs.Prelude.{checked, Insert, DeletionRun, LineFault, One, Run, Deletions, Head, Last, longest_run, stretch, IsRun, deletion_run, IsDeletionRun, Reading, AnyReading, two_numbers, element_of, parent_of, if_in_range}
+use Rattle.rga_lines.proofs.Prelude.{◌≡◌, ℕ, ◌<◌, zero, suc, ◌||◌, ◌==◌, Bool, true, false, cond, nat_lt, List, length, Option, Some, None, Result, Ok, Err, option_and_then, refl, arith}
+use Rattle.rga_lines.proofs.Prelude.{⊤, codes, if◌then◌else◌, is_utf8, chars, Data, object, members_len, read, get_member, as_str, Identifier, identifier, is_root, is_in_range}
+use Rattle.rga_lines.proofs.Prelude.{checked, DeletionRun, LineFault, One, Run, Deletions, Head, IsRun, IsDeletionRun, Reading, AnyReading, two_numbers, element_of, parent_of, if_in_range}
 use Rattle.rga_lines.proofs.Prelude.{longest_line, LineKind, insertion_line, deletion_line, deletions_line, kinds, kind_among, kind_of, is_single, is_operation}
-use Rattle.serde_json.specs.Data.{null, boolean, number, string, Items, Members}
+use Rattle.serde_json.specs.Data.{Items, Members}
 use Rattle.rga_lines.specs.Table.{number_of}
 use Rattle.rga_lines.specs.Faults.{run_line, head_line, end_line}
 use Rattle.rga_lines.specs.declared.fault.LineFault.TheVariants as fault
@@ -42,27 +42,16 @@ IsInRange (Some id) = is_in_range id.counter id.replica ≡ true
 IsInRange None = ⊤
 
 element_is_in_range : (p : Option (ℕ × ℕ)) → IsInRange (option_and_then if_in_range p)
-element_is_in_range None = tt
-element_is_in_range (Some p) = by_range (is_in_range p.0 p.1) refl
-  where
-    by_range : (within : Bool) → is_in_range p.0 p.1 ≡ within → IsInRange (cond within (Some (identifier p.0 p.1)) None)
-    by_range true is = is
-    by_range false is = tt
+element_is_in_range p = grind arith
 
 -- so it is not the root
 root_is_out : (counter replica : ℕ) → is_in_range counter replica ≡ true → is_root (identifier counter replica) ≡ false
-root_is_out counter replica e =
-    let counters = and_parts (nat_le 1 counter && nat_le counter MAX_COUNTER) (nat_le 1 replica && nat_le replica 65535) e in
-    let least = and_parts (nat_le 1 counter) (nat_le counter MAX_COUNTER) counters.0 in
-    let above : 1 ≤ counter = leb-true 1 counter least.0 in
-    and_left (counter == 0) (replica == 0) (ne_eqb counter 0 (λ zero. omega (arith, above)))
+root_is_out counter replica e = grind arith
 
 -- ---- operations
 
 sound_char : (id parent : Identifier) (ch : Option ℕ) → is_root id ≡ false → IsSoundOperation (table.with_char id parent ch)
-sound_char id parent (Some ch) e =
-    either IsSoundOperation (nat_le id.counter parent.counter) (Err fault.Order) (Ok (Insert id parent ch)) tt (λ order. rw (e, order))
-sound_char id parent None e = tt
+sound_char id parent ch h = grind arith
 
 sound_identifiers : (id parent : Option Identifier) (text : List ℕ) → IsInRange id → IsSoundOperation (table.with_identifiers id parent text)
 sound_identifiers (Some id) (Some parent) text e = sound_char id parent (table.only_char (chars text)) (root_is_out id.counter id.replica e)
@@ -87,20 +76,7 @@ sound_one (Err e) sound = tt
 -- ---- runs
 
 sound_run_identifiers : (id parent : Option Identifier) (text : List ℕ) → IsSound false (table.with_run_identifiers id parent text)
-sound_run_identifiers (Some id) (Some parent) text =
-    let count : ℕ = length (chars text) in
-    either (IsSound false) (nat_lt (MAX_COUNTER + 1) (id.counter + count)) (Err fault.Id) (table.with_run_chars id parent (chars text)) tt (λ end.
-    either (IsSound false) ((count == 0) || nat_lt longest_run count) (Err fault.Char) (table.with_run_order id parent (chars text)) tt (λ fits.
-    either (IsSound false) (nat_le id.counter parent.counter) (Err fault.Order) (Ok (Run (stretch id parent (chars text)))) tt (λ order.
-    let p = or_none (count == 0) (nat_lt longest_run count) fits in
-    let run : IsRun (stretch id parent (chars text)) = record {
-      some = not_zero count p.0;
-      few = ltb-false longest_run count p.1;
-      end = ltb-false (MAX_COUNTER + 1) (id.counter + count) end;
-      rising = leb-false id.counter parent.counter order;
-    } in
-    (run, refl))))
-sound_run_identifiers id parent text = tt
+sound_run_identifiers id parent text = grind arith
 
 sound_run : (four : Bool) (text : Option (List ℕ)) (id parent : Option Items) → IsSound false (cond four (table.with_run_types text id parent) (Err fault.Member))
 sound_run true (Some text) (Some id) (Some parent) = sound_run_identifiers (element_of id) (parent_of parent) text
@@ -111,16 +87,7 @@ IsSoundRun (Ok r) = IsDeletionRun r
 IsSoundRun (Err e) = ⊤
 
 sound_deletion_identifier : (id : Option Identifier) (count : ℕ) → IsInRange id → IsSoundRun (table.with_deletion_identifier id count)
-sound_deletion_identifier (Some id) count element =
-    either IsSoundRun (nat_lt (MAX_COUNTER + 1) (id.counter + count)) (Err fault.Id) (table.with_deletion_count id count) tt (λ end.
-    either IsSoundRun ((count == 0) || nat_lt longest_run count) (Err fault.Char) (Ok (deletion_run id count)) tt (λ fits.
-    let p = or_none (count == 0) (nat_lt longest_run count) fits in record {
-      element = element;
-      some = not_zero count p.0;
-      few = ltb-false longest_run count p.1;
-      end = ltb-false (MAX_COUNTER + 1) (id.counter + count) end;
-    }))
-sound_deletion_identifier None count element = tt
+sound_deletion_identifier id count h = grind arith
 
 sound_deletions : (three : Bool) (count : Option ℕ) (id : Option Items) → IsSoundRun (cond three (table.with_deletion_types count id) (Err fault.Member))
 sound_deletions true (Some count) (Some id) = sound_deletion_identifier (element_of id) count (element_is_in_range (two_numbers id))
@@ -158,35 +125,18 @@ reading_by ms insertion deletion run deletions_run head end =
     else (if end then table.last (table.ending (members_len ms) (object ms)) else Err fault.Kind)))))
 
 sound_kind : (ms : Members) (i d r ds h e : Bool) → IsSound (is_single (kind_by i d r ds h e)) (reading_by ms i d r ds h e)
-sound_kind ms true d r ds h e =
-    let text : Option (List ℕ) = option_and_then as_str (get_member (codes "char") ms) in
-    let id : Option Items = option_and_then as_array (get_member (codes "id") ms) in
-    let parent : Option Items = option_and_then as_array (get_member (codes "parent") ms) in
-    let four : Bool = (members_len ms == 4) && (is_some (get_member (codes "char") ms) && (is_some (get_member (codes "id") ms) && is_some (get_member (codes "parent") ms))) in
-    sound_one (table.insertion (members_len ms) (object ms)) (sound_insertion four text id parent)
-sound_kind ms false true r ds h e =
-    let two : Bool = (members_len ms == 2) && is_some (get_member (codes "id") ms) in
-    sound_one (table.deletion (members_len ms) (object ms)) (sound_deletion two (option_and_then as_array (get_member (codes "id") ms)))
-sound_kind ms false false true ds h e =
-    let text : Option (List ℕ) = option_and_then as_str (get_member (codes "text") ms) in
-    let id : Option Items = option_and_then as_array (get_member (codes "id") ms) in
-    let parent : Option Items = option_and_then as_array (get_member (codes "parent") ms) in
-    sound_run ((members_len ms == 4) && (is_some (get_member (codes "id") ms) && (is_some (get_member (codes "parent") ms) && is_some (get_member (codes "text") ms)))) text id parent
-sound_kind ms false false false true h e =
-    let count : Option ℕ = option_and_then number_of (get_member (codes "count") ms) in
-    let three : Bool = (members_len ms == 3) && (is_some (get_member (codes "count") ms) && is_some (get_member (codes "id") ms)) in
-    sound_run_of_deletions (table.deletions_reading (members_len ms) (object ms)) (sound_deletions three count (option_and_then as_array (get_member (codes "id") ms)))
-sound_kind ms false false false false true e =
-    sound_heading ((members_len ms == 2) && is_some (get_member (codes "version") ms)) (option_and_then number_of (get_member (codes "version") ms))
+sound_kind ms true d r ds h e = grind (arith, sound_one, sound_insertion)
+sound_kind ms false true r ds h e = grind (arith, sound_one, sound_deletion)
+sound_kind ms false false true ds h e = grind (arith, sound_run)
+sound_kind ms false false false true h e = grind (arith, sound_run_of_deletions, sound_deletions)
+sound_kind ms false false false false true e = grind (arith, sound_heading)
 sound_kind ms false false false false false true = sound_last (table.ending (members_len ms) (object ms))
 sound_kind ms false false false false false false = tt
 
 sound_name : (ms : Members) (name : Option (List ℕ))
     → IsSound (is_single (option_and_then (kind_among kinds) name)) (table.with_name (members_len ms) (object ms) name)
 sound_name ms None = tt
-sound_name ms (Some name) =
-    sound_kind ms (bytes_eq name (codes "ins")) (bytes_eq name (codes "del")) (bytes_eq name (codes "run")) (bytes_eq name (codes "dels"))
-    (bytes_eq name (codes "head")) (bytes_eq name (codes "end"))
+sound_name ms (Some name) = grind (arith, sound_kind)
 
 sound_op : (ms : Members) (op : Option Data) → IsSound (is_single (kind_of op)) (table.with_op (members_len ms) (object ms) op)
 sound_op ms None = tt

@@ -1,5 +1,5 @@
 -- Lines that are spelled in one way say what was read of their parts.
-use Rattle.rga_lines.proofs.Prelude.{◌≡◌, ℕ, ◌+◌, ◌<◌, ◌≤◌, ◌||◌, ◌==◌, Bool, true, false, List, ◌++◌, length, codes, decimal, Ok, ap, ◌∙◌, arith, ne_eqb, and_left, MAX_COUNTER, Identifier, is_root, is_in_range, checked, Op, Insert, Delete, One}
+use Rattle.rga_lines.proofs.Prelude.{◌≡◌, ℕ, ◌+◌, ◌<◌, ◌≤◌, List, ◌++◌, length, codes, decimal, Ok, ap, ◌∙◌, arith, MAX_COUNTER, Identifier, checked, Op, Insert, Delete, One}
 use Rattle.rga_lines.proofs.Prelude.{Deletions, stretch, deletion_run, any_line_at, BeginsWithCharacter, BeginsWithIdentifier, ReadsInsertions, IsElement, IsElementOrRoot}
 use Rattle.rga_lines.specs.declared.run.TheConstants.{MAX_RUN}
 use Rattle.rga_lines.specs.Log.{SaysRun}
@@ -12,11 +12,7 @@ use Rattle.rga_lines.proofs.WritableLemmas.{insertion_writable}
 
 -- an identifier with a counter is not the root
 above_zero : (id : Identifier) → IsElementOrRoot id → 0 < id.counter → IsElement id
-above_zero id kept above = by_root (is_root id) (and_left (id.counter == 0) (id.replica == 0) (ne_eqb id.counter 0 (λ z. omega (arith, z, above)))) kept
-  where
-    by_root : (root : Bool) → root ≡ false → (root || is_in_range id.counter id.replica) ≡ true → IsElement id
-    by_root true e h = absurd cc
-    by_root false e h = h
+above_zero id kept above = grind arith
 
 pub insertion_says : (bytes inside named above end : List ℕ) (id parent : Identifier) (ch : ℕ) → bytes ≡ codes "{\"char\":\"" ++ inside → BeginsWithCharacter inside ch named → BeginsWithIdentifier named (codes "\",\"id\":") id above
     → BeginsWithIdentifier above (codes ",\"op\":\"ins\",\"parent\":") parent end → end ≡ codes "}" → checked (Insert id parent ch) ≡ Ok tt → any_line_at bytes ≡ Ok (One (Insert id parent ch))

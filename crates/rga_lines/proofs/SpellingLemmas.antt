@@ -1,5 +1,5 @@
 -- The compact text of the value of an operation, or of the end of an exchange, is its line.
-use Rattle.rga_lines.proofs.Prelude.{lit≤, ◌≡◌, ℕ, ◌+◌, ◌<◌, ◌≤◌, ◌/◌, Bool, true, false, cond, List, [], ◌∷◌, ◌++◌, ◌⊎◌, inl, inr, codes, refl, sym, ap, subst, ◌∙◌, arith, append_assoc, append-nil, ltb, lt-ltb, le-ltb, ne_eqb, eqb, ◌||◌, cases_eq}
+use Rattle.rga_lines.proofs.Prelude.{lit≤, ◌≡◌, ℕ, ◌<◌, ◌≤◌, Bool, cond, List, [], ◌∷◌, ◌++◌, ◌⊎◌, inl, inr, codes, refl, sym, ap, ◌∙◌, arith, append_assoc, append-nil, lt-ltb, le-ltb, ne_eqb, cases_eq}
 use Rattle.rga_lines.proofs.Prelude.{cases_lt, encode_ascii, escape, decimal_digit, Data, unsigned, array, item, no_items, object, member, no_members, compact_text, Identifier, Op, Insert, Delete, code_escape, pair_text}
 use Rattle.std.specs.Char.{encode_utf8}
 use Rattle.json.specs.Print.{escape_byte}
@@ -7,7 +7,6 @@ use Rattle.json.proofs.Printed.Strings.{escape_byte_plain}
 use Rattle.serde_json.specs.Data.{number, string}
 use Rattle.serde_json.proofs.OnLiterals.{serde_json_on_literals}
 use Rattle.rga_lines.specs.Spelling.{escaped, line, head_line, end_line}
-use lib.Utf8.{next}
 
 -- ---- the value of JSON of an operation
 
@@ -30,19 +29,7 @@ head_data = object (member (codes "op") (string (codes "head")) (member (codes "
 pub escaped_all : (P : List ℕ → Type 0) (c : ℕ) → P (codes "\\b") → P (codes "\\t") → P (codes "\\n") → P (codes "\\f") → P (codes "\\r")
     → P (92 ∷ c ∷ []) → P (code_escape c) → P (encode_utf8 c) → P (escaped c)
 unfolding escaped
-escaped_all P c back tab line feed return behind digits plain =
-    choose (eqb c 34 || eqb c 92) (eqb c 8) (eqb c 9) (eqb c 10) (eqb c 12) (eqb c 13) (ltb c 32)
-  where
-    choose : (m n o p q r s : Bool)
-        → P (cond m (92 ∷ c ∷ []) (cond n (codes "\\b") (cond o (codes "\\t") (cond p (codes "\\n") (cond q (codes "\\f") (cond r (codes "\\r") (cond s (code_escape c) (encode_utf8 c))))))))
-    choose true n o p q r s = behind
-    choose false true o p q r s = back
-    choose false false true p q r s = tab
-    choose false false false true q r s = line
-    choose false false false false true r s = feed
-    choose false false false false false true s = return
-    choose false false false false false false true = digits
-    choose false false false false false false false = plain
+escaped_all P c back tab line feed return behind digits plain = grind arith
 
 -- no byte needs an escape
 abbrev pub Plain : List ℕ → Type 0
@@ -54,33 +41,16 @@ escape-plain [] h = refl
 escape-plain (x ∷ xs) h = ap (λ (ys : List ℕ). ys ++ escape xs) (escape_byte_plain x (λ e. omega arith) (λ e. omega arith) (omega arith)) ∙ ap (λ (ys : List ℕ). x ∷ ys) (escape-plain xs h.1)
 
 Plain-choice : (a b : Bool) (x y z : List ℕ) → Plain x → Plain y → Plain z → Plain (cond a x (cond b y z))
-Plain-choice true b x y z p q r = p
-Plain-choice false true x y z p q r = q
-Plain-choice false false x y z p q r = r
+Plain-choice a b x y z h h2 h3 = grind arith
 
 pub Plain-encode : (c : ℕ) → 128 ≤ c → Plain (encode_utf8 c)
 unfolding encode_utf8
-Plain-encode c h =
-    let two : Plain ((192 + c / 64) ∷ next c ∷ []) = (omega arith, (omega arith, tt)) in
-    let three : Plain ((224 + c / 4096) ∷ next (c / 64) ∷ next c ∷ []) = (omega arith, (omega arith, (omega arith, tt))) in
-    let four : Plain ((240 + c / 262144) ∷ next (c / 4096) ∷ next (c / 64) ∷ next c ∷ []) = (omega arith, (omega arith, (omega arith, (omega arith, tt)))) in
-    rw (le-ltb c 128 h) (Plain-choice (ltb c 2048) (ltb c 65536) ((192 + c / 64) ∷ next c ∷ []) ((224 + c / 4096) ∷ next (c / 64) ∷ next c ∷ []) ((240 + c / 262144) ∷ next (c / 4096) ∷ next (c / 64) ∷ next c ∷ []) two three four)
+Plain-encode c h = grind arith
 
 -- an ASCII character
 ascii : (c : ℕ) → c < 128 → escape_byte c ≡ escaped c
 unfolding escape_byte escaped encode_utf8
-ascii c lt = go (cases_eq c 34) (cases_eq c 92) (cases_eq c 8) (cases_eq c 9) (cases_eq c 10) (cases_eq c 12) (cases_eq c 13) (cases_lt c 32)
-  where
-    go : (c ≡ 34) ⊎ (c ≡ 34 → ⊥) → (c ≡ 92) ⊎ (c ≡ 92 → ⊥) → (c ≡ 8) ⊎ (c ≡ 8 → ⊥) → (c ≡ 9) ⊎ (c ≡ 9 → ⊥) → (c ≡ 10) ⊎ (c ≡ 10 → ⊥) → (c ≡ 12) ⊎ (c ≡ 12 → ⊥) → (c ≡ 13) ⊎ (c ≡ 13 → ⊥) → (c < 32) ⊎ (32 ≤ c) → escape_byte c ≡ escaped c
-    go (inl e) _ _ _ _ _ _ _ = subst (λ (x : ℕ). escape_byte x ≡ escaped x) (sym e) refl
-    go (inr a) (inl e) _ _ _ _ _ _ = subst (λ (x : ℕ). escape_byte x ≡ escaped x) (sym e) refl
-    go (inr a) (inr b) (inl e) _ _ _ _ _ = subst (λ (x : ℕ). escape_byte x ≡ escaped x) (sym e) refl
-    go (inr a) (inr b) (inr d) (inl e) _ _ _ _ = subst (λ (x : ℕ). escape_byte x ≡ escaped x) (sym e) refl
-    go (inr a) (inr b) (inr d) (inr f) (inl e) _ _ _ = subst (λ (x : ℕ). escape_byte x ≡ escaped x) (sym e) refl
-    go (inr a) (inr b) (inr d) (inr f) (inr g) (inl e) _ _ = subst (λ (x : ℕ). escape_byte x ≡ escaped x) (sym e) refl
-    go (inr a) (inr b) (inr d) (inr f) (inr g) (inr h) (inl e) _ = subst (λ (x : ℕ). escape_byte x ≡ escaped x) (sym e) refl
-    go (inr a) (inr b) (inr d) (inr f) (inr g) (inr h) (inr i) (inl l) = rw (ne_eqb c 34 a, ne_eqb c 92 b, ne_eqb c 8 d, ne_eqb c 9 f, ne_eqb c 10 g, ne_eqb c 12 h, ne_eqb c 13 i, lt-ltb c 32 l)
-    go (inr a) (inr b) (inr d) (inr f) (inr g) (inr h) (inr i) (inr l) = rw (ne_eqb c 34 a, ne_eqb c 92 b, ne_eqb c 8 d, ne_eqb c 9 f, ne_eqb c 10 g, ne_eqb c 12 h, ne_eqb c 13 i, le-ltb c 32 l, lt-ltb c 128 lt)
+ascii c lt = grind (arith, cases_eq, cases_lt, ne_eqb, lt-ltb, le-ltb)
 
 pub wide : (c : ℕ) → 128 ≤ c → escaped c ≡ encode_utf8 c
 unfolding escaped

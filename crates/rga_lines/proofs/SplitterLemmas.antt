@@ -1,5 +1,5 @@
 -- What the calls of a splitter give.
-use Rattle.rga_lines.proofs.Prelude.{◌≡◌, ℕ, ◌+◌, ◌<◌, ◌≤◌, Bool, true, false, cond, ltb, List, [], ◌∷◌, ◌++◌, length, take, drop, Some, None, Ok, Err, refl, sym, ap, ap₂, subst, ◌∙◌, append_assoc, append-nil, arith, ne_eqb, All, ltb-true, ltb-false}
+use Rattle.rga_lines.proofs.Prelude.{◌≡◌, ℕ, ◌+◌, ◌<◌, ◌≤◌, Bool, true, false, List, [], ◌∷◌, ◌++◌, length, take, drop, Some, None, Ok, Err, refl, sym, ap, ap₂, subst, ◌∙◌, append_assoc, append-nil, arith, ne_eqb, All, ltb-true, ltb-false}
 use Rattle.rga_lines.proofs.Prelude.{true≢false, false≢true, drop_at, length-append, length-drop, length_push, All-head, All-tail, MAX_LINE, newline, to_first_line, to_rest, lines_of, rest_of, HasNoNewline, bytes_of_lines, BeginsLong, Splitting}
 use Rattle.rga_lines.proofs.Prelude.{EndsNextLine, splitting_with, gave_up, fed, Answer, next_of_lines, next_of, StreamCall, Feed, Next, after_calls, line_in, lines_given, bytes_fed, LineFault}
 use Rattle.rga_lines.proofs.StreamLemmas.{IsOther, is_cut, bytes_of_lines-cons, lines-line, rest-line, lines-append_ended}
@@ -23,16 +23,8 @@ Had waiting lines (Ok None, t) = (lines ≡ []) × (t ≡ splitting_with waiting
 Had waiting lines (Err e, t) = (e ≡ fault.Long) × (t ≡ gave_up) × BeginsLong lines waiting
 
 had : (waiting : List ℕ) (lines : List (List ℕ)) → Had waiting lines (next_of_lines waiting lines)
-had waiting [] = by_length (ltb MAX_LINE (length waiting)) refl
-  where
-    by_length : (long : Bool) → ltb MAX_LINE (length waiting) ≡ long → Had waiting [] (cond long (failed fault.Long, gave_up) (gave_none, splitting_with waiting))
-    by_length true is = (refl, refl, ltb-true MAX_LINE (length waiting) is)
-    by_length false is = (refl, refl, ltb-false MAX_LINE (length waiting) is)
-had waiting (line ∷ others) = by_length (ltb MAX_LINE (length line)) refl
-  where
-    by_length : (long : Bool) → ltb MAX_LINE (length line) ≡ long → Had waiting (line ∷ others) (cond long (failed fault.Long, gave_up) (gave line, splitting_with (drop (length line + 1) waiting)))
-    by_length true is = (refl, refl, ltb-true MAX_LINE (length line) is)
-    by_length false is = (others, refl, refl)
+had waiting [] = grind (arith, gave_up, splitting_with, ltb-true, ltb-false)
+had waiting (line ∷ others) = grind (arith, gave_up, splitting_with, ltb-true)
 
 -- a splitter that did not give up answers by the lines of what waits
 next_had : (s : Splitting) → s.broken ≡ false → Had s.waiting (lines_of s.waiting) (next_of s)

@@ -1,5 +1,5 @@
 -- What a line stands for: the operations of a log and of a stream.
-use Rattle.rga_lines.proofs.Prelude.{◌≡◌, ℕ, ◌<◌, ◌^◌, List, [], ◌∷◌, ◌++◌, length, Result, Ok, Err, refl, sym, ap, ◌∙◌, arith, AllByRecursion, checked, Op, One, Run, Deletions, Head, Last, MAX_LINE, LineFault, DeletionRun, Stretch}
+use Rattle.rga_lines.proofs.Prelude.{◌≡◌, ℕ, ◌<◌, ◌^◌, List, [], ◌∷◌, ◌++◌, length, Result, Ok, Err, refl, ap, arith, AllByRecursion, checked, Op, One, Run, Deletions, Last, MAX_LINE, LineFault, DeletionRun, Stretch}
 use Rattle.rga_lines.proofs.Prelude.{stretch_operations, run_deletions, IsDeletionRun, line, deletion_run_line, IsWritable, IsWritableRun, AnyReading, any_line_at}
 use Rattle.rga_lines.specs.Spelling.{run_line, end_line}
 use Rattle.rga_lines.specs.Log.{operations_in, operations_at}
@@ -28,18 +28,7 @@ stands bytes r e = ap operations_in e
 
 -- the operations that a line stands for are well-formed
 pub stand_checked : (bytes : List ℕ) (ops : List Op) → operations_at bytes ≡ Ok ops → AreChecked ops
-stand_checked bytes ops h = by_reading (any_line_at bytes) refl
-  where
-    same : (others : List Op) → stands_for others ≡ stands_for ops → AreChecked others → AreChecked ops
-    same others e all = let is : others ≡ ops = cc in rw is at all
-
-    by_reading : (r : AnyReading) → any_line_at bytes ≡ r → AreChecked ops
-    by_reading (Ok (One op)) says = same (op ∷ []) (sym (stands bytes (Ok (One op)) says) ∙ h) (any_well_formed bytes op says, tt)
-    by_reading (Ok (Run r)) says = same (stretch_operations r) (sym (stands bytes (Ok (Run r)) says) ∙ h) (run_checked r (any_run bytes r says))
-    by_reading (Ok (Deletions r)) says = same (run_deletions r) (sym (stands bytes (Ok (Deletions r)) says) ∙ h) (run_deletions_checked r (any_deletions bytes r says))
-    by_reading (Ok Head) says = let clash : stands_for_none fault.Kind ≡ stands_for ops = sym (stands bytes (Ok Head) says) ∙ h in absurd cc
-    by_reading (Ok (Last number)) says = let clash : stands_for_none fault.Kind ≡ stands_for ops = sym (stands bytes (Ok (Last number)) says) ∙ h in absurd cc
-    by_reading (Err e) says = let clash : stands_for_none e ≡ stands_for ops = sym (stands bytes (Err e) says) ∙ h in absurd cc
+stand_checked bytes ops h = grind (arith, any_line_at, stands, any_well_formed, stretch_operations, run_checked, any_run, run_deletions, run_deletions_checked, any_deletions)
 
 pub long_stands : (bytes : List ℕ) → MAX_LINE < length bytes → operations_at bytes ≡ Err fault.Long
 long_stands bytes h = stands bytes (Err fault.Long) (too_long bytes h)

@@ -1,7 +1,7 @@
 -- The lines and the rest of a stream.
 use Rattle.rga_lines.proofs.Prelude.{◌≡◌, ◌≢◌, ℕ, ◌+◌, ◌-◌, ◌<◌, ◌≤◌, ◌==◌, Bool, true, false, cond, not, ltb, List, [], ◌∷◌, ◌++◌, length, take, drop, get_or, Option, Some, None, position, refl, sym, ap, ap₂, subst, ◌∙◌, append_assoc, append-nil}
 use Rattle.rga_lines.proofs.Prelude.{arith, lt-ltb, le-ltb, ne_eqb, inl, inr, All, position_or_len, cases_lt, false_from_ne_true, eqb-false, eqb-true, ltb-true, ltb-false, length-take, length-drop, get_or-take, get_or-drop, All-nil, All-cons}
-use Rattle.rga_lines.proofs.Prelude.{All-head, All-tail, All-from_get_or, newline, to_first_line, to_rest, lines_of, rest_of, HasNoNewline, bytes_of_lines, IsCut}
+use Rattle.rga_lines.proofs.Prelude.{All-head, All-tail, newline, to_first_line, to_rest, lines_of, rest_of, HasNoNewline, bytes_of_lines, IsCut}
 use Rattle.std.proofs.lemmas.Option.{cond_some}
 use Rattle.std.proofs.lemmas.List.Sums.{position_or_len_is, prefix_len-le-length, split_at_first, fails_before_first, passes_at_first}
 use Rattle.memchr.specs.Find.{IsFirstByte, is_byte}
@@ -34,11 +34,7 @@ rest-line (b ∷ line) more none =
 -- ---- the one cut
 
 cut_newline : (bytes : List ℕ) (lines : List (List ℕ)) (rest : List ℕ) → IsCut bytes lines rest → IsCut (newline ∷ bytes) ([] ∷ lines) rest
-cut_newline bytes lines rest cut = record {
-  whole = ap (λ (l : List ℕ). newline ∷ l) cut.whole;
-  lines_have_none = All-cons HasNoNewline [] lines (All-nil IsOther) cut.lines_have_none;
-  rest_has_none = cut.rest_has_none;
-}
+cut_newline bytes lines rest cut = grind arith
 
 cut_other : (b : ℕ) (bytes : List ℕ) (lines : List (List ℕ)) (rest : List ℕ) → b ≢ newline → IsCut bytes lines rest → IsCut (b ∷ bytes) (to_first_line b lines) (to_rest b lines rest)
 cut_other b bytes [] rest other cut = record {
@@ -76,10 +72,7 @@ rest-ended (line ∷ lines) more none =
     ap rest_of (bytes_of_lines-cons line lines more) ∙ rest-line line (bytes_of_lines lines ++ more) (All-head HasNoNewline line lines none) ∙ rest-ended lines more (All-tail HasNoNewline line lines none)
 
 pub only_cut : (bytes : List ℕ) (lines : List (List ℕ)) (rest : List ℕ) → IsCut bytes lines rest → (lines ≡ lines_of bytes) × (rest ≡ rest_of bytes)
-only_cut bytes lines rest cut = (
-  sym (ap lines_of cut.whole ∙ lines-ended lines rest cut.lines_have_none ∙ ap (λ (ls : List (List ℕ)). lines ++ ls) (lines-none rest cut.rest_has_none) ∙ append-nil lines),
-  sym (ap rest_of cut.whole ∙ rest-ended lines rest cut.lines_have_none ∙ rest-none rest cut.rest_has_none),
-)
+only_cut bytes lines rest cut = grind (arith, lines_of, lines-ended, lines-none, append-nil, rest_of, rest-ended, rest-none)
 
 -- ---- a stream that goes on
 
@@ -107,12 +100,7 @@ abbrev newline_index : List ℕ → ℕ
 newline_index bytes = position_or_len is_newline bytes
 
 none_before : (bytes : List ℕ) → HasNoNewline (take (newline_index bytes) bytes)
-none_before bytes = All-from_get_or IsOther (take (newline_index bytes) bytes) 0 other
-  where
-    other : (k : ℕ) → k < length (take (newline_index bytes) bytes) → get_or (take (newline_index bytes) bytes) k 0 ≢ newline
-    other k h e =
-        let before : k < newline_index bytes = omega (arith, length-take (newline_index bytes) bytes, h) in
-        eqb-false (get_or bytes k 0) newline (fails_before_first is_newline bytes k 0 before) (sym (get_or-take (newline_index bytes) bytes k 0 before) ∙ e)
+none_before bytes = grind (arith, length-take, eqb-false, fails_before_first, get_or-take)
 
 line_at_index : (bytes : List ℕ) → newline_index bytes < length bytes → FirstLine bytes (newline_index bytes)
 line_at_index bytes within = record {
@@ -131,9 +119,7 @@ none_within true n e = absurd cc
 none_within false n e = refl
 
 pub no_first_line : (bytes : List ℕ) → position is_newline bytes ≡ None → HasNoNewline bytes
-no_first_line bytes e =
-    let past : length bytes ≤ newline_index bytes = ltb-false (newline_index bytes) (length bytes) (none_within (ltb (newline_index bytes) (length bytes)) (newline_index bytes) e) in
-    λ k d h. eqb-false (get_or bytes k d) newline (fails_before_first is_newline bytes k d (omega arith))
+no_first_line bytes e = grind (arith, ltb-false, none_within, eqb-false, fails_before_first)
 
 pub position_is : (bytes : List ℕ) (found : Option ℕ) → IsFirstByte (is_byte newline) bytes found → found ≡ position is_newline bytes
 position_is bytes None nowhere =
