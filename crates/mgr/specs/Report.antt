@@ -41,10 +41,9 @@ refusal_status refusal = 1
 abbrev pub log_status : ReceiveFault → ℕ
 log_status (receive.Line number fault) = line_status fault
 log_status (receive.Refused number refusal) = refusal_status refusal
-log_status receive.Cut = 1
-log_status receive.Count = 1
 log_status receive.Read = 3
 log_status receive.Memory = 4
+log_status fault = 1
 
 abbrev pub load_status : LoadFault → ℕ
 load_status (load.Log fault) = log_status fault
@@ -56,9 +55,8 @@ abbrev pub show_status : ShowFault → ℕ
 show_status (show.Line number fault) = line_status fault
 show_status (show.Refused number refusal) = refusal_status refusal
 show_status (show.Torn number) = 1
-show_status show.Read = 3
-show_status show.Write = 3
 show_status show.Memory = 4
+show_status fault = 3
 
 abbrev pub failure_status : Failure → ℕ
 failure_status failure.Device = 3
@@ -68,11 +66,9 @@ failure_status failure.Memory = 4
 
 abbrev pub session_status : SessionFault → ℕ
 session_status (session.Load fault) = load_status fault
-session_status session.File = 3
-session_status session.Keys = 3
-session_status session.Screen = 3
-session_status session.Memory = 4
 session_status (session.Failed why) = failure_status why
+session_status session.Memory = 4
+session_status fault = 3
 
 abbrev pub join_status : JoinFault → ℕ
 join_status (join.Log index fault) = show_status fault
@@ -88,31 +84,16 @@ missing_status missing.Write = 3
 missing_status missing.Memory = 4
 
 abbrev pub merge_status : MergeFault → ℕ
-merge_status merge.NoLog = 1
 merge_status (merge.Load fault) = load_status fault
 merge_status (merge.Log index fault) = show_status fault
-merge_status (merge.Apart index) = 1
-merge_status (merge.Far index) = 1
-merge_status merge.TextStays = 1
 merge_status merge.File = 3
 merge_status merge.Memory = 4
+merge_status fault = 1
 
--- those of answers: 0 where there is no fault
-abbrev pub shown_status : Result (Unit {0}) ShowFault → ℕ
-shown_status (Ok done) = 0
-shown_status (Err fault) = show_status fault
-
-abbrev pub joined_status : Result (Unit {0}) JoinFault → ℕ
-joined_status (Ok done) = 0
-joined_status (Err fault) = join_status fault
-
-abbrev pub sent_status : Result ℕ MissingFault → ℕ
-sent_status (Ok number) = 0
-sent_status (Err fault) = missing_status fault
-
-abbrev pub edited_status : Result (Unit {0}) SessionFault → ℕ
-edited_status (Ok done) = 0
-edited_status (Err fault) = session_status fault
+-- that of an answer: 0 where there is no fault
+abbrev pub answer_status : {A F : Type 0} → (F → ℕ) → Result A F → ℕ
+answer_status status (Ok done) = 0
+answer_status status (Err fault) = status fault
 
 -- ---- the line on standard error, without its newline
 
@@ -149,9 +130,8 @@ abbrev pub show_message : ShowFault → List ℕ
 show_message (show.Line number fault) = line_message number fault
 show_message (show.Refused number refusal) = refused_message number refusal
 show_message (show.Torn number) = line_report number (codes "Torn")
-show_message show.Read = codes "device fault"
-show_message show.Write = codes "device fault"
 show_message show.Memory = codes "out of memory"
+show_message fault = codes "device fault"
 
 -- of a job that reads one log, whose name stands in front of what is wrong with it: what can't be written, and memory, are
 -- of no log
@@ -221,11 +201,9 @@ failure_message failure.Memory = codes "out of memory"
 
 abbrev pub session_message : SessionFault → List ℕ
 session_message (session.Load fault) = load_message fault
-session_message session.File = codes "device fault"
-session_message session.Keys = codes "device fault"
-session_message session.Screen = codes "device fault"
-session_message session.Memory = codes "out of memory"
 session_message (session.Failed why) = failure_message why
+session_message session.Memory = codes "out of memory"
+session_message fault = codes "device fault"
 
 -- what a report says
 abbrev pub report_text : Message → List ℕ

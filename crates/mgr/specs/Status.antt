@@ -11,8 +11,8 @@ use Rattle.mgr_args.specs.declared.job.JobFault.{JobFault}
 use Rattle.mgr_args.specs.declared.job.JobFault.TheVariants.{Help, Version, Usage, Memory}
 use Rattle.mgr_show.specs.Log.{log_of}
 use Rattle.mgr.specs.Printed.{count_line, left_out_text}
-use Rattle.mgr.specs.Report.{edited_status, joined_status, merge_message, merge_status, sent_status, show_status, shown_status, source_message}
-use Rattle.mgr.specs.Telling.{KnownTelling, TellsMore, line, text, edited_telling, joined_telling, sent_telling, shown_telling, source_telling, torn_telling}
+use Rattle.mgr.specs.Report.{answer_status, join_message, join_status, merge_message, merge_status, missing_message, missing_status, session_message, session_status, show_message, show_status, source_message}
+use Rattle.mgr.specs.Telling.{KnownTelling, TellsMore, answer_telling, line, text, torn_telling}
 use Rattle.mg_session.specs.declared.fault.SessionFault.{SessionFault}
 use Rattle.mg_session.specs.declared.fault.SessionFault.TheVariants as session
 use Rattle.mg_files.specs.Calls.{Call}
@@ -51,23 +51,6 @@ use Rattle.mgr_show.specs.declared.fault.ShowFault.TheVariants as fault
 
 -- ---- what a job has to do with
 
--- standard input and output, and what was told on standard error
-pub record Streams (R W : Type 0) : Type 0 where
-  pub input : Calls R
-  pub output : Calls W
-  pub told : KnownTelling
-
--- the port, and what was told on standard error
-pub record PortSide (P : Type 0) : Type 0 where
-  pub port : P
-  pub told : KnownTelling
-
--- the files that are read by their names, standard output, and what was told on standard error
-pub record Sourcing (S W : Type 0) : Type 0 where
-  pub sources : S
-  pub output : Calls W
-  pub told : KnownTelling
-
 -- the port, the files that are read by their names, standard output, and what was told on standard error
 pub record MergeSide (P S W : Type 0) : Type 0 where
   pub port : P
@@ -81,14 +64,7 @@ pub record MendSide (P W : Type 0) : Type 0 where
   pub output : Calls W
   pub told : KnownTelling
 
--- standard input and output and the port
-pub record Surroundings (R W P : Type 0) : Type 0 where
-  pub input : Calls R
-  pub output : Calls W
-  pub port : P
-  pub told : KnownTelling
-
--- all of these
+-- standard input and output, the port, the files that are read by their names, and what was told on standard error
 pub record Outside (R W P S : Type 0) : Type 0 where
   pub input : Calls R
   pub output : Calls W
@@ -96,23 +72,11 @@ pub record Outside (R W P S : Type 0) : Type 0 where
   pub sources : S
   pub told : KnownTelling
 
-abbrev pub streams : {R W : Type 0} → Calls R → Calls W → KnownTelling → Streams R W
-streams input output told = record { input = input; output = output; told = told }
-
-abbrev pub port_side : {P : Type 0} → P → KnownTelling → PortSide P
-port_side port told = record { port = port; told = told }
-
-abbrev pub sourcing : {S W : Type 0} → S → Calls W → KnownTelling → Sourcing S W
-sourcing sources output told = record { sources = sources; output = output; told = told }
-
 abbrev pub merge_side : {P S W : Type 0} → P → S → Calls W → KnownTelling → MergeSide P S W
 merge_side port sources output told = record { port = port; sources = sources; output = output; told = told }
 
 abbrev pub mend_side : {P W : Type 0} → P → Calls W → KnownTelling → MendSide P W
 mend_side port output told = record { port = port; output = output; told = told }
-
-abbrev pub surroundings : {R W P : Type 0} → Calls R → Calls W → P → KnownTelling → Surroundings R W P
-surroundings input output port told = record { input = input; output = output; port = port; told = told }
 
 abbrev pub outside : {R W P S : Type 0} → Calls R → Calls W → P → S → KnownTelling → Outside R W P S
 outside input output port sources told = record { input = input; output = output; port = port; sources = sources; told = told }
@@ -150,10 +114,10 @@ module _ {W : Type 0} (contents : W → Option (List ℕ)) where
 -- ---- the status of a job
 
 -- That of an answer to `show`, which says what was read, what was written and what is told.
-pub record IsStatusOfShow {R W : Type 0} (remaining : R → Option (List ℕ)) (contents : W → Option (List ℕ)) (status : ℕ) (before after : Streams R W) : Type 0 where
+pub record IsStatusOfShow {R W P S : Type 0} (remaining : R → Option (List ℕ)) (contents : W → Option (List ℕ)) (status : ℕ) (before after : Outside R W P S) : Type 0 where
   pub answer : Result (Unit {0}) ShowFault
-  pub exact : status ≡ shown_status answer
-  pub told_line : TellsMore before.told after.told (shown_telling answer)
+  pub exact : status ≡ answer_status show_status answer
+  pub told_line : TellsMore before.told after.told (answer_telling show_message answer)
   pub shown : OnOk answer (OnBytes remaining before.input (ShowsLog contents before.output after.output))
   pub refused : IfErr answer (λ e. IsOfInput e → OnBytes remaining before.input (λ bytes. log_of MAX_LIMIT bytes ≡ Err e))
   pub nothing : IfErr answer (λ e. e ≢ fault.Write → e ≢ fault.Memory → WritesNothing contents before.output after.output)
@@ -165,24 +129,24 @@ pub record IsStatusOfShow {R W : Type 0} (remaining : R → Option (List ℕ)) (
   pub writes : CountsAs fault.Write answer before.output after.output
 
 -- That of an answer to `compact`, which says what became of the log of its name, where that is told, and what is told.
-pub record IsStatusOfCompact {P : Type 0} (standing : P → List ℕ → Option Standing) (failures : P → ℕ) (c : Note) (status : ℕ) (before after : PortSide P) : Type 0 where
+pub record IsStatusOfCompact {P : Type 0} (standing : P → List ℕ → Option Standing) (failures : P → ℕ) (c : Note) (status : ℕ) (before after : P) (told telling : KnownTelling) : Type 0 where
   pub answer : Result (Unit {0}) ShowFault
-  pub exact : status ≡ shown_status answer
-  pub told_line : TellsMore before.told after.told (shown_telling answer)
-  pub keeps : OnOk answer (IfSome (standing before.port (string_bytes c.name)) (λ s. EndsWell c.flag s (standing after.port (string_bytes c.name))))
-  pub refused : IfErr answer (λ e. IsOfInput e → IfSome (standing before.port (string_bytes c.name)) (λ s. (log_of MAX_LIMIT s.log ≡ Err e) × (standing after.port (string_bytes c.name) ≡ Some (left s))))
-  pub begun : OnErr answer (IfSome (standing before.port (string_bytes c.name)) (λ s. EndsEarly c.flag s (standing after.port (string_bytes c.name))))
-  pub untouched : IfErr answer (λ e. e ≢ fault.Write → e ≢ fault.Memory → IfSome (standing before.port (string_bytes c.name)) (λ s. StaysSame s (standing after.port (string_bytes c.name))))
-  pub others : SameElsewhere (string_bytes c.name) (standing before.port) (standing after.port)
-  pub device : failures after.port ≡ failures_after_compaction answer (failures before.port)
+  pub exact : status ≡ answer_status show_status answer
+  pub told_line : TellsMore told telling (answer_telling show_message answer)
+  pub keeps : OnOk answer (IfSome (standing before (string_bytes c.name)) (λ s. EndsWell c.flag s (standing after (string_bytes c.name))))
+  pub refused : IfErr answer (λ e. IsOfInput e → IfSome (standing before (string_bytes c.name)) (λ s. (log_of MAX_LIMIT s.log ≡ Err e) × (standing after (string_bytes c.name) ≡ Some (left s))))
+  pub begun : OnErr answer (IfSome (standing before (string_bytes c.name)) (λ s. EndsEarly c.flag s (standing after (string_bytes c.name))))
+  pub untouched : IfErr answer (λ e. e ≢ fault.Write → e ≢ fault.Memory → IfSome (standing before (string_bytes c.name)) (λ s. StaysSame s (standing after (string_bytes c.name))))
+  pub others : SameElsewhere (string_bytes c.name) (standing before) (standing after)
+  pub device : failures after ≡ failures_after_compaction answer (failures before)
 
-module _ {S W : Type 0} (files : S → List ℕ → Option (List ℕ)) (contents : W → Option (List ℕ)) (failures : S → ℕ) where
+module _ {R W P S : Type 0} (files : S → List ℕ → Option (List ℕ)) (contents : W → Option (List ℕ)) (failures : S → ℕ) where
   -- That of an answer to a job that reads the log with this name and writes what it makes of it, which says what was written,
   -- where what stands in the log is told, why nothing was, and what is told.
-  pub record IsStatusOfLog (log : List ℕ) (Written Begun : List ℕ → Type 0) (Refused : List ℕ → ShowFault → Type 0) (status : ℕ) (before after : Sourcing S W) : Type 0 where
+  pub record IsStatusOfLog (log : List ℕ) (Written Begun : List ℕ → Type 0) (Refused : List ℕ → ShowFault → Type 0) (status : ℕ) (before after : Outside R W P S) : Type 0 where
     pub answer : Result (Unit {0}) ShowFault
-    pub exact : status ≡ shown_status answer
-    pub told_line : TellsMore before.told after.told (source_telling log answer)
+    pub exact : status ≡ answer_status show_status answer
+    pub told_line : TellsMore before.told after.told (answer_telling (source_message log) answer)
     pub written : OnOk answer (IfSome (files before.sources log) Written)
     pub refused : IfErr answer (λ e. IsOfInput e → IfSome (files before.sources log) (λ bytes. Refused bytes e))
     pub unwritten : IfErr answer (λ e. e ≢ fault.Write → after.output ≡ before.output)
@@ -192,7 +156,7 @@ module _ {S W : Type 0} (files : S → List ℕ → Option (List ℕ)) (contents
     pub writes : CountsAs fault.Write answer before.output after.output
 
   -- of `show` with a name: the text of the log, or of its first lines
-  abbrev pub IsStatusOfFront : List ℕ → Option ℕ → ℕ → Sourcing S W → Sourcing S W → Type 0
+  abbrev pub IsStatusOfFront : List ℕ → Option ℕ → ℕ → Outside R W P S → Outside R W P S → Type 0
   IsStatusOfFront name lines status before after =
       IsStatusOfLog (log_name name)
       (λ bytes. IsReadable (front_of lines bytes) × Writes contents before.output after.output (shown_bytes (log_content (front_of lines bytes))))
@@ -200,7 +164,7 @@ module _ {S W : Type 0} (files : S → List ℕ → Option (List ℕ)) (contents
       (λ bytes e. note_of MAX_LIMIT (front_of lines bytes) ≡ Err e) status before after
 
   -- of `who`: the text of the log by those who wrote it
-  abbrev pub IsStatusOfWho : Note → ℕ → Sourcing S W → Sourcing S W → Type 0
+  abbrev pub IsStatusOfWho : Note → ℕ → Outside R W P S → Outside R W P S → Type 0
   IsStatusOfWho n status before after =
       IsStatusOfLog (log_name (string_bytes n.name))
       (λ bytes. WritesAbout contents before.output after.output bytes (authors_bytes n.flag (log_content bytes)))
@@ -208,7 +172,7 @@ module _ {S W : Type 0} (files : S → List ℕ → Option (List ℕ)) (contents
       (λ bytes e. read_of bytes ≡ Err e) status before after
 
   -- of `claims`: the claims of what the log holds
-  abbrev pub IsStatusOfClaims : List ℕ → ℕ → Sourcing S W → Sourcing S W → Type 0
+  abbrev pub IsStatusOfClaims : List ℕ → ℕ → Outside R W P S → Outside R W P S → Type 0
   IsStatusOfClaims name status before after =
       IsStatusOfLog (log_source name)
       (λ bytes. TellsClaims contents before.output after.output bytes)
@@ -217,10 +181,10 @@ module _ {S W : Type 0} (files : S → List ℕ → Option (List ℕ)) (contents
 
   -- That of an answer to `missing`, which says what was written of what the claims on standard input lack, whether they or
   -- the log are refused, and what is told.
-  pub record IsStatusOfMissing (name : List ℕ) (status : ℕ) (before after : Sourcing S W) : Type 0 where
+  pub record IsStatusOfMissing (name : List ℕ) (status : ℕ) (before after : Outside R W P S) : Type 0 where
     pub answer : Result ℕ MissingFault
-    pub exact : status ≡ sent_status answer
-    pub told_line : TellsMore before.told after.told (sent_telling (log_source name) answer)
+    pub exact : status ≡ answer_status missing_status answer
+    pub told_line : TellsMore before.told after.told (answer_telling (missing_message (log_source name)) answer)
     pub written : IfOk answer (λ number. OnBoth (files before.sources (codes "-")) (files before.sources (log_source name))
         (λ claims log. WritesMissing contents before.output after.output claims log number))
     pub claims : IfErr answer (λ e. IsOfClaims e → IfSome (files before.sources (codes "-")) (λ bytes. claims_heard bytes ≡ Err e))
@@ -234,10 +198,10 @@ module _ {S W : Type 0} (files : S → List ℕ → Option (List ℕ)) (contents
     pub writes : CountsAs missing.Write answer before.output after.output
 
   -- That of an answer to `log`, which says what was written of what stands in the log and in the text.
-  pub record IsStatusOfNumbers (n : Note) (status : ℕ) (before after : Sourcing S W) : Type 0 where
+  pub record IsStatusOfNumbers (n : Note) (status : ℕ) (before after : Outside R W P S) : Type 0 where
     pub answer : Result (Unit {0}) ShowFault
-    pub exact : status ≡ shown_status answer
-    pub told_line : TellsMore before.told after.told (source_telling (log_name (string_bytes n.name)) answer)
+    pub exact : status ≡ answer_status show_status answer
+    pub told_line : TellsMore before.told after.told (answer_telling (source_message (log_name (string_bytes n.name))) answer)
     pub written : OnOk answer (WritesNumbers contents before.output after.output n.flag (string_bytes n.name) (files before.sources (log_name (string_bytes n.name))) (files before.sources (string_bytes n.name)))
     pub refused : IfErr answer (λ e. IsOfInput e → IfSome (files before.sources (log_name (string_bytes n.name))) (λ bytes. read_of bytes ≡ Err e))
     pub unwritten : IfErr answer (λ e. e ≢ fault.Write → after.output ≡ before.output)
@@ -249,10 +213,10 @@ module _ {S W : Type 0} (files : S → List ℕ → Option (List ℕ)) (contents
     pub writes : CountsAs fault.Write answer before.output after.output
 
   -- That of an answer to `join`, which says what was written of the logs, which of them is refused, and what is told.
-  pub record IsStatusOfJoin (names : List (List ℕ)) (status : ℕ) (before after : Sourcing S W) : Type 0 where
+  pub record IsStatusOfJoin (names : List (List ℕ)) (status : ℕ) (before after : Outside R W P S) : Type 0 where
     pub answer : Result (Unit {0}) JoinFault
-    pub exact : status ≡ joined_status answer
-    pub told_line : TellsMore before.told after.told (joined_telling names answer)
+    pub exact : status ≡ answer_status join_status answer
+    pub told_line : TellsMore before.told after.told (answer_telling (join_message names) answer)
     pub joined : OnOk answer (OnLogs (files before.sources) names (λ logs. Joins contents before.output after.output logs))
     pub refused : IfErr answer (λ e. IsOfLog e → OnLogs (files before.sources) names (λ logs. join_of MAX_LIMIT logs ≡ Err e))
     pub named : IfErr answer (λ e. NamesOneOf (length names) e)
@@ -323,59 +287,52 @@ abbrev pub IsEdited : {R W : Type 0} → (R → Option (List ℕ)) → (W → Op
 IsEdited remaining contents settings answer failed faults before after =
     MatchBool settings.live (IsLiveSession remaining contents settings answer failed faults before after) (IsSession remaining contents settings answer before after)
 
-module _ {R W P : Type 0} (k : Knowledge R W P) where
-  -- That of an answer of a session, which says what became of the keys, which device failed and what is told.
-  pub record IsStatusOfEdit (settings : Values) (status : ℕ) (before after : Surroundings R W P) : Type 0 where
-    pub answer : Result (Unit {0}) SessionFault
-    pub exact : status ≡ edited_status answer
-    pub told_line : TellsMore before.told after.told (edited_telling answer)
-    pub ran : IsEdited k.remaining k.contents settings answer (k.failures before.port) (k.failures after.port)
-        (devices before.input before.output (k.calls before.port)) (devices after.input after.output (k.calls after.port))
-    pub flushed : StaysFlushed session.Screen answer before.output after.output
-    pub keys : CountsAs session.Keys answer before.input after.input
-    pub screen : CountsAs session.Screen answer before.output after.output
-    pub file : answer ≡ Err session.File → k.failures after.port ≡ one_more (k.failures before.port)
+-- That of an answer of a session, which says what became of the keys, which device failed and what is told.
+pub record IsStatusOfEdit {R W P S : Type 0} (k : Knowledge R W P) (settings : Values) (status : ℕ) (before after : Outside R W P S) : Type 0 where
+  pub answer : Result (Unit {0}) SessionFault
+  pub exact : status ≡ answer_status session_status answer
+  pub told_line : TellsMore before.told after.told (answer_telling session_message answer)
+  pub ran : IsEdited k.remaining k.contents settings answer (k.failures before.port) (k.failures after.port)
+      (devices before.input before.output (k.calls before.port)) (devices after.input after.output (k.calls after.port))
+  pub flushed : StaysFlushed session.Screen answer before.output after.output
+  pub keys : CountsAs session.Keys answer before.input after.input
+  pub screen : CountsAs session.Screen answer before.output after.output
+  pub file : answer ≡ Err session.File → k.failures after.port ≡ one_more (k.failures before.port)
 
 module _ {R W P S : Type 0} (k : Knowledge R W P) (files : S → List ℕ → Option (List ℕ)) (failures : S → ℕ) where
   -- standard input and the port are as they were
   abbrev pub OnlyReads : Outside R W P S → Outside R W P S → Type 0
   OnlyReads before after = (after.input ≡ before.input) × (after.port ≡ before.port)
 
-  -- the files, standard output and what was told
-  abbrev pub read_side : Outside R W P S → Sourcing S W
-  read_side o = sourcing o.sources o.output o.told
-
-  -- the port beside them
+  -- the port, the files, standard output and what was told
   abbrev pub port_sides : Outside R W P S → MergeSide P S W
   port_sides o = merge_side o.port o.sources o.output o.told
 
   -- of a job: each has to do with some of them alone
   abbrev pub IsStatusOfJob : Job → ℕ → Outside R W P S → Outside R W P S → Type 0
   IsStatusOfJob (Show Input) status before after =
-      IsStatusOfShow k.remaining k.contents status (streams before.input before.output before.told) (streams after.input after.output after.told) × (after.port ≡ before.port)
-      × (after.sources ≡ before.sources)
+      IsStatusOfShow k.remaining k.contents status before after × (after.port ≡ before.port) × (after.sources ≡ before.sources)
   IsStatusOfJob (Show (Front name lines)) status before after =
-      IsStatusOfFront files k.contents failures (string_bytes name) lines status (read_side before) (read_side after) × OnlyReads before after
+      IsStatusOfFront files k.contents failures (string_bytes name) lines status before after × OnlyReads before after
   IsStatusOfJob (Edit settings) status before after =
-      IsStatusOfEdit k settings status (surroundings before.input before.output before.port before.told) (surroundings after.input after.output after.port after.told)
-      × (after.sources ≡ before.sources)
+      IsStatusOfEdit k settings status before after × (after.sources ≡ before.sources)
   IsStatusOfJob (Compact c) status before after =
-      IsStatusOfCompact k.standing k.log_failures c status (port_side before.port before.told) (port_side after.port after.told) × (after.input ≡ before.input)
+      IsStatusOfCompact k.standing k.log_failures c status before.port after.port before.told after.told × (after.input ≡ before.input)
       × (after.output ≡ before.output) × (after.sources ≡ before.sources)
   IsStatusOfJob (Join names) status before after =
-      IsStatusOfJoin files k.contents failures (map string_bytes names.items) status (read_side before) (read_side after) × OnlyReads before after
-  IsStatusOfJob (Log n) status before after = IsStatusOfNumbers files k.contents failures n status (read_side before) (read_side after) × OnlyReads before after
+      IsStatusOfJoin files k.contents failures (map string_bytes names.items) status before after × OnlyReads before after
+  IsStatusOfJob (Log n) status before after = IsStatusOfNumbers files k.contents failures n status before after × OnlyReads before after
   IsStatusOfJob (Claims name) status before after =
-      IsStatusOfClaims files k.contents failures (string_bytes name) status (read_side before) (read_side after) × OnlyReads before after
+      IsStatusOfClaims files k.contents failures (string_bytes name) status before after × OnlyReads before after
   IsStatusOfJob (Missing name) status before after =
-      IsStatusOfMissing files k.contents failures (string_bytes name) status (read_side before) (read_side after) × OnlyReads before after
+      IsStatusOfMissing files k.contents failures (string_bytes name) status before after × OnlyReads before after
   IsStatusOfJob (Merge m) status before after =
       IsStatusOfMerge k.calls k.failures files failures k.contents (string_bytes m.name) (map string_bytes m.logs.items) m.adopt status (port_sides before) (port_sides after)
       × (after.input ≡ before.input)
   IsStatusOfJob (Mend name) status before after =
       IsStatusOfMend k.calls k.standing k.refused k.failures k.log_failures k.contents (string_bytes name) status (mend_side before.port before.output before.told) (mend_side after.port after.output after.told)
       × (after.input ≡ before.input) × (after.sources ≡ before.sources)
-  IsStatusOfJob (Who n) status before after = IsStatusOfWho files k.contents failures n status (read_side before) (read_side after) × OnlyReads before after
+  IsStatusOfJob (Who n) status before after = IsStatusOfWho files k.contents failures n status before after × OnlyReads before after
 
 module _ {W : Type 0} (contents : W → Option (List ℕ)) where
   -- the exit status once the fault was told

@@ -1,5 +1,5 @@
 //! What the shell is told of a fault.
-ghost use Rattle.std.specs.Prelude.{◌≡◌, Some, codes};
+ghost use Rattle.std.specs.Prelude.{◌≡◌, Some};
 ghost use Rattle.mgr.specs.Report as spec;
 
 use mg_files::LoadFault;
@@ -53,26 +53,16 @@ impl fmt::Display for Report {
 
 impl Report {
     /// A device failed.
-    pub(crate) fn device() -> Report
-        ensures status { result.status ≡ 3 }
-        ensures message { result.message ≡ Message.Device }
-    {
-        Report {
-            status: 3,
-            message: Message::Device,
-        }
-    }
+    pub(crate) const DEVICE: Report = Report {
+        status: 3,
+        message: Message::Device,
+    };
 
     /// A growth of memory was refused.
-    pub(crate) fn memory() -> Report
-        ensures status { result.status ≡ 4 }
-        ensures message { result.message ≡ Message.Memory }
-    {
-        Report {
-            status: 4,
-            message: Message::Memory,
-        }
-    }
+    pub(crate) const MEMORY: Report = Report {
+        status: 4,
+        message: Message::Memory,
+    };
 
     /// What the shell is told of a fault of `mgr show`, or of `mgr compact`. It takes no memory.
     ///
@@ -84,20 +74,12 @@ impl Report {
         ensures text { spec.report_text result.message ≡ spec.show_message fault.now }
     {
         match *fault {
-            ShowFault::Memory => Report::memory(),
             ShowFault::Line(line, fault) => of_line(line, fault),
             ShowFault::Refused(line, refusal) => of_refused(line, refusal),
             ShowFault::Torn(line) => refused(Message::Line(line, "Torn")),
-            ShowFault::Read | ShowFault::Write => Report::device(),
+            ShowFault::Read | ShowFault::Write => Report::DEVICE,
+            ShowFault::Memory => Report::MEMORY,
         }
-    }
-
-    /// Claims do not begin with their head.
-    pub(crate) fn no_head() -> Report
-        ensures status { result.status ≡ 1 }
-        ensures text { spec.report_text result.message ≡ codes "claims: no head" }
-    {
-        refused(Message::File("claims", "no head"))
     }
 
     /// What the shell is told of claims that are refused or can't be read. It takes no memory.
@@ -109,34 +91,15 @@ impl Report {
         ensures text { spec.report_text result.message ≡ spec.claims_message fault }
     {
         match fault {
-            ReceiveFault::Line(_, LineFault::Memory) => Report::memory(),
+            ReceiveFault::Line(_, LineFault::Memory)
+            | ReceiveFault::Refused(_, Refusal::Memory)
+            | ReceiveFault::Memory => Report::MEMORY,
             ReceiveFault::Line(line, fault) => refused(Message::Claim(line, fault.name())),
-            ReceiveFault::Refused(_, Refusal::Memory) => Report::memory(),
             ReceiveFault::Refused(line, refusal) => refused(Message::Claim(line, refusal.name())),
             ReceiveFault::Cut => refused(Message::File("claims", "Cut")),
             ReceiveFault::Count => refused(Message::File("claims", "Count")),
-            ReceiveFault::Read => Report::device(),
-            ReceiveFault::Memory => Report::memory(),
+            ReceiveFault::Read => Report::DEVICE,
         }
-    }
-
-    /// A last line, which has this number, was cut off, and left out.
-    pub(crate) fn torn(line: u64) -> Report
-        ensures { spec.report_text result.message
-            ≡ spec.line_report line (codes "Torn: left out") }
-    {
-        Report {
-            status: 0,
-            message: Message::Line(line, "Torn: left out"),
-        }
-    }
-
-    /// Logs are not merged into a note, or not joined, for this reason.
-    pub(crate) fn of_note(why: &'static str) -> Report
-        ensures status { result.status ≡ 1 }
-        ensures text { spec.report_text result.message ≡ why.entry.now }
-    {
-        refused(Message::Note(why))
     }
 
     /// What stands under a name is not loaded. It takes no memory.
@@ -145,9 +108,15 @@ impl Report {
         ensures text { spec.report_text result.message ≡ spec.load_message fault }
     {
         match fault {
-            LoadFault::Log(fault) => of_log(fault),
+            LoadFault::Log(ReceiveFault::Line(line, fault)) => of_line(line, fault),
+            LoadFault::Log(ReceiveFault::Refused(line, refusal)) => of_refused(line, refusal),
+            LoadFault::Log(ReceiveFault::Cut) => refused(Message::File("log", "Cut")),
+            LoadFault::Log(ReceiveFault::Count) => refused(Message::File("log", "Count")),
+            LoadFault::Log(ReceiveFault::Read) => Report::DEVICE,
+            LoadFault::Log(ReceiveFault::Memory)
+            | LoadFault::Store(Refusal::Memory)
+            | LoadFault::Memory => Report::MEMORY,
             LoadFault::NotText => refused(Message::File("text", "not UTF-8")),
-            LoadFault::Store(Refusal::Memory) | LoadFault::Memory => Report::memory(),
             LoadFault::Store(refusal) => refused(Message::File("text", refusal.name())),
         }
     }
@@ -165,15 +134,19 @@ impl Report {
     {
         match *fault {
             SessionFault::Load(fault) => Report::of_load(fault),
-            SessionFault::File | SessionFault::Keys | SessionFault::Screen => Report::device(),
-            SessionFault::Memory => Report::memory(),
-            SessionFault::Failed(why) => of_failure(why),
+            SessionFault::Failed(Failure::Line(line, fault)) => of_line(line, fault),
+            SessionFault::Failed(Failure::Refused(line, refusal)) => of_refused(line, refusal),
+            SessionFault::File
+            | SessionFault::Keys
+            | SessionFault::Screen
+            | SessionFault::Failed(Failure::Device) => Report::DEVICE,
+            SessionFault::Memory | SessionFault::Failed(Failure::Memory) => Report::MEMORY,
         }
     }
 }
 
 /// The input is refused.
-fn refused(message: Message) -> Report
+pub(crate) fn refused(message: Message) -> Report
     ensures status { result.status ≡ 1 }
     ensures message { result.message ≡ message }
 {
@@ -185,7 +158,7 @@ fn of_line(line: u64, fault: LineFault) -> Report
     ensures text { spec.report_text result.message ≡ spec.line_message line fault }
 {
     match fault {
-        LineFault::Memory => Report::memory(),
+        LineFault::Memory => Report::MEMORY,
         _ => refused(Message::Line(line, fault.name())),
     }
 }
@@ -195,33 +168,7 @@ fn of_refused(line: u64, refusal: Refusal) -> Report
     ensures text { spec.report_text result.message ≡ spec.refused_message line refusal }
 {
     match refusal {
-        Refusal::Memory => Report::memory(),
+        Refusal::Memory => Report::MEMORY,
         _ => refused(Message::Line(line, refusal.name())),
-    }
-}
-
-fn of_failure(why: Failure) -> Report
-    ensures status { result.status ≡ spec.failure_status why }
-    ensures text { spec.report_text result.message ≡ spec.failure_message why }
-{
-    match why {
-        Failure::Device => Report::device(),
-        Failure::Line(line, fault) => of_line(line, fault),
-        Failure::Refused(line, refusal) => of_refused(line, refusal),
-        Failure::Memory => Report::memory(),
-    }
-}
-
-fn of_log(fault: ReceiveFault) -> Report
-    ensures status { result.status ≡ spec.log_status fault }
-    ensures text { spec.report_text result.message ≡ spec.log_message fault }
-{
-    match fault {
-        ReceiveFault::Line(line, fault) => of_line(line, fault),
-        ReceiveFault::Refused(line, refusal) => of_refused(line, refusal),
-        ReceiveFault::Cut => refused(Message::File("log", "Cut")),
-        ReceiveFault::Count => refused(Message::File("log", "Count")),
-        ReceiveFault::Read => Report::device(),
-        ReceiveFault::Memory => Report::memory(),
     }
 }

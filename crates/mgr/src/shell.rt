@@ -4,18 +4,19 @@ ghost use Rattle.std.specs.Prelude.{Err, IfErr, MatchResult, option_map};
 ghost use Rattle.rga_exchange.specs.Counting.{CountsAs, StaysFlushed, one_more};
 ghost use Rattle.mg_session.specs.Running.{devices};
 ghost use Rattle.mg_session.specs.declared.fault.SessionFault.TheVariants as session;
-ghost use Rattle.mgr.specs.Report.{join_message, join_status, merge_message, merge_status, missing_message};
-ghost use Rattle.mgr.specs.Report.{missing_status, named_text, report_text, show_status, source_message, torn_message};
+ghost use Rattle.mgr.specs.Report.{answer_status, join_message, join_status, merge_message, merge_status};
+ghost use Rattle.mgr.specs.Report.{missing_message, missing_status, named_text, report_text, show_status};
+ghost use Rattle.mgr.specs.Report.{session_message, session_status, show_message, source_message, torn_message};
 ghost use Rattle.mgr_show.specs.Note.{log_name, log_source};
-ghost use Rattle.mgr.specs.Telling.{TellsMore, line, torn_telling};
+ghost use Rattle.mgr.specs.Telling.{TellsMore, answer_telling, line, torn_telling};
 ghost use Rattle.mgr.specs.Status as status;
 ghost use Rattle.mgr.specs.Peers as spec;
 
 use crate::printed::{Count, Mending};
-use crate::report::Report;
+use crate::report::{Message, Report, refused};
 use crate::sources::PathFiles;
 use crate::streams::hold_closed;
-use crate::tell::{StandardError, Tell};
+use crate::tell::Tell;
 use mg_files::Port;
 use mg_live::run_live;
 use mg_screen::Settings;
@@ -32,8 +33,7 @@ use rga_flat::FlatStore;
 use std::alloc::Global;
 use std::fmt::Display;
 use std::fs::File;
-use std::io;
-use std::io::{Read, Write};
+use std::io::{self, Read, Write};
 use std::net::Net;
 use std::rt::{Env, Files};
 
@@ -53,7 +53,7 @@ pub fn run<R: Env + Files<File = File> + Net + AllocGlobal + Input + Print + Epr
     let mut writer = Counted::new(io::writer(rt));
     let mut port = FilePort::new(rt, port_number(&job));
     let mut sources = PathFiles::new(rt, reads_streams(&job));
-    let mut errors = StandardError::new(rt);
+    let mut errors = rt;
     do_job(
         rt.alloc(),
         &job,
@@ -114,79 +114,37 @@ pub fn do_job<R: Read, W: Write, P: Port + Logs, S: Sources, T: Tell>(
     ensures bound { result ≤ 4 }
 {
     match job {
-        Ok(Job::Show(Shown::Input)) => show(alloc, reader, writer, errors),
+        Ok(Job::Show(Shown::Input)) => told_of_show(errors, show_ops(alloc, reader, writer)),
         Ok(Job::Show(Shown::Front(name, lines))) => {
-            show_front(alloc, name, *lines, sources, writer, errors)
+            let answer = show_note(alloc, sources, name, *lines, writer);
+            told_of_note(errors, name, answer)
         }
-        Ok(Job::Edit(settings)) => edit(alloc, settings, reader, writer, port, errors),
+        Ok(Job::Edit(settings)) => {
+            let answer = run_session(alloc, settings, reader, writer, port);
+            told_of_session(errors, answer)
+        }
         Ok(Job::Compact(note)) => compact(alloc, note, port, errors),
-        Ok(Job::Join(names)) => join(alloc, names, sources, writer, errors),
-        Ok(Job::Log(note)) => numbers(alloc, note, sources, writer, errors),
-        Ok(Job::Who(note)) => who(alloc, note, sources, writer, errors),
-        Ok(Job::Claims(name)) => claims(alloc, name, sources, writer, errors),
-        Ok(Job::Missing(name)) => missing(alloc, name.as_str(), sources, writer, errors),
+        Ok(Job::Join(names)) => {
+            told_of_logs(errors, names, join_logs(alloc, sources, names, writer))
+        }
+        Ok(Job::Log(note)) => {
+            let answer = write_numbers(alloc, sources, &note.name, note.flag, writer);
+            told_of_note(errors, &note.name, answer)
+        }
+        Ok(Job::Who(note)) => {
+            let answer = write_authors(alloc, sources, &note.name, note.flag, writer);
+            told_of_note(errors, &note.name, answer)
+        }
+        Ok(Job::Claims(name)) => {
+            told_of_source(errors, name, write_claims(alloc, sources, name, writer))
+        }
+        Ok(Job::Missing(name)) => {
+            let answer = write_missing(alloc, sources, name, "-", writer);
+            told_of_missing(errors, name, answer)
+        }
         Ok(Job::Mend(name)) => mend(alloc, name.as_str(), port, writer, errors),
         Ok(Job::Merge(merging)) => merge(alloc, merging, port, sources, writer, errors),
         Err(fault) => refuse(alloc, fault, writer, errors),
-    }
-}
-
-fn show<R: Read, W: Write, T: Tell>(
-    alloc: Global,
-    reader: &mut Counted<R>,
-    writer: &mut Counted<W>,
-    errors: &mut T,
-) -> u8
-    ensures status { status.IsStatusOfShow R.remaining W.contents result
-        (status.streams reader.old writer.old (T.told errors.old))
-        (status.streams reader.new writer.new (T.told errors.new)) }
-    ensures bound { result ≤ 4 }
-{
-    match show_ops(alloc, reader, writer) {
-        Ok(()) => 0,
-        Err(fault) => told(errors, Report::of_show(&fault)),
-    }
-}
-
-/// The text of a note, or of the first lines of its log.
-fn show_front<S: Sources, W: Write, T: Tell>(
-    alloc: Global,
-    name: &str,
-    lines: Option<u64>,
-    sources: &mut S,
-    writer: &mut Counted<W>,
-    errors: &mut T,
-) -> u8
-    ensures status { status.IsStatusOfFront S.contents W.contents S.failures name.now lines result
-        (status.sourcing sources.old writer.old (T.told errors.old))
-        (status.sourcing sources.new writer.new (T.told errors.new)) }
-    ensures bound { result ≤ 4 }
-{
-    match show_note(alloc, sources, name, lines, writer) {
-        Ok(()) => 0,
-        Err(fault) => told_of_note(errors, name, &fault),
-    }
-}
-
-fn edit<R: Read, W: Write, P: Port + Logs, T: Tell>(
-    alloc: Global,
-    settings: &Settings,
-    reader: &mut Counted<R>,
-    writer: &mut Counted<W>,
-    port: &mut P,
-    errors: &mut T,
-) -> u8
-    ensures status { status.IsStatusOfEdit
-        (status.known R.remaining W.contents P.calls P.Port.failures P.standing P.refused
-        P.Logs.failures)
-        settings.now result
-        (status.surroundings reader.old writer.old port.old (T.told errors.old))
-        (status.surroundings reader.new writer.new port.new (T.told errors.new)) }
-    ensures bound { result ≤ 4 }
-{
-    match run_session(alloc, settings, reader, writer, port) {
-        Ok(()) => 0,
-        Err(fault) => told(errors, Report::of_session(&fault)),
     }
 }
 
@@ -214,52 +172,25 @@ fn run_session<R: Read, W: Write, P: Port>(
     }
 }
 
-fn compact<P: Logs, T: Tell>(alloc: Global, note: &Note, port: &mut P, errors: &mut T) -> u8
-    ensures status { status.IsStatusOfCompact P.standing P.failures note.now result
-        (status.port_side port.old (T.told errors.old)) (status.port_side port.new (T.told errors.new)) }
-    ensures bound { result ≤ 4 }
-{
-    match compact_note(alloc, port, note.name.as_str(), note.flag) {
-        Ok(()) => 0,
-        Err(fault) => told(errors, Report::of_show(&fault)),
-    }
-}
-
-fn join<S: Sources, W: Write, T: Tell>(
-    alloc: Global,
-    names: &Vec<String>,
-    sources: &mut S,
-    writer: &mut Counted<W>,
-    errors: &mut T,
-) -> u8
-    ensures status { status.IsStatusOfJoin S.contents W.contents S.failures
-        (map string_bytes names.now.items) result
-        (status.sourcing sources.old writer.old (T.told errors.old))
-        (status.sourcing sources.new writer.new (T.told errors.new)) }
-    ensures bound { result ≤ 4 }
-{
-    match join_logs(alloc, sources, names, writer) {
-        Ok(()) => 0,
-        Err(fault) => told_of_logs(errors, names, fault),
-    }
-}
-
-/// Tells of the fault of a join, and answers its exit status.
-fn told_of_logs<T: Tell>(errors: &mut T, names: &[String], fault: JoinFault) -> u8
-    ensures status { result ≡ join_status fault }
+/// Tells of the fault of a join, if there is one, and answers its exit status.
+fn told_of_logs<T: Tell>(errors: &mut T, names: &[String], answer: Result<(), JoinFault>) -> u8
+    ensures status { result ≡ answer_status join_status answer }
     ensures told { TellsMore (T.told errors.old) (T.told errors.new)
-        (line (join_message (map string_bytes names.now) fault) ∷ []) }
+        (answer_telling (join_message (map string_bytes names.now)) answer) }
 {
-    match fault {
-        JoinFault::Log(index, fault) => {
+    match answer {
+        Ok(()) => 0,
+        Err(JoinFault::Log(index, fault)) => {
             told_of_log(errors, names.get(index), Report::of_show(&fault))
         }
-        JoinFault::Far => told(
-            errors,
-            Report::of_note("counter far above the number of identifiers"),
-        ),
-        JoinFault::Write => told(errors, Report::device()),
-        JoinFault::Memory => told(errors, Report::memory()),
+        Err(JoinFault::Far) => {
+            told(
+                errors,
+                refused(Message::Note("counter far above the number of identifiers")),
+            )
+        }
+        Err(JoinFault::Write) => told(errors, Report::DEVICE),
+        Err(JoinFault::Memory) => told(errors, Report::MEMORY),
     }
 }
 
@@ -277,96 +208,33 @@ fn told_of_log<T: Tell>(errors: &mut T, name: Option<&String>, report: Report) -
     report.status
 }
 
-fn numbers<S: Sources, W: Write, T: Tell>(
-    alloc: Global,
-    note: &Note,
-    sources: &mut S,
-    writer: &mut Counted<W>,
-    errors: &mut T,
-) -> u8
-    ensures status { status.IsStatusOfNumbers S.contents W.contents S.failures note.now result
-        (status.sourcing sources.old writer.old (T.told errors.old))
-        (status.sourcing sources.new writer.new (T.told errors.new)) }
-    ensures bound { result ≤ 4 }
-{
-    match write_numbers(alloc, sources, note.name.as_str(), note.flag, writer) {
-        Ok(()) => 0,
-        Err(fault) => told_of_note(errors, note.name.as_str(), &fault),
-    }
-}
-
-fn who<S: Sources, W: Write, T: Tell>(
-    alloc: Global,
-    note: &Note,
-    sources: &mut S,
-    writer: &mut Counted<W>,
-    errors: &mut T,
-) -> u8
-    ensures status { status.IsStatusOfWho S.contents W.contents S.failures note.now result
-        (status.sourcing sources.old writer.old (T.told errors.old))
-        (status.sourcing sources.new writer.new (T.told errors.new)) }
-    ensures bound { result ≤ 4 }
-{
-    match write_authors(alloc, sources, note.name.as_str(), note.flag, writer) {
-        Ok(()) => 0,
-        Err(fault) => told_of_note(errors, note.name.as_str(), &fault),
-    }
-}
-
-fn claims<S: Sources, W: Write, T: Tell>(
-    alloc: Global,
-    name: &String,
-    sources: &mut S,
-    writer: &mut Counted<W>,
-    errors: &mut T,
-) -> u8
-    ensures status { status.IsStatusOfClaims S.contents W.contents S.failures
-        (string_bytes name.now) result
-        (status.sourcing sources.old writer.old (T.told errors.old))
-        (status.sourcing sources.new writer.new (T.told errors.new)) }
-    ensures bound { result ≤ 4 }
-{
-    match write_claims(alloc, sources, name.as_str(), writer) {
-        Ok(()) => 0,
-        Err(fault) => told_of_source(errors, name.as_str(), &fault),
-    }
-}
-
-/// What the claims on standard input lack.
-fn missing<S: Sources, W: Write, T: Tell>(
-    alloc: Global,
-    name: &str,
-    sources: &mut S,
-    writer: &mut Counted<W>,
-    errors: &mut T,
-) -> u8
-    ensures status { status.IsStatusOfMissing S.contents W.contents S.failures name.now result
-        (status.sourcing sources.old writer.old (T.told errors.old))
-        (status.sourcing sources.new writer.new (T.told errors.new)) }
-    ensures bound { result ≤ 4 }
-{
-    match write_missing(alloc, sources, name, "-", writer) {
-        Ok(_) => 0,
-        Err(fault) => told_of_missing(errors, name, &fault),
-    }
-}
-
-/// Tells of the fault of what a note has and claims lack, and answers its exit status.
-fn told_of_missing<T: Tell>(errors: &mut T, name: &str, fault: &MissingFault) -> u8
-    ensures status { result ≡ missing_status fault.now }
+/// Tells of the fault of what a note has and claims lack, if there is one, and answers its exit
+/// status.
+fn told_of_missing<T: Tell>(errors: &mut T, name: &str, answer: Result<u64, MissingFault>) -> u8
+    ensures status { result ≡ answer_status missing_status answer }
     ensures told { TellsMore (T.told errors.old) (T.told errors.new)
-        (line (missing_message (log_source name.now) fault.now) ∷ []) }
+        (answer_telling (missing_message (log_source name.now)) answer) }
 {
-    match *fault {
-        MissingFault::Head => told(errors, Report::no_head()),
-        MissingFault::Claims(fault) => told(errors, Report::of_claims(fault)),
-        MissingFault::Log(fault) => told_of_source(errors, name, &fault),
-        MissingFault::Write => told(errors, Report::device()),
-        MissingFault::Memory => told(errors, Report::memory()),
+    match answer {
+        Ok(_) => 0,
+        Err(MissingFault::Head) => told(errors, refused(Message::File("claims", "no head"))),
+        Err(MissingFault::Claims(fault)) => told(errors, Report::of_claims(fault)),
+        Err(MissingFault::Log(fault)) => told_of_source(errors, name, Err(fault)),
+        Err(MissingFault::Write) => told(errors, Report::DEVICE),
+        Err(MissingFault::Memory) => told(errors, Report::MEMORY),
     }
 }
 
 /// Merges logs into a note, and then prints how many of their operations were new.
+fn compact<P: Logs, T: Tell>(alloc: Global, note: &Note, port: &mut P, errors: &mut T) -> u8
+    ensures status { status.IsStatusOfCompact P.standing P.failures note.now result port.old port.new
+        (T.told errors.old) (T.told errors.new) }
+    ensures bound { result ≤ 4 }
+{
+    let answer = compact_note(alloc, port, note.name.as_str(), note.flag);
+    told_of_show(errors, answer)
+}
+
 fn merge<P: Port, S: Sources, W: Write, T: Tell>(
     alloc: Global,
     merging: &Merging,
@@ -382,20 +250,14 @@ fn merge<P: Port, S: Sources, W: Write, T: Tell>(
         (status.merge_side port.new sources.new writer.new (T.told errors.new)) }
     ensures bound { result ≤ 4 }
 {
+    let name = merging.name.as_str();
     let logs = &merging.logs;
-    match merge_logs::<FlatStore, _, _>(
-        alloc,
-        port,
-        sources,
-        merging.name.as_str(),
-        logs,
-        merging.adopt,
-    ) {
+    match merge_logs::<FlatStore, _, _>(alloc, port, sources, name, logs, merging.adopt) {
         Ok(merged) => {
             tell_torn(errors, logs, &merged.torn);
             print(alloc, &Count(merged.new), writer, errors)
         }
-        Err(fault) => told_of_merge(errors, merging.name.as_str(), logs, fault),
+        Err(fault) => told_of_merge(errors, name, logs, fault),
     }
 }
 
@@ -413,7 +275,11 @@ fn tell_torn_line<T: Tell>(errors: &mut T, names: &[String], torn: Torn)
     ensures { TellsMore (T.told errors.old) (T.told errors.new)
         (line (torn_message (map string_bytes names.now) torn) ∷ []) }
 {
-    told_of_log(errors, names.get(torn.log), Report::torn(torn.line));
+    let report = Report {
+        status: 0,
+        message: Message::Line(torn.line, "Torn: left out"),
+    };
+    told_of_log(errors, names.get(torn.log), report);
 }
 
 /// Mends the log of a note, puts its text, and prints what was left out of the log.
@@ -432,7 +298,7 @@ fn mend<P: Port + Logs, W: Write, T: Tell>(
 {
     match mend_note(alloc, port, name) {
         Ok(left_out) => put_mended(alloc, name, left_out, port, writer, errors),
-        Err(fault) => told_of_note(errors, name, &fault),
+        Err(fault) => told_of_note(errors, name, Err(fault)),
     }
 }
 
@@ -476,28 +342,24 @@ fn told_of_merge<T: Tell>(errors: &mut T, name: &str, logs: &[String], fault: Me
         (line (merge_message name.now (map string_bytes logs.now) fault) ∷ []) }
 {
     match fault {
-        MergeFault::NoLog => told_of(errors, name, Report::of_note("text without a log")),
-        MergeFault::Load(fault) => told_of_its_log(errors, name, Report::of_load(fault)),
+        MergeFault::NoLog => told_of(errors, name, refused(Message::Note("text without a log"))),
+        MergeFault::Load(fault) => {
+            let report = Report::of_load(fault);
+            errors.tell_of_note(name, report);
+            report.status
+        }
         MergeFault::Log(at, fault) => told_of_named(errors, logs, at, Report::of_show(&fault)),
         MergeFault::Apart(at) => {
-            told_of_named(
-                errors,
-                logs,
-                at,
-                Report::of_note("a log of another note, which --adopt takes"),
-            )
+            let report = refused(Message::Note("a log of another note, which --adopt takes"));
+            told_of_named(errors, logs, at, report)
         }
         MergeFault::Far(at) => {
-            told_of_named(
-                errors,
-                logs,
-                at,
-                Report::of_note("counter far above the note's"),
-            )
+            let report = refused(Message::Note("counter far above the note's"));
+            told_of_named(errors, logs, at, report)
         }
-        MergeFault::TextStays => told_of(errors, name, Report::of_note(TEXT_STAYS)),
-        MergeFault::File => told(errors, Report::device()),
-        MergeFault::Memory => told(errors, Report::memory()),
+        MergeFault::TextStays => told_of(errors, name, refused(Message::Note(TEXT_STAYS))),
+        MergeFault::File => told(errors, Report::DEVICE),
+        MergeFault::Memory => told(errors, Report::MEMORY),
     }
 }
 
@@ -508,16 +370,6 @@ fn told_of<T: Tell>(errors: &mut T, name: &str, report: Report) -> u8
         (line (name.now ++ (codes ": " ++ report_text report.message)) ∷ []) }
 {
     errors.tell_of(name, report);
-    report.status
-}
-
-/// Tells of a fault of the log of the note with this name, and answers its exit status.
-fn told_of_its_log<T: Tell>(errors: &mut T, name: &str, report: Report) -> u8
-    ensures status { result ≡ report.status }
-    ensures told { TellsMore (T.told errors.old) (T.told errors.new)
-        (line (log_name name.now ++ (codes ": " ++ report_text report.message)) ∷ []) }
-{
-    errors.tell_of_note(name, report);
     report.status
 }
 
@@ -536,7 +388,7 @@ fn refuse<W: Write, T: Tell>(
             errors.tell_text(fault);
             job_status(fault)
         }
-        JobFault::Memory => told(errors, Report::memory()),
+        JobFault::Memory => told(errors, Report::MEMORY),
     }
 }
 
@@ -552,7 +404,7 @@ fn print<D: Display, W: Write, T: Tell>(
     ensures bound { result ≤ 4 }
 {
     let Ok(text) = text.to_string(alloc) else {
-        return told(errors, Report::memory());
+        return told(errors, Report::MEMORY);
     };
     match write_text(text.as_str(), writer) {
         Ok(()) => 0,
@@ -560,37 +412,66 @@ fn print<D: Display, W: Write, T: Tell>(
     }
 }
 
-/// Tells of the fault of a job that reads the log of a note, and answers its exit status.
-fn told_of_note<T: Tell>(errors: &mut T, name: &str, fault: &ShowFault) -> u8
-    ensures status { result ≡ show_status fault.now }
+/// Tells of the fault of a job that reads the log of a note, if there is one, and answers its exit
+/// status.
+fn told_of_note<T: Tell>(errors: &mut T, name: &str, answer: Result<(), ShowFault>) -> u8
+    ensures status { result ≡ answer_status show_status answer }
     ensures told { TellsMore (T.told errors.old) (T.told errors.new)
-        (line (source_message (log_name name.now) fault.now) ∷ []) }
+        (answer_telling (source_message (log_name name.now)) answer) }
 {
-    let report = Report::of_show(fault);
-    match fault {
-        ShowFault::Write | ShowFault::Memory => errors.tell(report),
-        _ => errors.tell_of_note(name, report),
+    match answer {
+        Ok(()) => 0,
+        Err(fault) => {
+            let report = Report::of_show(&fault);
+            match fault {
+                ShowFault::Write | ShowFault::Memory => errors.tell(report),
+                _ => errors.tell_of_note(name, report),
+            }
+            report.status
+        }
     }
-    report.status
 }
 
 /// The same, where `-` is read as it is.
 #[tactic(auto, unfolding(mgr_show::specs::Note::log_source))]
-fn told_of_source<T: Tell>(errors: &mut T, name: &str, fault: &ShowFault) -> u8
-    ensures status { result ≡ show_status fault.now }
+fn told_of_source<T: Tell>(errors: &mut T, name: &str, answer: Result<(), ShowFault>) -> u8
+    ensures status { result ≡ answer_status show_status answer }
     ensures told { TellsMore (T.told errors.old) (T.told errors.new)
-        (line (source_message (log_source name.now) fault.now) ∷ []) }
+        (answer_telling (source_message (log_source name.now)) answer) }
 {
     if name != "-" {
-        return told_of_note(errors, name, fault);
+        return told_of_note(errors, name, answer);
     }
-    let report = Report::of_show(fault);
-    match fault {
-        ShowFault::Write | ShowFault::Memory => told(errors, report),
-        _ => {
-            errors.tell_of(name, report);
-            report.status
-        }
+    match answer {
+        Ok(()) => 0,
+        Err(ShowFault::Write) => told(errors, Report::DEVICE),
+        Err(ShowFault::Memory) => told(errors, Report::MEMORY),
+        Err(fault) => told_of(errors, name, Report::of_show(&fault)),
+    }
+}
+
+/// Tells of the fault of a job that shows or compacts a log, if there is one, and answers its exit
+/// status.
+fn told_of_show<T: Tell>(errors: &mut T, answer: Result<(), ShowFault>) -> u8
+    ensures status { result ≡ answer_status show_status answer }
+    ensures told { TellsMore (T.told errors.old) (T.told errors.new)
+        (answer_telling show_message answer) }
+{
+    match answer {
+        Ok(()) => 0,
+        Err(fault) => told(errors, Report::of_show(&fault)),
+    }
+}
+
+/// Tells of the fault of a session, if there is one, and answers its exit status.
+fn told_of_session<T: Tell>(errors: &mut T, answer: Result<(), SessionFault>) -> u8
+    ensures status { result ≡ answer_status session_status answer }
+    ensures told { TellsMore (T.told errors.old) (T.told errors.new)
+        (answer_telling session_message answer) }
+{
+    match answer {
+        Ok(()) => 0,
+        Err(fault) => told(errors, Report::of_session(&fault)),
     }
 }
 

@@ -50,12 +50,7 @@ impl<R: Files<File = File> + Input> Sources for PathFiles<R> {
     ghost failures = { λ sources. sources.failures };
 
     fn read(&mut self, alloc: Global, name: &str) -> Result<Vec<u8>, ShowFault> {
-        let read = if self.streams {
-            bytes_of_any(&self.rt, alloc, &mut self.read, name)
-        } else {
-            bytes_of_plain(&self.rt, alloc, name)
-        };
-        match read {
+        match self.bytes_of(alloc, name) {
             Ok(bytes) => Ok(bytes),
             Err(error) if error.kind() == ErrorKind::OutOfMemory => Err(ShowFault::Memory),
             Err(_) => {
@@ -66,69 +61,33 @@ impl<R: Files<File = File> + Input> Sources for PathFiles<R> {
     }
 }
 
-/// All bytes of a file or a stream. Those of a stream are kept: what is read of it again is the same.
-fn bytes_of_any<R: Files<File = File> + Input>(
-    rt: &R,
-    alloc: Global,
-    read: &mut Vec<Stream>,
-    name: &str,
-) -> io::Result<Vec<u8>> {
-    for stream in read.iter() {
-        if stream.name.as_str() == name {
-            return copy_of(alloc, stream.bytes.as_slice());
+impl<R: Files<File = File> + Input> PathFiles<R> {
+    /// All bytes of a file or a stream. Those of a stream are kept: what is read of it again is the
+    /// same. `InvalidInput` if only plain files are read, and it is none.
+    fn bytes_of(&mut self, alloc: Global, name: &str) -> io::Result<Vec<u8>>
+        ensures { self.new.failures ≡ self.old.failures }
+    {
+        for stream in &self.read {
+            if stream.name.as_str() == name {
+                return Ok(stream.bytes.clone()?);
+            }
         }
+        let is_input = self.streams && name == "-";
+        let is_plain = !is_input && fs::metadata(&self.rt, name)?.is_file();
+        if !self.streams && !is_plain {
+            return Err(io::Error::from(ErrorKind::InvalidInput));
+        }
+        let mut bytes = Vec::new(alloc);
+        if is_input {
+            self.rt.reader().read_to_end(&mut bytes)?;
+        } else {
+            fs::open(&self.rt, name)?.read_to_end(&mut bytes)?;
+        }
+        if !is_plain {
+            let name = String::from_str(alloc, name)?;
+            let bytes = bytes.clone()?;
+            self.read.push(Stream { name, bytes })?;
+        }
+        Ok(bytes)
     }
-    if name != "-" && fs::metadata(rt, name)?.is_file() {
-        return bytes_of(rt, alloc, name);
-    }
-    let bytes = bytes_of_stream(rt, alloc, name)?;
-    let copy = copy_of(alloc, bytes.as_slice())?;
-    keep(alloc, read, name, bytes)?;
-    Ok(copy)
-}
-
-fn bytes_of_stream<R: Files<File = File> + Input>(
-    rt: &R,
-    alloc: Global,
-    name: &str,
-) -> io::Result<Vec<u8>> {
-    if name != "-" {
-        return bytes_of(rt, alloc, name);
-    }
-    let mut bytes = Vec::new(alloc);
-    rt.reader().read_to_end(&mut bytes)?;
-    Ok(bytes)
-}
-
-fn copy_of(alloc: Global, bytes: &[u8]) -> io::Result<Vec<u8>> {
-    let mut copy = Vec::new(alloc);
-    match copy.extend_from_slice(bytes) {
-        Ok(()) => Ok(copy),
-        Err(_) => Err(io::Error::from(ErrorKind::OutOfMemory)),
-    }
-}
-
-/// Keeps what came of a stream.
-fn keep(alloc: Global, read: &mut Vec<Stream>, name: &str, bytes: Vec<u8>) -> io::Result<()> {
-    let Ok(name) = String::from_str(alloc, name) else {
-        return Err(io::Error::from(ErrorKind::OutOfMemory));
-    };
-    match read.push(Stream { name, bytes }) {
-        Ok(()) => Ok(()),
-        Err(_) => Err(io::Error::from(ErrorKind::OutOfMemory)),
-    }
-}
-
-/// All bytes of a plain file. `InvalidInput` if it is none.
-fn bytes_of_plain<R: Files<File = File>>(rt: &R, alloc: Global, name: &str) -> io::Result<Vec<u8>> {
-    if !fs::metadata(rt, name)?.is_file() {
-        return Err(io::Error::from(ErrorKind::InvalidInput));
-    }
-    bytes_of(rt, alloc, name)
-}
-
-fn bytes_of<R: Files<File = File>>(rt: &R, alloc: Global, name: &str) -> io::Result<Vec<u8>> {
-    let mut bytes = Vec::new(alloc);
-    fs::open(rt, name)?.read_to_end(&mut bytes)?;
-    Ok(bytes)
 }

@@ -37,9 +37,5 @@ fn in_place_of<R: Files<File = File>>(
     stream: RawFd,
 ) -> Option<File> {
     let file = options.open(rt, NULL).ok()?;
-    if file.as_raw_fd() == stream {
-        Some(file)
-    } else {
-        None
-    }
+    (file.as_raw_fd() == stream).then_some(file)
 }

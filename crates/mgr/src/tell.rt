@@ -35,35 +35,24 @@ pub trait Tell {
 }
 
 /// Standard error, of which nothing is known.
-#[derive(Drop)]
-pub(crate) struct StandardError<R> {
-    rt: R,
-}
-
-impl<R> StandardError<R> {
-    pub(crate) fn new(rt: R) -> StandardError<R> {
-        StandardError { rt }
-    }
-}
-
-impl<R: Eprint> Tell for StandardError<R> {
+impl<R: Eprint> Tell for R {
     ghost use Rattle.std.specs.Prelude.{None};
 
     ghost told = { λ _. None };
 
     fn tell(&mut self, report: Report) {
-        let _ = self.rt.eprintln(report);
+        let _ = self.eprintln(report);
     }
 
     fn tell_of(&mut self, log: &str, report: Report) {
-        let _ = eprintln!(self.rt; "{log}: {report}");
+        let _ = eprintln!(self; "{log}: {report}");
     }
 
     fn tell_of_note(&mut self, name: &str, report: Report) {
-        let _ = eprintln!(self.rt; "{name}.ops: {report}");
+        let _ = eprintln!(self; "{name}.ops: {report}");
     }
 
     fn tell_text(&mut self, fault: &JobFault) {
-        let _ = self.rt.eprint(fault);
+        let _ = self.eprint(fault);
     }
 }

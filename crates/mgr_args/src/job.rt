@@ -141,22 +141,15 @@ fn chosen(alloc: Global, topic: Topic, matches: &ArgMatches<'_>) -> Result<Job, 
 /// Why clap's matches give no job of a topic.
 fn reason_of(topic: Topic, found: &ArgMatches<'_>) -> &'static str {
     match topic {
-        Topic::Edit => edit_reason(found),
+        Topic::Edit if has_flag(found, "live") && has_flag(found, "trace") => {
+            "the argument '--trace' cannot be used with '--live'"
+        }
+        Topic::Edit if has_flag(found, "changes") && !has_flag(found, "live") => {
+            "the argument '--changes' cannot be used without '--live'"
+        }
         Topic::Missing => "the name is empty or -: standard input has the claims",
         _ => "the name is missing or empty",
     }
-}
-
-/// Why they give no settings of a session.
-fn edit_reason(found: &ArgMatches<'_>) -> &'static str {
-    let is_live = has_flag(found, "live");
-    if is_live && has_flag(found, "trace") {
-        return "the argument '--trace' cannot be used with '--live'";
-    }
-    if !is_live && has_flag(found, "changes") {
-        return "the argument '--changes' cannot be used without '--live'";
-    }
-    "the name is missing or empty"
 }
 
 /// The job of a topic that clap's matches give; none if the name is missing or empty, or is `-` for
@@ -164,19 +157,19 @@ fn edit_reason(found: &ArgMatches<'_>) -> &'static str {
 fn job_given(alloc: Global, topic: Topic, found: &ArgMatches<'_>) -> Result<Option<Job>, AllocError>
     ensures { IfOk result (GivesJob topic (rows_of (found_of found.now))) }
 {
-    Ok(match topic {
-        Topic::Program => None,
-        Topic::Show => shown_of(alloc, found)?.map(Job::Show),
-        Topic::Edit => settings_of(alloc, found)?.map(Job::Edit),
-        Topic::Compact => note_of(alloc, found, "dels")?.map(Job::Compact),
-        Topic::Join => Some(Job::Join(logs_of(alloc, found)?)),
-        Topic::Log => note_of(alloc, found, "json")?.map(Job::Log),
-        Topic::Who => note_of(alloc, found, "lines")?.map(Job::Who),
-        Topic::Claims => name_of(alloc, found)?.map(Job::Claims),
-        Topic::Missing => note_name_of(alloc, found)?.map(Job::Missing),
-        Topic::Merge => merging_of(alloc, found)?.map(Job::Merge),
-        Topic::Mend => name_of(alloc, found)?.map(Job::Mend),
-    })
+    match topic {
+        Topic::Program => Ok(None),
+        Topic::Show => Ok(shown_of(alloc, found)?.map(Job::Show)),
+        Topic::Edit => Ok(settings_of(alloc, found)?.map(Job::Edit)),
+        Topic::Compact => Ok(note_of(alloc, found, "dels")?.map(Job::Compact)),
+        Topic::Join => Ok(Some(Job::Join(logs_of(alloc, found)?))),
+        Topic::Log => Ok(note_of(alloc, found, "json")?.map(Job::Log)),
+        Topic::Who => Ok(note_of(alloc, found, "lines")?.map(Job::Who)),
+        Topic::Claims => Ok(name_of(alloc, found)?.map(Job::Claims)),
+        Topic::Missing => Ok(note_name_of(alloc, found)?.map(Job::Missing)),
+        Topic::Merge => Ok(merging_of(alloc, found)?.map(Job::Merge)),
+        Topic::Mend => Ok(name_of(alloc, found)?.map(Job::Mend)),
+    }
 }
 
 /// The words as clap is given them: for `help` in front, `--help` stands behind.
