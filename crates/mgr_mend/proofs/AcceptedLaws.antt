@@ -2,7 +2,7 @@
 use Rattle.std.proofs.Common.{◌≡◌, ℕ, Bool, true, false, List, [], ◌∷◌, ◌++◌, Ok, Err, refl, sym, ap, ap₂, subst, inl, inr, ◌∙◌, arith}
 use Rattle.std.specs.Prelude.{Contains, ◌⊎◌}
 use Rattle.std.specs.List.{flat_map, AllByRecursion}
-use Rattle.std.proofs.lemmas.Bool.{true≢false, cases_Bool, and_parts}
+use Rattle.std.proofs.lemmas.Bool.{true≢false, false_from_ne_true, and_parts}
 use Rattle.std.proofs.lemmas.List.Elements.{Contains-append_left, Contains-append_right}
 use Rattle.rga_ops.specs.Identifier.{Identifier, is_id}
 use Rattle.rga_ops.specs.Content.{IsAgreed}
@@ -23,14 +23,12 @@ use Rattle.mgr_mend.proofs.BeatsLemmas.{beats-itself, none_of}
 agreed_beats : (ops : List Op) → IsAgreed ops → (x y : Op) → Contains ops x → Contains ops y → beats x y ≡ false
 agreed_beats ops agreed (Delete a) y here there = refl
 agreed_beats ops agreed (Insert a f c) (Delete b) here there = refl
-agreed_beats ops agreed (Insert a f c) (Insert b g d) here there = elim (cases_Bool (beats (Insert a f c) (Insert b g d))) [
-  | inl e ↦
-      let id : a ≡ b = is_id-is a b (and_parts (is_id a b) (is_less_line (Insert a f c) (Insert b g d)) e).0 in
-      let same = agreed a f g c d here (subst (λ (i : Identifier). Contains ops (Insert i g d)) (sym id) there) in
-      let one : Insert a f c ≡ Insert b g d = λ i. Insert (id i) (same.0 i) (same.1 i) in
-      absurd (true≢false (sym (subst (λ (o : Op). beats (Insert a f c) o ≡ true) (sym one) e) ∙ beats-itself (Insert a f c)))
-  | inr e ↦ e
-]
+agreed_beats ops agreed (Insert a f c) (Insert b g d) here there =
+    false_from_ne_true (beats (Insert a f c) (Insert b g d)) (λ e.
+    let id : a ≡ b = is_id-is a b (and_parts (is_id a b) (is_less_line (Insert a f c) (Insert b g d)) e).0 in
+    let same = agreed a f g c d here (subst (λ (i : Identifier). Contains ops (Insert i g d)) (sym id) there) in
+    let one : Insert a f c ≡ Insert b g d = λ i. Insert (id i) (same.0 i) (same.1 i) in
+    true≢false (sym (subst (λ (o : Op). beats (Insert a f c) o ≡ true) (sym one) e) ∙ beats-itself (Insert a f c)))
 
 pub agreed_beaten : (ops : List Op) → IsAgreed ops → (op : Op) → Contains ops op → is_beaten ops op ≡ false
 agreed_beaten ops agreed op there = none_of (λ other. beats other op) ops (λ other here. agreed_beats ops agreed other op here there)

@@ -1,5 +1,5 @@
 -- What is told of a log whose compacted lines were written beside it, and how many calls failed.
-use Rattle.std.proofs.Common.{◌≡◌, ◌∙◌, ℕ, Bool, List, [], Option, Some, None, Result, Ok, Err, sym, ap, subst, refl}
+use Rattle.std.proofs.Common.{◌≡◌, ◌∙◌, ℕ, Bool, List, [], Option, Some, None, Result, Err, ap, subst, refl}
 use Rattle.std.specs.Prelude.{IfSome}
 use Rattle.std.specs.Option.{option_map}
 use Rattle.std.specs.Io.KnownBytes.{Appends}
@@ -44,10 +44,6 @@ both n a b c d e f = ap (λ k. raised (raised n k) b) e ∙ ap (λ k. raised (ra
 -- Of two devices that had not failed, one failed once where it is at fault.
 pub both_raised : {R W : Type 0} (r : Result (Unit {0}) ShowFault) (n : ℕ) (a b : Calls R) (c d : Calls W) → a.failures ≡ 0 → c.failures ≡ 0 → CountsAs fault.Read r a b → CountsAs fault.Write r c d
     → raised (raised n b.failures) d.failures ≡ failures_after_compaction r n
-both_raised (Ok u) n a b c d none unfailed reads writes = both n b.failures d.failures 0 0 (reads.unfailed (λ e. absurd cc) ∙ none) (writes.unfailed (λ e. absurd cc) ∙ unfailed)
-both_raised (Err (fault.Line number e)) n a b c d none unfailed reads writes = both n b.failures d.failures 0 0 (reads.unfailed (λ e. absurd cc) ∙ none) (writes.unfailed (λ e. absurd cc) ∙ unfailed)
-both_raised (Err (fault.Refused number e)) n a b c d none unfailed reads writes = both n b.failures d.failures 0 0 (reads.unfailed (λ e. absurd cc) ∙ none) (writes.unfailed (λ e. absurd cc) ∙ unfailed)
-both_raised (Err (fault.Torn number)) n a b c d none unfailed reads writes = both n b.failures d.failures 0 0 (reads.unfailed (λ e. absurd cc) ∙ none) (writes.unfailed (λ e. absurd cc) ∙ unfailed)
 both_raised (Err fault.Read) n a b c d none unfailed reads writes = both n b.failures d.failures 1 0 (reads.failed refl ∙ ap one_more none) (writes.unfailed (λ e. absurd cc) ∙ unfailed)
 both_raised (Err fault.Write) n a b c d none unfailed reads writes = both n b.failures d.failures 0 1 (reads.unfailed (λ e. absurd cc) ∙ none) (writes.failed refl ∙ ap one_more unfailed)
-both_raised (Err fault.Memory) n a b c d none unfailed reads writes = both n b.failures d.failures 0 0 (reads.unfailed (λ e. absurd cc) ∙ none) (writes.unfailed (λ e. absurd cc) ∙ unfailed)
+both_raised r n a b c d none unfailed reads writes = both n b.failures d.failures 0 0 (reads.unfailed (λ e. absurd cc) ∙ none) (writes.unfailed (λ e. absurd cc) ∙ unfailed)

@@ -1,33 +1,14 @@
 -- What is found of the operations of a log, line by line.
-use Rattle.std.proofs.Common.{◌≡◌, ◌-◌, length-drop, nat_eq, arith, subst, Option, Some, take, drop, ◌+◌, ◌<◌, length, Bool, true, false, not, ◌&&◌, ◌||◌, ℕ, List, [], ◌∷◌, ◌++◌, Ok, refl, sym, ap, ◌∙◌}
-use Rattle.std.specs.Prelude.{MatchOption}
+use Rattle.std.proofs.Common.{◌≡◌, nat_eq, arith, length, Bool, false, not, ◌&&◌, ◌||◌, ℕ, List, [], ◌∷◌, ◌++◌, Ok, refl, sym, ap, ◌∙◌}
 use Rattle.std.specs.List.{list_any}
-use Rattle.std.proofs.lemmas.Bool.{eqb-true}
+use Rattle.std.proofs.lemmas.Bool.{ne_eqb}
 use Rattle.std.proofs.Math.Bool.{or_assoc}
 use Rattle.std.proofs.lemmas.List.Folds.{list_any-append}
 use Rattle.rga_ops.specs.Content.{Content}
 use Rattle.rga_ops.specs.declared.op.Op.{Op}
 use Rattle.rga_lines.specs.Log.{operations_at, operations_of, then_operations}
-use Rattle.rga_lines.specs.Stream.{HasNoNewline}
-use Rattle.rga_lines.proofs.StreamLemmas.{FirstLine, lines-none, rest-none, lines-line, rest-line}
 use Rattle.mgr_mend.specs.Mending.{all_lines}
 use Rattle.mgr_mend.specs.Taking.{are_any, is_tied}
-
--- ---- the first line
-
-pub first_of_lines : (bytes line behind : List ℕ) (n : ℕ) → FirstLine bytes n → line ≡ take n bytes → behind ≡ drop (n + 1) bytes → all_lines bytes ≡ line ∷ all_lines behind
-first_of_lines bytes line behind n first is after =
-    ap all_lines first.parts
-    ∙ (λ k. lines-line (take n bytes) (drop (n + 1) bytes) first.none k ++ rest-line (take n bytes) (drop (n + 1) bytes) first.none k ∷ [])
-    ∙ (λ k. sym is k ∷ all_lines (sym after k))
-
-pub shorter : (bytes behind : List ℕ) (n : ℕ) → n < length bytes → behind ≡ drop (n + 1) bytes → length behind < length bytes
-shorter bytes behind n within is =
-    let left : length behind ≡ length bytes - (n + 1) = ap length is ∙ length-drop (n + 1) bytes in
-    omega (arith, within, left)
-
-pub rest_alone : (bytes : List ℕ) → HasNoNewline bytes → all_lines bytes ≡ bytes ∷ []
-rest_alone bytes none = (λ k. lines-none bytes none k ++ rest-none bytes none k ∷ [])
 
 -- ---- their operations
 
@@ -42,15 +23,7 @@ any-append (x ∷ xs) ys = refl
 
 pub any_is : (ops : List Op) → not (nat_eq (length ops) 0) ≡ are_any ops
 any_is [] = refl
-any_is (op ∷ ops) = by (nat_eq (length (op ∷ ops)) 0) refl
-  where
-    by : (empty : Bool) → nat_eq (length (op ∷ ops)) 0 ≡ empty → not (nat_eq (length (op ∷ ops)) 0) ≡ true
-    by true is = let it : length (op ∷ ops) ≡ 0 = eqb-true (length (op ∷ ops)) 0 is in absurd (omega (arith, it))
-    by false is = ap not is
-
--- what is said of an option that is there
-pub if_some : {A : Type 0} (P : Type 0) (Q : A → Type 0) (o : Option A) (x : A) → o ≡ Some x → MatchOption o P Q → Q x
-if_some {A} P Q o x is h = subst (λ (o : Option A). MatchOption o P Q) is h
+any_is (op ∷ ops) = ap not (ne_eqb (length (op ∷ ops)) 0 (λ zero. omega arith))
 
 module _ (c : Content) where
   -- of some that stood before these, or none, none is tied, and none of these

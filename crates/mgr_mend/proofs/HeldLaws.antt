@@ -31,7 +31,7 @@ use Rattle.mgr_mend.specs.Taking.{logs_taken}
 use Rattle.mgr_mend.specs.Merging.{Merges, due, first_calls, log_alone, note_outcome, text_due}
 use Rattle.mgr_mend.specs.declared.merged.Torn.{Torn}
 use Rattle.mgr_mend.specs.declared.text.Owner.{Owner}
-use Rattle.mgr_mend.specs.declared.text.Owner.TheVariants.{Note, AnyLog, Other}
+use Rattle.mgr_mend.specs.declared.text.Owner.TheVariants.{AnyLog}
 use Rattle.mgr_mend.proofs.TakingLemmas.{merged_taken}
 use Rattle.mgr_mend.specs.MergedHeld.{HoldsJoin}
 
@@ -93,9 +93,7 @@ kept_due held b log h = record {
 -- the text of a log that is put first leaves the log of the note
 after_first : (o : Owner) (name : List ℕ) (text : Option (List ℕ)) (calls : List Call) (u t : Held) → MayLead (first_calls o name text ++ calls) u t → (v : Held) × ((v name).log ≡ (u name).log) × MayLead calls v t
 after_first AnyLog name (Some text) calls u t (v, leaves, rest) = (v, ap (λ (f : Files). f.log) leaves.here, rest)
-after_first AnyLog name None calls u t leads = (u, refl, leads)
-after_first Note name text calls u t leads = (u, refl, leads)
-after_first Other name text calls u t leads = (u, refl, leads)
+after_first o name text calls u t leads = (u, refl, leads)
 
 module _ (before made : List Call) (name : List ℕ) (adopt : Bool) (logs : List (List ℕ)) (new : ℕ) (torn : List Torn) (s t : Held) (m : Merges (Some before) (Some (before ++ made)) name adopt logs new torn) (leads : MayLead made s t) where
   abbrev b : OpenState

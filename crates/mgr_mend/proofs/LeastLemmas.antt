@@ -1,7 +1,7 @@
 -- A map that has the least insertion of each identifier, as it grows.
-use Rattle.std.proofs.Common.{◌≡◌, Bool, true, false, if◌then◌else◌, List, [], ◌∷◌, ◌++◌, Option, Some, None, Result, Ok, Err, refl, sym, subst, inl, inr, ◌∙◌}
-use Rattle.std.specs.Prelude.{Contains, IfOk}
-use Rattle.std.proofs.lemmas.Bool.{true≢false, cases_Bool}
+use Rattle.std.proofs.Common.{◌≡◌, Bool, true, false, if◌then◌else◌, List, [], ◌∷◌, ◌++◌, Option, Some, None, Ok, refl, sym, subst, inl, inr, ◌∙◌}
+use Rattle.std.specs.Prelude.{Contains}
+use Rattle.std.proofs.lemmas.Bool.{true≢false, cases_Bool, false_from_ne_true}
 use Rattle.std.proofs.lemmas.List.Elements.{Contains-append_left, Contains-push, Contains-push_cases}
 use Rattle.indexmap.specs.IndexMap.{IndexMap, get}
 use Rattle.rga_ops.specs.Identifier.{Identifier, is_id}
@@ -16,51 +16,36 @@ use Rattle.mgr_mend.proofs.BeatsLemmas.{beats-itself, beats-trans, beats-inserts
 
 -- ---- one identifier, and one operation more
 
-none_inserts : (ops : List Op) (x : Op) (id : Identifier) → ((op : Op) → Contains ops op → inserts id op ≡ false) → inserts id x ≡ false → (op : Op) → Contains (ops ++ x ∷ []) op → inserts id op ≡ false
-none_inserts ops x id none other op there = elim (Contains-push_cases ops x op there) [
-  | inl before ↦ none op before
-  | inr last ↦ subst (λ (o : Op). inserts id o ≡ false) last other
-]
-
-none_beats : (ops : List Op) (x y : Op) → ((other : Op) → Contains ops other → beats other y ≡ false) → beats x y ≡ false → (other : Op) → Contains (ops ++ x ∷ []) other → beats other y ≡ false
-none_beats ops x y none not other there = elim (Contains-push_cases ops x other there) [
-  | inl before ↦ none other before
-  | inr last ↦ subst (λ (o : Op). beats o y ≡ false) last not
+each_more : (P : Op → Type 0) (ops : List Op) (x : Op) → ((op : Op) → Contains ops op → P op) → P x → (op : Op) → Contains (ops ++ x ∷ []) op → P op
+each_more P ops x each this op there = elim (Contains-push_cases ops x op there) [
+  | inl before ↦ each op before
+  | inr last ↦ subst P last this
 ]
 
 -- an operation that does not insert the identifier beats no insertion of it
 other_beats_none : (id : Identifier) (x y : Op) → inserts id y ≡ true → inserts id x ≡ false → beats x y ≡ false
-other_beats_none id x y inserted other = elim (cases_Bool (beats x y)) [
-  | inl e ↦ absurd (true≢false (sym (beats-inserts id x y inserted e) ∙ other))
-  | inr e ↦ e
-]
-
--- an operation that does not insert the identifier changes nothing
-pub least-other : (ops : List Op) (x : Op) (id : Identifier) (found : Option Op) → inserts id x ≡ false → IsLeast ops id found → IsLeast (ops ++ x ∷ []) id found
-least-other ops x id None other none = none_inserts ops x id none other
-least-other ops x id (Some y) other (there, inserted, none) =
-    (Contains-append_left ops (x ∷ []) y there, inserted, none_beats ops x y none (other_beats_none id x y inserted other))
+other_beats_none id x y inserted other = false_from_ne_true (beats x y) (λ e. true≢false (sym (beats-inserts id x y inserted e) ∙ other))
 
 -- what does not beat the least insertion leaves it
 pub least-stays : (ops : List Op) (x y : Op) (id : Identifier) → beats x y ≡ false → IsLeast ops id (Some y) → IsLeast (ops ++ x ∷ []) id (Some y)
 least-stays ops x y id not (there, inserted, none) =
-    (Contains-append_left ops (x ∷ []) y there, inserted, none_beats ops x y none not)
+    (Contains-append_left ops (x ∷ []) y there, inserted, each_more (λ other. beats other y ≡ false) ops x none not)
+
+-- an operation that does not insert the identifier changes nothing
+pub least-other : (ops : List Op) (x : Op) (id : Identifier) (found : Option Op) → inserts id x ≡ false → IsLeast ops id found → IsLeast (ops ++ x ∷ []) id found
+least-other ops x id None other none = each_more (λ op. inserts id op ≡ false) ops x none other
+least-other ops x id (Some y) other (there, inserted, none) =
+    least-stays ops x y id (other_beats_none id x y inserted other) (there, inserted, none)
 
 -- the first insertion of the identifier is the least
 pub least-first : (ops : List Op) (x : Op) (id : Identifier) → inserts id x ≡ true → IsLeast ops id None → IsLeast (ops ++ x ∷ []) id (Some x)
 least-first ops x id inserted none =
-    (Contains-push ops x, inserted, none_beats ops x x (λ other there. other_beats_none id other x inserted (none other there)) (beats-itself x))
+    (Contains-push ops x, inserted, each_more (λ other. beats other x ≡ false) ops x (λ other there. other_beats_none id other x inserted (none other there)) (beats-itself x))
 
 -- what beats the least one is the least one
 pub least-less : (ops : List Op) (x y : Op) (id : Identifier) → inserts id x ≡ true → beats x y ≡ true → IsLeast ops id (Some y) → IsLeast (ops ++ x ∷ []) id (Some x)
 least-less ops x y id inserted e (there, was, none) =
-    (Contains-push ops x, inserted, none_beats ops x x before (beats-itself x))
-  where
-    before : (other : Op) → Contains ops other → beats other x ≡ false
-    before other among = elim (cases_Bool (beats other x)) [
-      | inl p ↦ absurd (true≢false (sym (beats-trans other x y p e) ∙ none other among))
-      | inr p ↦ p
-    ]
+    (Contains-push ops x, inserted, each_more (λ other. beats other x ≡ false) ops x (λ other among. false_from_ne_true (beats other x) (λ p. true≢false (sym (beats-trans other x y p e) ∙ none other among))) (beats-itself x))
 
 -- ---- the map
 
@@ -72,10 +57,7 @@ module _ {S : Type 0} where
   least-insert ops m n x id inserted least updated has other = rw (updated other) (by (is_id id other) refl)
     where
       apart : is_id id other ≡ false → inserts other x ≡ false
-      apart e = elim (cases_Bool (inserts other x)) [
-        | inl p ↦ absurd (true≢false (sym (subst (λ (i : Identifier). is_id id i ≡ true) (inserts-id id x inserted ∙ sym (inserts-id other x p)) (is_id-itself id)) ∙ e))
-        | inr p ↦ p
-      ]
+      apart e = false_from_ne_true (inserts other x) (λ p. true≢false (sym (subst (λ (i : Identifier). is_id id i ≡ true) (inserts-id id x inserted ∙ sym (inserts-id other x p)) (is_id-itself id)) ∙ e))
 
       by : (t : Bool) → is_id id other ≡ t → IsLeast (ops ++ x ∷ []) other (if t then Some x else get is_id m other)
       by true e = subst (λ (i : Identifier). IsLeast (ops ++ x ∷ []) i (Some x)) (is_id-is id other e) least
@@ -95,10 +77,7 @@ pub beaten_by_least : (ops : List Op) (x y : Op) (id : Identifier) → Contains 
 beaten_by_least ops x y id among inserted (there, least, none) = by (beats y x) refl
   where
     not : beats y x ≡ false → (other : Op) → Contains ops other → beats other x ≡ false
-    not e other h = elim (cases_Bool (beats other x)) [
-      | inl p ↦ absurd (true≢false (sym (beats-between id other x y inserted least p (none other h)) ∙ e))
-      | inr p ↦ p
-    ]
+    not e other h = false_from_ne_true (beats other x) (λ p. true≢false (sym (beats-between id other x y inserted least p (none other h)) ∙ e))
 
     by : (t : Bool) → beats y x ≡ t → t ≡ is_beaten ops x
     by true e = sym (beaten_of ops y x there e)
@@ -114,12 +93,5 @@ deletion_stays ops id = sym (none_of (λ other. beats other (Delete id)) ops (λ
     never (Insert a f c) = refl
     never (Delete a) = refl
 
-pub if_ok_map : {T E : Type 0} {P Q : T → Type 0} (r : Result T E) → ((x : T) → P x → Q x) → IfOk r P → IfOk r Q
-if_ok_map (Ok x) f h = f x h
-if_ok_map (Err e) f h = h
-
 pub writable_more : (ops : List Op) (x : Op) → AreWritableIfSound ops → (checked x ≡ Ok tt → IsWritable x) → AreWritableIfSound (ops ++ x ∷ [])
-writable_more ops x before last op there = elim (Contains-push_cases ops x op there) [
-  | inl earlier ↦ before op earlier
-  | inr here ↦ subst (λ (o : Op). checked o ≡ Ok tt → IsWritable o) here last
-]
+writable_more ops x before last = each_more (λ op. checked op ≡ Ok tt → IsWritable op) ops x before last

@@ -1,11 +1,13 @@
 -- A log by its first line and what follows, for loops over its lines.
-use Rattle.std.proofs.Common.{◌≡◌, ℕ, ◌+◌, ◌<◌, List, [], ◌∷◌, ◌++◌, length, take, drop, map, Some, None, sym, ap, ap₂, ◌∙◌, arith, append_assoc, append-nil, length-append, length-drop}
+use Rattle.std.proofs.Common.{◌≡◌, ℕ, ◌+◌, ◌<◌, List, [], ◌∷◌, ◌++◌, length, take, drop, Option, Some, None, sym, ap, ap₂, ◌∙◌, arith, append_assoc, append-nil, length-append, length-drop}
 use Rattle.std.specs.List.{flat_map}
 use Rattle.std.proofs.lemmas.List.{length-take-le, take_at}
 use Rattle.memchr.specs.Find.{IsFirstByte, is_byte}
+use Rattle.rga_lines.specs.Log.{operations_at}
 use Rattle.rga_lines.specs.Stream.{newline, lines_of, rest_of}
 use Rattle.rga_lines.proofs.StreamLemmas.{first_line, no_first_line, lines-line, rest-line, lines-none, rest-none, position_is}
 use Rattle.mgr_mend.specs.Mending.{all_lines}
+use Rattle.mgr_mend.specs.Parts.{count_said}
 
 -- the first line ends before the newline at this index
 pub record FirstPart (bytes : List ℕ) (n : ℕ) : Type 0 where
@@ -45,6 +47,10 @@ shorter bytes n first = omega (arith, first.within, length-drop (n + 1) bytes)
 
 -- ---- what is gathered of all lines, when one more is
 
+-- how many operations a line has, as a list
+abbrev pub count_line : List ℕ → List (Option ℕ)
+count_line bytes = count_said (operations_at bytes) ∷ []
+
 pub gathers_line : {A : Type 0} (f : List ℕ → List A) (done new all : List A) (rest line behind : List ℕ) (n : ℕ) → FirstPart rest n → line ≡ take n rest → behind ≡ drop (n + 1) rest → new ≡ done ++ f line
     → done ++ flat_map f (all_lines rest) ≡ all → new ++ flat_map f (all_lines behind) ≡ all
 gathers_line {A} f done new all rest line behind n first front back more sofar =
@@ -55,13 +61,3 @@ gathers_line {A} f done new all rest line behind n first front back more sofar =
 pub gathers_rest : {A : Type 0} (f : List ℕ → List A) (done new all : List A) (rest : List ℕ) → all_lines rest ≡ rest ∷ [] → new ≡ done ++ f rest → done ++ flat_map f (all_lines rest) ≡ all → new ≡ all
 gathers_rest {A} f done new all rest only more sofar =
     more ∙ ap (λ (xs : List A). done ++ xs) (sym (append-nil (f rest))) ∙ ap (λ (ls : List (List ℕ)). done ++ flat_map f ls) (sym only) ∙ sofar
-
-pub lists_line : {A : Type 0} (f : List ℕ → A) (done new all : List A) (rest line behind : List ℕ) (n : ℕ) → FirstPart rest n → line ≡ take n rest → behind ≡ drop (n + 1) rest → new ≡ done ++ f line ∷ []
-    → done ++ map f (all_lines rest) ≡ all → new ++ map f (all_lines behind) ≡ all
-lists_line {A} f done new all rest line behind n first front back more sofar =
-    ap₂ (λ (xs : List A) (b : List ℕ). xs ++ map f (all_lines b)) (more ∙ ap (λ (l : List ℕ). done ++ f l ∷ []) front) back
-    ∙ append_assoc done (f (take n rest) ∷ []) (map f (all_lines (drop (n + 1) rest)))
-    ∙ ap (λ (ls : List (List ℕ)). done ++ map f ls) (sym (all_lines-first rest n first)) ∙ sofar
-
-pub lists_rest : {A : Type 0} (f : List ℕ → A) (done new all : List A) (rest : List ℕ) → all_lines rest ≡ rest ∷ [] → new ≡ done ++ f rest ∷ [] → done ++ map f (all_lines rest) ≡ all → new ≡ all
-lists_rest {A} f done new all rest only more sofar = more ∙ ap (λ (ls : List (List ℕ)). done ++ map f ls) (sym only) ∙ sofar

@@ -1,7 +1,8 @@
 -- A log as it is mended, line by line.
 use Rattle.std.proofs.Common.{◌≡◌, ℕ, suc, ◌+◌, ◌<◌, ◌≤◌, Bool, true, false, not, if◌then◌else◌, ◌&&◌, ◌==◌, List, [], ◌∷◌, ◌++◌, length, take, drop, map, Option, Some, Ok, Err, unwrap_or, refl, sym, ap, ap₂, subst, ◌∙◌, arith, append_assoc, append-nil, length-append}
 use Rattle.std.specs.List.{flat_map, slice_get}
-use Rattle.std.proofs.lemmas.Bool.{true≢false, ne_eqb}
+use Rattle.std.proofs.Math.Bool.{and-true}
+use Rattle.std.proofs.lemmas.Bool.{and_right, cond_both, ne_eqb}
 use Rattle.std.proofs.lemmas.List.{map-append, length-map, take_at, drop_at}
 use Rattle.rga_ops.specs.declared.op.Op.{Op}
 use Rattle.rga_lines.specs.Log.{operations_at}
@@ -194,12 +195,8 @@ some_left bytes rest counts own only left = rw (left.counted ∙ ap counts_of on
 pub counts_lines : (test : Fate → Bool) (all : List Op) (lines : List (List ℕ)) → fate_count test all lines ≤ length lines
 counts_lines test all [] = omega arith
 counts_lines test all (line ∷ lines) =
-    let one = at_most_one (test (fate all (operations_at line))) in
+    let one : one_if (test (fate all (operations_at line))) ≤ 1 = cond_both (test (fate all (operations_at line))) 1 0 (λ n. n ≤ 1) (λ e. omega arith) (λ e. omega arith) in
     omega (arith, one, counts_lines test all lines)
-  where
-    at_most_one : (b : Bool) → one_if b ≤ 1
-    at_most_one true = omega arith
-    at_most_one false = omega arith
 
 -- each line ends in a newline
 pub lines_within : (bytes : List ℕ) → length (lines_of bytes) ≤ length bytes
@@ -229,20 +226,9 @@ beaten_within bytes rest log refused faulty beaten n f first is sofar =
 -- ---- the numbers at the end
 
 torn_told : (all : List Op) (rest : List ℕ) (f : Fate) → f ≡ fate all (operations_at rest) → is_faulty f && not (length rest == 0) ≡ is_torn all rest
-torn_told all [] f is = by (is_faulty f)
-  where
-    by : (t : Bool) → t && false ≡ false
-    by true = refl
-    by false = refl
-torn_told all (b ∷ rest) f is = by (length (b ∷ rest) == 0) (ne_eqb (length (b ∷ rest)) 0 (λ zero. omega arith))
-  where
-    same : (t : Bool) → t && true ≡ t
-    same true = refl
-    same false = refl
-
-    by : (t : Bool) → t ≡ false → is_faulty f && not t ≡ is_faulty (fate all (operations_at (b ∷ rest)))
-    by true e = absurd (true≢false e)
-    by false e = same (is_faulty f) ∙ ap is_faulty is
+torn_told all [] f is = and_right (is_faulty f) false refl
+torn_told all (b ∷ rest) f is =
+    ap (λ (t : Bool). is_faulty f && not t) (ne_eqb (length (b ∷ rest)) 0 (λ zero. omega arith)) ∙ and-true (is_faulty f) ∙ ap is_faulty is
 
 pub last_beaten : (bytes rest log refused : List ℕ) (faulty beaten : ℕ) (f : Fate) → all_lines rest ≡ rest ∷ [] → f ≡ fate (whole_operations bytes) (operations_at rest) → IsMendedUpTo bytes rest log refused faulty beaten
     → beaten + one_if (is_beaten_line f) ≡ fate_count is_beaten_line (whole_operations bytes) (all_lines bytes)

@@ -1,7 +1,9 @@
 -- What is written of a note, and what a merge is as a whole.
-use Rattle.std.proofs.Common.{◌≡◌, ◌≢◌, ◌⊎◌, inl, inr, ℕ, Bool, List, [], ◌∷◌, ◌++◌, length, Option, Some, None, Result, Ok, Err, refl, sym, ap, subst, ◌∙◌}
+use Rattle.std.proofs.Common.{◌≡◌, ◌≢◌, ◌⊎◌, inl, inr, ℕ, Bool, List, [], ◌∷◌, length, Option, Some, None, Result, Ok, Err, refl, sym, subst, ◌∙◌}
 use Rattle.std.specs.Prelude.{IfSome, IfOk, IfErr, OnErr}
 use Rattle.std.specs.Result.{IsErrAnd}
+use Rattle.std.proofs.lemmas.Option.{IfSome_then}
+use Rattle.std.proofs.lemmas.Result.{IfErr-weaker, IfOk-weaker, on_err_weaker}
 use Rattle.mg_buffer.specs.OpenState.{OpenState}
 use Rattle.mg_buffer.specs.State.{State}
 use Rattle.mg_files.specs.Calls.{Call, Adds, call, found_call, refusals}
@@ -52,19 +54,16 @@ leaves_all (Some logs) s o torn adopt {b} {c} {m} is h follows owned stays =
 
 pub merges_into : (known : Option (List (List ℕ))) (calls more : Option (List Call)) (b d : OpenState) (s : Beside) (o : Owner) (adopt : Bool) (torn : List Torn) {new : ℕ} → IfSome known (λ logs. GoesOn b s adopt logs d torn o) → new ≡ length d.buffer.unsaved → Adds calls more (write_calls o s d)
     → IfSome known (λ logs. MergesInto calls more b s adopt logs new torn)
-merges_into None calls more b d s o adopt torn goes counted written = tt
-merges_into (Some logs) calls more b d s o adopt torn goes counted written = record { d = d; o = o; goes = goes; counted = counted; written = written }
+merges_into known calls more b d s o adopt torn goes counted written = IfSome_then known goes (λ logs g. record { d = d; o = o; goes = g; counted = counted; written = written })
 
 pub begins_into : (known : Option (List (List ℕ))) (calls more : Option (List Call)) (b d : OpenState) (s : Beside) (o : Owner) (adopt : Bool) (torn : List Torn) (fault : PortFault) → IfSome known (λ logs. GoesOn b s adopt logs d torn o) → StopsWriting fault calls more o s d
     → IfSome known (λ logs. BeginsInto calls more b s adopt logs)
-begins_into None calls more b d s o adopt torn fault goes stops = tt
-begins_into (Some logs) calls more b d s o adopt torn fault goes stops = record { d = d; torn = torn; o = o; goes = goes; fault = fault; stops = stops }
+begins_into known calls more b d s o adopt torn fault goes stops = IfSome_then known goes (λ logs g. record { d = d; torn = torn; o = o; goes = g; fault = fault; stops = stops })
 
 -- ---- of a note that was loaded
 
 pub is_loaded : {A : Type 0} (P : MergeFault → Type 0) (r : Result A MergeFault) → IfErr r (λ e. ¬ (IsOfNote e)) → IfErr r (λ e. IsOfNote e → P e)
-is_loaded P (Ok a) h = tt
-is_loaded P (Err e) h = λ own. absurd (h own)
+is_loaded P r h = IfErr-weaker r (λ e. ¬ (IsOfNote e)) (λ e. IsOfNote e → P e) (λ e not own. absurd (not own)) h
 
 module _ {A : Type 0} (calls between more : Option (List Call)) (name : List ℕ) (known : Option (List (List ℕ))) (adopt : Bool) (b : OpenState) (s : Beside) (loads : LoadsNote calls between name b s) (r : Result A MergeFault) where
   only_loads : more ≡ between → OnlyLoads calls more name
@@ -74,43 +73,22 @@ module _ {A : Type 0} (calls between more : Option (List Call)) (name : List ℕ
   loads_alone same = subst (λ m. LoadsNote calls m name b s) (sym same) loads
 
   pub merges : (new : A → ℕ) (torn : A → List Torn) → IfOk r (λ a. IfSome known (λ logs. MergesInto between more b s adopt logs (new a) (torn a))) → IfOk r (λ a. IfSome known (λ logs. Merges calls more name adopt logs (new a) (torn a)))
-  merges new torn h = by r known h
-    where
-      by : (r : Result A MergeFault) (known : Option (List (List ℕ))) → IfOk r (λ a. IfSome known (λ logs. MergesInto between more b s adopt logs (new a) (torn a))) → IfOk r (λ a. IfSome known (λ logs. Merges calls more name adopt logs (new a) (torn a)))
-      by (Ok a) None h = tt
-      by (Ok a) (Some logs) h = record { between = between; b = b; s = s; loads = loads; merges = h }
-      by (Err e) known h = tt
+  merges new torn h = IfOk-weaker r (λ a. IfSome known (λ logs. MergesInto between more b s adopt logs (new a) (torn a))) _ (λ a into. IfSome_then known into (λ logs m. record { between = between; b = b; s = s; loads = loads; merges = m })) h
 
   pub refuses : IfErr r (λ e. IsOfLogs e → (more ≡ between) × IfSome known (λ logs. taking_outcome b adopt logs ≡ Err e)) → IfErr r (λ e. IsOfLogs e → IfSome known (λ logs. RefusesLogs calls more name adopt logs e))
-  refuses h = by r known h
-    where
-      by : (r : Result A MergeFault) (known : Option (List (List ℕ))) → IfErr r (λ e. IsOfLogs e → (more ≡ between) × IfSome known (λ logs. taking_outcome b adopt logs ≡ Err e)) → IfErr r (λ e. IsOfLogs e → IfSome known (λ logs. RefusesLogs calls more name adopt logs e))
-      by (Ok a) known h = tt
-      by (Err e) None h = λ own. tt
-      by (Err e) (Some logs) h = λ own. let w = h own in record { b = b; s = s; loads = loads_alone w.0; outcome = w.1 }
+  refuses h = IfErr-weaker r (λ e. IsOfLogs e → (more ≡ between) × IfSome known (λ logs. taking_outcome b adopt logs ≡ Err e)) _ (λ e why own. let w = why own in IfSome_then known w.1 (λ logs is. record { b = b; s = s; loads = loads_alone w.0; outcome = is })) h
 
   pub leaves : (more ≡ between) × IfSome known (λ logs. LeavesAll b s adopt logs) → IfSome known (λ logs. LeavesText calls more name adopt logs)
-  leaves (same, h) = by known h
-    where
-      by : (known : Option (List (List ℕ))) → IfSome known (λ logs. LeavesAll b s adopt logs) → IfSome known (λ logs. LeavesText calls more name adopt logs)
-      by None h = tt
-      by (Some logs) h = record { b = b; s = s; loads = loads_alone same; leaves = h }
+  leaves (same, h) = IfSome_then known h (λ logs all. record { b = b; s = s; loads = loads_alone same; leaves = all })
 
   pub unwritten : IfErr r (λ e. e ≢ File → e ≢ Memory → more ≡ between) → IfErr r (λ e. e ≢ File → e ≢ Memory → OnlyLoads calls more name)
-  unwritten h = by r h
-    where
-      by : (r : Result A MergeFault) → IfErr r (λ e. e ≢ File → e ≢ Memory → more ≡ between) → IfErr r (λ e. e ≢ File → e ≢ Memory → OnlyLoads calls more name)
-      by (Ok a) h = tt
-      by (Err e) h = λ file memory. only_loads (h file memory)
+  unwritten h = IfErr-weaker r (λ e. e ≢ File → e ≢ Memory → more ≡ between) _ (λ e same file memory. only_loads (same file memory)) h
 
   pub begins : OnErr r ((more ≡ between) ⊎ IfSome known (λ logs. BeginsInto between more b s adopt logs)) → OnErr r (OnlyLoads calls more name ⊎ IfSome known (λ logs. BeginsToWrite calls more name adopt logs))
-  begins h = by r known h
-    where
-      by : (r : Result A MergeFault) (known : Option (List (List ℕ))) → OnErr r ((more ≡ between) ⊎ IfSome known (λ logs. BeginsInto between more b s adopt logs)) → OnErr r (OnlyLoads calls more name ⊎ IfSome known (λ logs. BeginsToWrite calls more name adopt logs))
-      by (Ok a) known h = tt
-      by (Err e) known (inl same) = inl (only_loads same)
-      by (Err e) None (inr h) = inr tt
-      by (Err e) (Some logs) (inr h) = inr (record { between = between; b = b; s = s; loads = loads; begins = h })
+  begins h = on_err_weaker r (λ (either : (more ≡ between) ⊎ IfSome known (λ logs. BeginsInto between more b s adopt logs)). elim either [
+    | inl same ↦ inl (only_loads same)
+    | inr into ↦ inr (IfSome_then known into (λ logs begins. record { between = between; b = b; s = s; loads = loads; begins = begins }))
+  ]) h
 
 -- putting its text failed
 pub begins_to_put : (calls between more : Option (List Call)) (name : List ℕ) (b : OpenState) (s : Beside) (fault : PortFault) → LoadsNote calls between name b s → StopsWriting fault between more Note s b → BeginsToPut calls more name
@@ -121,7 +99,3 @@ begins_to_put calls between more name b s fault loads stops = record { between =
 pub if_error : {A E : Type 0} {P Q : E → Type 0} (r : Result A E) → IsErrAnd r P → ((e : E) → P e → Q e) → IfErr r Q
 if_error (Ok a) h f = absurd h
 if_error (Err e) h f = f e h
-
-pub on_error : {A E : Type 0} {Q : Type 0} (r : Result A E) → Q → OnErr r Q
-on_error (Ok a) h = tt
-on_error (Err e) h = h

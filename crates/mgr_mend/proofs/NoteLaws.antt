@@ -17,8 +17,7 @@ use Rattle.mgr_mend.specs.Ends.{MendsInPart, mended_standing}
 -- the bytes that were read of a log
 pub read_whole : {R : Type 0} (remaining : R → Option (List ℕ)) (log : R) (bytes : List ℕ) (standing : Option Standing)
     → IfSome standing (λ s. remaining log ≡ Some s.log) → IfSome (remaining log) (λ all. bytes ≡ all) → IfSome standing (λ s. bytes ≡ s.log)
-read_whole remaining log bytes None is read = tt
-read_whole remaining log bytes (Some s) is read = subst (λ o. IfSome o (λ all. bytes ≡ all)) is read
+read_whole remaining log bytes standing is read = IfSome_then standing is (λ s told. subst (λ o. IfSome o (λ all. bytes ≡ all)) told read)
 
 pub stays : (standing found : Option Standing) → found ≡ standing → IfSome standing (λ s. StaysSame s found)
 stays None found is = tt

@@ -19,12 +19,9 @@ module _ (dels : Bool) (s : Standing) (found : Option Standing) where
 
 -- how many calls failed: one more where one is at fault
 abbrev pub failures_after_fault : ShowFault → ℕ → ℕ
-failures_after_fault (fault.Line number e) n = n
-failures_after_fault (fault.Refused number e) n = n
-failures_after_fault (fault.Torn number) n = n
 failures_after_fault fault.Read n = one_more n
 failures_after_fault fault.Write n = one_more n
-failures_after_fault fault.Memory n = n
+failures_after_fault e n = n
 
 abbrev pub failures_after_compaction : {A : Type 0} → Result A ShowFault → ℕ → ℕ
 failures_after_compaction (Ok a) n = n

@@ -6,7 +6,7 @@ use Rattle.std.specs.declared.cmp.Ordering.TheVariants.{Less}
 use Rattle.std.specs.Cmp.Lexicographic.{slice_cmp}
 use Rattle.rga_ops.specs.Identifier.{is_id}
 use Rattle.rga_ops.specs.declared.op.Op.{Op}
-use Rattle.rga_ops.specs.declared.op.Op.TheVariants.{Insert, Delete}
+use Rattle.rga_ops.specs.declared.op.Op.TheVariants.{Insert}
 use Rattle.rga_lines.specs.Log.{operations_at}
 use Rattle.rga_lines.specs.declared.fault.LineFault.{LineFault}
 use Rattle.rga_lines.specs.Spelling.{line}
@@ -48,8 +48,7 @@ IsLessLine op other = slice_cmp nat_cmp (line op) (line other) ≡ Less
 abbrev pub Beats : Op → Op → Type 0
 Beats (Insert id parent ch) (Insert other above char) =
     (id ≡ other) × IsLessLine (Insert id parent ch) (Insert other above char)
-Beats (Insert id parent ch) (Delete other) = ⊥
-Beats (Delete id) other = ⊥
+Beats op other = ⊥
 
 -- an operation of the list beats this one
 abbrev pub IsBeaten : List Op → Op → Type 0
@@ -62,8 +61,7 @@ is_less_line op other = is_lt (slice_cmp nat_cmp (line op) (line other))
 abbrev pub beats : Op → Op → Bool
 beats (Insert id parent ch) (Insert other above char) =
     is_id id other && is_less_line (Insert id parent ch) (Insert other above char)
-beats (Insert id parent ch) (Delete other) = false
-beats (Delete id) other = false
+beats op other = false
 
 abbrev pub is_beaten : List Op → Op → Bool
 is_beaten ops op = list_any (λ other. beats other op) ops
@@ -92,8 +90,7 @@ mended_as Faulty part stay = []
 -- what is left out of the log for them: nothing, or all of them
 abbrev pub refused_as : Fate → List ℕ → List ℕ
 refused_as Kept part = []
-refused_as Beaten part = part
-refused_as Faulty part = part
+refused_as f part = part
 
 abbrev pub mended_part : List Op → List ℕ → Said → List ℕ
 mended_part all part said = mended_as (fate all said) part (unbeaten all (operations_said said))
@@ -135,14 +132,12 @@ refused_of bytes = refused_from (whole_operations bytes) (lines_of bytes) (rest_
 -- ---- what was left out, in lines
 
 abbrev pub is_beaten_line : Fate → Bool
-is_beaten_line Kept = false
 is_beaten_line Beaten = true
-is_beaten_line Faulty = false
+is_beaten_line f = false
 
 abbrev pub is_faulty : Fate → Bool
-is_faulty Kept = false
-is_faulty Beaten = false
 is_faulty Faulty = true
+is_faulty f = false
 
 abbrev pub one_if : Bool → ℕ
 one_if test = if test then 1 else 0

@@ -36,43 +36,23 @@ port_fault port.File = File
 port_fault port.Memory = Memory
 
 abbrev pub load_fault : LoadFault → MergeFault
-load_fault (load.Log e) = Load (load.Log e)
-load_fault load.NotText = Load load.NotText
-load_fault (load.Store e) = Load (load.Store e)
 load_fault load.Memory = Memory
+load_fault e = Load e
 
 -- the fault of the log with this index: memory is no log's
 abbrev pub at_log : ℕ → ShowFault → MergeFault
-at_log n (show.Line number e) = Log n (show.Line number e)
-at_log n (show.Refused number e) = Log n (show.Refused number e)
-at_log n (show.Torn number) = Log n (show.Torn number)
-at_log n show.Read = Log n show.Read
-at_log n show.Write = Log n show.Write
 at_log n show.Memory = Memory
+at_log n e = Log n e
 
 -- how many calls of the port failed, after this answer to a merge
 abbrev pub calls_failed : {A : Type 0} → Result A MergeFault → ℕ → ℕ
-calls_failed (Ok a) n = n
-calls_failed (Err NoLog) n = n
-calls_failed (Err (Load e)) n = n
-calls_failed (Err (Log index e)) n = n
-calls_failed (Err (Apart index)) n = n
-calls_failed (Err (Far index)) n = n
-calls_failed (Err TextStays) n = n
 calls_failed (Err File) n = one_more n
-calls_failed (Err Memory) n = n
+calls_failed r n = n
 
 -- how many reads of the sources failed
 abbrev pub reads_failed : {A : Type 0} → Result A MergeFault → ℕ → ℕ
-reads_failed (Ok a) n = n
-reads_failed (Err NoLog) n = n
-reads_failed (Err (Load e)) n = n
 reads_failed (Err (Log index e)) n = failures_after {A = Unit {0}} (Err e) n
-reads_failed (Err (Apart index)) n = n
-reads_failed (Err (Far index)) n = n
-reads_failed (Err TextStays) n = n
-reads_failed (Err File) n = n
-reads_failed (Err Memory) n = n
+reads_failed r n = n
 
 -- ---- the note
 
@@ -102,12 +82,7 @@ pub record LoadsNote (calls more : Option (List Call)) (name : List ℕ) (b : Op
 abbrev pub IsNotLoaded : List ℕ → Files → MergeFault → Type 0
 IsNotLoaded name found NoLog = (found.log ≡ None) × (found.text ≢ None)
 IsNotLoaded name found (Load e) = note_outcome name found ≡ Err e
-IsNotLoaded name found (Log n e) = ⊥
-IsNotLoaded name found (Apart n) = ⊥
-IsNotLoaded name found (Far n) = ⊥
-IsNotLoaded name found TextStays = ⊥
-IsNotLoaded name found File = ⊥
-IsNotLoaded name found Memory = ⊥
+IsNotLoaded name found fault = ⊥
 
 -- the note was looked for, and is not loaded
 pub record FindsNoNote (calls more : Option (List Call)) (name : List ℕ) (fault : MergeFault) : Type 0 where
@@ -119,67 +94,43 @@ pub record FindsNoNote (calls more : Option (List Call)) (name : List ℕ) (faul
 abbrev pub IsOfNote : MergeFault → Type 0
 IsOfNote NoLog = ⊤
 IsOfNote (Load e) = ⊤
-IsOfNote (Log n e) = ⊥
-IsOfNote (Apart n) = ⊥
-IsOfNote (Far n) = ⊥
-IsOfNote TextStays = ⊥
-IsOfNote File = ⊥
-IsOfNote Memory = ⊥
+IsOfNote fault = ⊥
 
 -- faults that the bytes of the logs decide
 abbrev pub IsOfLogs : MergeFault → Type 0
-IsOfLogs NoLog = ⊥
-IsOfLogs (Load e) = ⊥
 IsOfLogs (Log n e) = IsOfInput e
 IsOfLogs (Apart n) = ⊤
 IsOfLogs (Far n) = ⊤
-IsOfLogs TextStays = ⊥
-IsOfLogs File = ⊥
-IsOfLogs Memory = ⊥
+IsOfLogs fault = ⊥
 
 -- faults of a note that is loaded, or put
 abbrev pub IsOfFinding : MergeFault → Type 0
 IsOfFinding NoLog = ⊤
 IsOfFinding (Load e) = ⊤
-IsOfFinding (Log n e) = ⊥
-IsOfFinding (Apart n) = ⊥
-IsOfFinding (Far n) = ⊥
-IsOfFinding TextStays = ⊥
 IsOfFinding File = ⊤
 IsOfFinding Memory = ⊤
+IsOfFinding fault = ⊥
 
 -- faults of logs that are read and taken
 abbrev pub IsOfTaking : MergeFault → Type 0
 IsOfTaking NoLog = ⊥
 IsOfTaking (Load e) = ⊥
-IsOfTaking (Log n e) = ⊤
-IsOfTaking (Apart n) = ⊤
-IsOfTaking (Far n) = ⊤
 IsOfTaking TextStays = ⊥
 IsOfTaking File = ⊥
-IsOfTaking Memory = ⊤
+IsOfTaking fault = ⊤
 
 -- faults of logs at a note
 abbrev pub IsOfMerging : MergeFault → Type 0
 IsOfMerging NoLog = ⊥
 IsOfMerging (Load e) = ⊥
-IsOfMerging (Log n e) = ⊤
-IsOfMerging (Apart n) = ⊤
-IsOfMerging (Far n) = ⊤
-IsOfMerging TextStays = ⊤
 IsOfMerging File = ⊥
-IsOfMerging Memory = ⊤
+IsOfMerging fault = ⊤
 
 -- faults of logs that are read alone
 abbrev pub IsOfReading : MergeFault → Type 0
-IsOfReading NoLog = ⊥
-IsOfReading (Load e) = ⊥
 IsOfReading (Log n e) = e ≡ show.Read
-IsOfReading (Apart n) = ⊥
-IsOfReading (Far n) = ⊥
-IsOfReading TextStays = ⊥
-IsOfReading File = ⊥
 IsOfReading Memory = ⊤
+IsOfReading fault = ⊥
 
 -- ---- logs
 
@@ -221,9 +172,7 @@ due s b = text_due s.logged b
 -- the text of a log is put first as it stands: so it is the port's own then, and is not kept
 abbrev pub first_calls : Owner → List ℕ → Option (List ℕ) → List Call
 first_calls AnyLog name (Some text) = call PutText name text ∷ []
-first_calls AnyLog name None = []
-first_calls Note name text = []
-first_calls Other name text = []
+first_calls o name text = []
 
 -- all calls that write
 abbrev pub write_calls : Owner → Beside → OpenState → List Call

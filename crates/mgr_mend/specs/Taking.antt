@@ -64,9 +64,8 @@ MergeOutcome = Result LogsTaken MergeFault
 
 -- the line that was cut off is the next one after the whole lines
 abbrev pub torn_at : ℕ → ℕ → LogEnd → List Torn
-torn_at n lines end.Whole = []
-torn_at n lines end.Bare = []
 torn_at n lines (end.Torn bytes) = record { log = n; line = lines + 1 } ∷ []
+torn_at n lines e = []
 
 abbrev pub after_log : ℕ → ℕ → Content → Result LogRead LogFault → MergeOutcome
 after_log clock n c (Ok read) = if is_far clock c then Err (Far n) else Ok (logs_taken c (torn_at n read.lines read.end))

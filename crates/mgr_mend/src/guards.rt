@@ -1,15 +1,13 @@
 //! What keeps logs of other notes, and broken ones, out of a note.
-ghost use Rattle.std.specs.Prelude.{◌≡◌, ◌==◌, ◌||◌, ◌∷◌, [], ◌<◌, length, position, Err, Ok, IfOk, MatchOption};
+ghost use Rattle.std.specs.Prelude.{◌≡◌, ◌||◌, ◌∷◌, [], ◌<◌, length, IfOk, MatchOption};
 ghost use Rattle.std.specs.List.{list_any};
-ghost use Rattle.rga_lines.specs.Log.{operations_at, operations_of};
-ghost use Rattle.rga_lines.specs.Stream.{newline};
-ghost use Rattle.rga_lines.specs.declared.fault.LineFault.{LineFault as Fault};
+ghost use Rattle.rga_lines.specs.Log.{operations_of};
 ghost use Rattle.mgr_show.specs.Joined.{is_far};
 ghost use Rattle.mgr_mend.specs.Mending.{all_lines};
 ghost use Rattle.mgr_mend.specs.Taking.{are_any, are_untied, is_apart, is_known, is_tied};
 
+use crate::reading::operations_of_line;
 use memchr::memchr;
-use rga_lines::{Line, LineFault, read_any};
 use rga_ops::{Id, Op};
 use rga_store::TextStore;
 use std::alloc::{AllocError, Global};
@@ -42,7 +40,7 @@ fn are_untied<S: TextStore>(alloc: Global, store: &S, bytes: &[u8]) -> Result<bo
     let mut rest = bytes;
     'lines: loop {
         let (line, behind) = first_line(rest);
-        let Some(ops) = read_operations(alloc, line)? else {
+        let Some(ops) = operations_of_line(alloc, line)? else {
             return Ok(some);
         };
         if is_any_tied(store, &ops) {
@@ -74,42 +72,9 @@ fn first_line(bytes: &[u8]) -> (&[u8], Option<&[u8]>)
         (λ behind. (all_lines bytes.now ≡ result.0.now ∷ all_lines behind.now)
         × (length behind.now < length bytes.now)) }
 {
-    match line_end(bytes) {
+    match memchr(b'\n', bytes) {
         Some(end) => (&bytes[..end], Some(&bytes[end + 1..])),
         None => (bytes, None),
-    }
-}
-
-/// The index of the first newline.
-fn line_end(bytes: &[u8]) -> Option<usize>
-    ensures { result ≡ position (λ b. b == newline) bytes.now }
-{
-    memchr(b'\n', bytes)
-}
-
-/// The operations that a line stands for; `None` for one that stands for none.
-fn read_operations(alloc: Global, line: &[u8]) -> Result<Option<Vec<Op>>, AllocError>
-    ensures { IfOk result (λ o. MatchOption o ((e : Fault) × (operations_at line.now ≡ Err e))
-        (λ ops. operations_at line.now ≡ Ok ops.items)) }
-{
-    match read_any(alloc, line) {
-        Ok(Line::One(op)) => Ok(Some(vec![in alloc; op]?)),
-        Ok(Line::Run(run)) => {
-            let Ok(ops) = run.ops(alloc) else {
-                return Err(AllocError);
-            };
-            Ok(Some(ops))
-        }
-        Ok(Line::Deletions(run)) => {
-            let Ok(ops) = run.ops(alloc) else {
-                return Err(AllocError);
-            };
-            Ok(Some(ops))
-        }
-        Ok(Line::Head) => Ok(None),
-        Ok(Line::Last(_)) => Ok(None),
-        Err(LineFault::Memory) => Err(AllocError),
-        Err(_) => Ok(None),
     }
 }
 

@@ -1,6 +1,7 @@
 //! The operations of a damaged log.
-ghost use Rattle.std.specs.Prelude.{◌≡◌, ◌∷◌, [], ◌++◌, Some, length, IfOk, OnOk};
+ghost use Rattle.std.specs.Prelude.{◌≡◌, ◌∷◌, [], ◌++◌, Ok, Err, IfOk, OnOk, MatchOption};
 ghost use Rattle.rga_lines.specs.Log.{operations_at};
+ghost use Rattle.rga_lines.specs.declared.fault.LineFault.{LineFault as Fault};
 ghost use Rattle.mgr_mend.specs.Mending.{line_operations, all_lines, whole_operations};
 ghost use Rattle.mgr_mend.specs.Parts.{count_said, counts_of};
 
@@ -64,7 +65,8 @@ fn read_line(alloc: Global, ops: &mut Vec<Op>, line: &[u8]) -> Result<Option<usi
 {
     if let Some(deletion) = read_deletion(line) {
         ops.clear();
-        return put_all(ops, &[deletion]);
+        ops.push(deletion)?;
+        return Ok(Some(1));
     }
     match read_insertions(ops, line) {
         Ok(true) => Ok(Some(ops.as_slice().len())),
@@ -79,33 +81,35 @@ fn read_other(alloc: Global, ops: &mut Vec<Op>, line: &[u8]) -> Result<Option<us
     ensures count { IfOk result (λ count. count ≡ count_said (operations_at line.now)) }
 {
     ops.clear();
+    let Some(own) = operations_of_line(alloc, line)? else {
+        return Ok(None);
+    };
+    ops.extend_from_slice(&own)?;
+    Ok(Some(own.as_slice().len()))
+}
+
+/// The operations that a line stands for; `None` for one that stands for none.
+pub(crate) fn operations_of_line(alloc: Global, line: &[u8]) -> Result<Option<Vec<Op>>, AllocError>
+    ensures { IfOk result (λ o. MatchOption o ((e : Fault) × (operations_at line.now ≡ Err e))
+        (λ ops. operations_at line.now ≡ Ok ops.items)) }
+{
     match read_any(alloc, line) {
-        Ok(Line::One(op)) => put_all(ops, &[op]),
+        Ok(Line::One(op)) => Ok(Some(vec![in alloc; op]?)),
         Ok(Line::Run(run)) => {
-            let Ok(own) = run.ops(alloc) else {
+            let Ok(ops) = run.ops(alloc) else {
                 return Err(AllocError);
             };
-            put_all(ops, own.as_slice())
+            Ok(Some(ops))
         }
         Ok(Line::Deletions(run)) => {
-            let Ok(own) = run.ops(alloc) else {
+            let Ok(ops) = run.ops(alloc) else {
                 return Err(AllocError);
             };
-            put_all(ops, own.as_slice())
+            Ok(Some(ops))
         }
         Ok(Line::Head) => Ok(None),
         Ok(Line::Last(_)) => Ok(None),
         Err(LineFault::Memory) => Err(AllocError),
         Err(_) => Ok(None),
     }
-}
-
-/// Puts operations into the list, which is empty, and answers how many they are.
-fn put_all(ops: &mut Vec<Op>, own: &[Op]) -> Result<Option<usize>, AllocError>
-    requires { ops.old.items ≡ [] }
-    ensures ops { OnOk result (ops.new.items ≡ own.now) }
-    ensures count { IfOk result (λ count. count ≡ Some (length own.now)) }
-{
-    ops.extend_from_slice(own)?;
-    Ok(Some(own.len()))
 }

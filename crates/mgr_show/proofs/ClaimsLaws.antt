@@ -1,6 +1,7 @@
 -- What is written of the claims of a log.
-use Rattle.std.proofs.Common.{◌≡◌, ℕ, List, Option, Some, None, subst, ◌∙◌, inr}
+use Rattle.std.proofs.Common.{◌≡◌, ℕ, List, Option, subst, ◌∙◌, inr}
 use Rattle.std.specs.Prelude.{IfSome, ◌⊎◌}
+use Rattle.std.proofs.lemmas.Option.{IfSome_then}
 use Rattle.rga_ops.specs.Content.{Content}
 use Rattle.rga_exchange.specs.Counting.{Calls, Writes, WritesFront, WritesNothing}
 use Rattle.rga_exchange.specs.declared.log.LogRead.{LogRead}
@@ -16,12 +17,10 @@ claims_of_log c d text written same is claims = record { lines = claims.lines; i
 module _ {W : Type 0} (contents : W → Option (List ℕ)) where
   pub tells : (known : Option (List ℕ)) (old new : Calls W) (c : Content) (read : LogRead) (text written : List ℕ) → IfSome known (λ bytes. IsRead bytes c read) → written ≡ text → AreClaimsOf text c → Writes contents old new written
       → IfSome known (λ bytes. TellsClaims contents old new bytes)
-  tells None old new c read text written h is claims w = tt
-  tells (Some bytes) old new c read text written h is claims w =
-      record { readable = h.readable; text = written; claims = claims_of_log c (log_content bytes) text written h.content is claims; written = w }
+  tells known old new c read text written h is claims w =
+      IfSome_then known h (λ bytes own. record { readable = own.readable; text = written; claims = claims_of_log c (log_content bytes) text written own.content is claims; written = w })
 
   pub begins_to_tell : (known : Option (List ℕ)) (old new : Calls W) (c : Content) (read : LogRead) (text written : List ℕ) → IfSome known (λ bytes. IsRead bytes c read) → written ≡ text → AreClaimsOf text c → WritesFront contents old new written
       → IfSome known (λ bytes. WritesNothing contents old new ⊎ BeginsToTell contents old new bytes)
-  begins_to_tell None old new c read text written h is claims w = tt
-  begins_to_tell (Some bytes) old new c read text written h is claims w =
-      inr (record { readable = h.readable; text = written; claims = claims_of_log c (log_content bytes) text written h.content is claims; begun = w })
+  begins_to_tell known old new c read text written h is claims w =
+      IfSome_then known h (λ bytes own. inr (record { readable = own.readable; text = written; claims = claims_of_log c (log_content bytes) text written own.content is claims; begun = w }))

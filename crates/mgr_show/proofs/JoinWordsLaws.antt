@@ -3,8 +3,8 @@ use Rattle.std.proofs.Common.{◌≡◌, ℕ, suc, zero, ◌+◌, ◌≤◌, Boo
 use Rattle.std.specs.Prelude.{◌⊎◌, ◌↔◌, Contains}
 use Rattle.std.specs.List.{list_any}
 use Rattle.std.specs.Cmp.{both_ways}
-use Rattle.std.proofs.lemmas.Bool.{or_cases, or_left, or_right}
 use Rattle.std.proofs.lemmas.List.Elements.{Contains-append_left, Contains-append_right, Contains-append_cases}
+use Rattle.std.proofs.lemmas.List.Folds.{Any-from_list_any, list_any-from_Any}
 use Rattle.rga_ops.specs.Content.{Content, content_of, join, known_count, nothing, HasSameOperations}
 use Rattle.rga_ops.specs.ListAnswer.{IsJoinable}
 use Rattle.rga_ops.specs.declared.op.Op.{Op}
@@ -62,19 +62,11 @@ of_one (first ∷ logs) op m = elim (Contains-append_cases (log_operations first
 all_within : (xs ys : List (List ℕ)) → ((log : List ℕ) → Contains xs log → Contains ys log) → (op : Op) → Contains (all_operations xs) op → Contains (all_operations ys) op
 all_within xs ys within op m = let w = of_one xs op m in in_all ys w.0 op (within w.0 w.1) w.2
 
-any_here : (p : List ℕ → Bool) (logs : List (List ℕ)) (log : List ℕ) → Contains logs log → p log ≡ true → list_any p logs ≡ true
-any_here p [] log m is = absurd (none_in log m)
-any_here p (first ∷ logs) log m is = elim (first_or_later first log logs m) [
-  | inl same ↦ or_left (p first) (list_any p logs) (ap p same ∙ is)
-  | inr behind ↦ or_right (p first) (list_any p logs) (any_here p logs log behind is)
-]
-
 any_within : (p : List ℕ → Bool) (xs ys : List (List ℕ)) → ((log : List ℕ) → Contains xs log → Contains ys log) → list_any p xs ≡ true → list_any p ys ≡ true
-any_within p [] ys within is = absurd cc
-any_within p (log ∷ xs) ys within is = elim (or_cases (p log) (list_any p xs) is) [
-  | inl own ↦ any_here p ys log (within log (here log xs)) own
-  | inr behind ↦ any_within p xs ys (λ other m. within other (later log other xs m)) behind
-]
+any_within p xs ys within is =
+    let found = Any-from_list_any p xs is in
+    let w = within found.1 (found.0, found.2, found.3) in
+    list_any-from_Any p ys (w.0, found.1, w.1, w.2, found.4)
 
 -- ---- which logs are joined
 

@@ -11,7 +11,6 @@ pub mod AuthorLaws
 pub mod PieceLaws
 pub mod LineLaws
 pub mod BesideLaws
-pub mod ToldLaws
 pub mod TallyLaws
 pub mod ClaimsLaws
 pub mod HeadLaws

@@ -1,6 +1,7 @@
 -- What is written of what claims lack.
-use Rattle.std.proofs.Common.{◌≡◌, ℕ, List, [], ◌++◌, length, Option, Some, None, Ok, refl, sym, ap, subst, ◌∙◌, lit≤, inr}
+use Rattle.std.proofs.Common.{◌≡◌, ℕ, List, [], ◌++◌, length, Option, Ok, refl, sym, ap, subst, ◌∙◌, lit≤, inr}
 use Rattle.std.specs.Prelude.{IfSome, ◌⊎◌}
+use Rattle.std.proofs.lemmas.Option.{IfSome_then}
 use Rattle.rga_ops.specs.Content.{Content, nothing, join, content_of, IsAgreed, IsSound}
 use Rattle.rga_ops.specs.ListAnswer.{AreWellFormed, IsJoinable}
 use Rattle.rga_ops.specs.declared.op.Op.{Op}
@@ -49,31 +50,26 @@ module _ {W : Type 0} (contents : W → Option (List ℕ)) where
       → IfSome claims (λ bytes. claims_heard bytes ≡ Ok peer) → read ≡ log → IfSome read (λ bytes. IsRead bytes c ended) → IsSound c
       → ops ≡ missing c peer → number ≡ length ops → Writes contents old new (log_text ops) → JoinedAfter ops
       → OnBoth claims log (λ heard bytes. WritesMissing contents old new heard bytes number)
-  writes_missing None log read old new c ended peer ops number heard same held sound are count w joined = tt
-  writes_missing (Some told) None read old new c ended peer ops number heard same held sound are count w joined = tt
-  writes_missing (Some told) (Some bytes) read old new c ended peer ops number heard same held sound are count w joined =
-      let of_log : IsRead bytes c ended = subst (λ known. IfSome known (λ bytes. IsRead bytes c ended)) same held in
+  writes_missing claims log read old new c ended peer ops number heard same held sound are count w joined =
+      IfSome_then claims heard (λ told hears. IfSome_then log (subst (λ known. IfSome known (λ bytes. IsRead bytes c ended)) same held) (λ bytes of_log.
       let is : ops ≡ lacked bytes peer = are ∙ ap (λ d. missing d peer) of_log.content in
       record {
         peer = peer;
-        heard = heard;
+        heard = hears;
         readable = of_log.readable;
         count = count ∙ ap length is;
         written = subst (λ l. Writes contents old new (log_text l)) is w;
         stands = subst (λ d. StandsFor (log_text (missing d peer)) (content_of (missing d peer))) of_log.content (stands_alone c peer sound (subst JoinedAfter are joined));
-      }
+      }))
 
   pub begins_missing : (claims log read : Option (List ℕ)) (old new : Calls W) (c : Content) (ended : LogRead) (peer : Summary) (ops : List Op)
       → IfSome claims (λ bytes. claims_heard bytes ≡ Ok peer) → read ≡ log → IfSome read (λ bytes. IsRead bytes c ended)
       → ops ≡ missing c peer → WritesFront contents old new (log_text ops)
       → OnBoth claims log (λ heard bytes. WritesNothing contents old new ⊎ BeginsMissing contents old new heard bytes)
-  begins_missing None log read old new c ended peer ops heard same held are w = tt
-  begins_missing (Some told) None read old new c ended peer ops heard same held are w = tt
-  begins_missing (Some told) (Some bytes) read old new c ended peer ops heard same held are w =
-      let of_log : IsRead bytes c ended = subst (λ known. IfSome known (λ bytes. IsRead bytes c ended)) same held in
-      inr (record {
+  begins_missing claims log read old new c ended peer ops heard same held are w =
+      IfSome_then claims heard (λ told hears. IfSome_then log (subst (λ known. IfSome known (λ bytes. IsRead bytes c ended)) same held) (λ bytes of_log. inr (record {
         peer = peer;
-        heard = heard;
+        heard = hears;
         readable = of_log.readable;
         begun = subst (λ l. WritesFront contents old new (log_text l)) (are ∙ ap (λ d. missing d peer) of_log.content) w;
-      })
+      })))

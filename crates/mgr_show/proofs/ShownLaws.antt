@@ -1,6 +1,7 @@
 -- What is written of an accepted log.
-use Rattle.std.proofs.Common.{◌≡◌, ℕ, ◌+◌, List, Option, Some, None, Result, Ok, Err, refl, sym, ap, subst, ◌∙◌, inr}
+use Rattle.std.proofs.Common.{◌≡◌, ℕ, ◌+◌, List, Option, Result, Ok, Err, refl, sym, ap, subst, ◌∙◌, inr}
 use Rattle.std.specs.Prelude.{IfErr, IfSome, ◌⊎◌}
+use Rattle.std.proofs.lemmas.Option.{IfSome_then}
 use Rattle.rga_ops.specs.Content.{Content, nothing}
 use Rattle.rga_ops.specs.Answer.{taken_one_by_one}
 use Rattle.rga_ops.proofs.TakenLaws.{taken_from_nothing, taken_list_agrees}
@@ -12,7 +13,7 @@ use Rattle.rga_lines.specs.Log.{log_operations}
 use Rattle.rga_lines.specs.Stream.{lines_of}
 use Rattle.rga_exchange.specs.declared.fault.LogFault.{LogFault}
 use Rattle.rga_exchange.specs.declared.log.LogEnd.{LogEnd}
-use Rattle.rga_exchange.specs.declared.log.LogEnd.TheVariants.{Whole, Bare, Torn}
+use Rattle.rga_exchange.specs.declared.log.LogEnd.TheVariants.{Torn}
 use Rattle.rga_exchange.specs.declared.log.LogRead.{LogRead}
 use Rattle.rga_exchange.specs.Taking.{AreTaken, Intake, content_intake, HasTakenWholeLines}
 use Rattle.rga_exchange.specs.declared.taking.Form.TheVariants.{Log}
@@ -22,7 +23,7 @@ use Rattle.rga_exchange.proofs.OperationLaws.{log_taken}
 use Rattle.mgr_show.specs.declared.fault.ShowFault.{ShowFault}
 use Rattle.mgr_show.specs.declared.fault.ShowFault.TheVariants as fault
 use Rattle.mgr_show.specs.Log.{ShowOutcome, show_fault, at_end, outcome_of, shown_from, log_of}
-use Rattle.mgr_show.specs.Shown.{shown_bytes, log_content, IsAccepted, IsTextOf, ShowsLog, BeginsToShow}
+use Rattle.mgr_show.specs.Shown.{shown_bytes, log_content, IsAccepted, ShowsLog, BeginsToShow}
 
 abbrev pub shows_it : Content → ShowOutcome
 shows_it c = Ok c
@@ -38,9 +39,8 @@ pub read_to_end : (limit : ℕ) (start c : Content) (bytes : List ℕ) → shown
 read_to_end limit start c bytes h = by_outcome (log_outcome limit start bytes) refl h
   where
     by_end : (d : Content) (n : ℕ) (end : LogEnd) → at_end d n end ≡ Ok c → (d ≡ c) × HasNothingTorn end
-    by_end d n Whole h = let same : shows_it d ≡ shows_it c = h in let is : d ≡ c = cc in (is, tt)
-    by_end d n Bare h = let same : shows_it d ≡ shows_it c = h in let is : d ≡ c = cc in (is, tt)
     by_end d n (Torn k) h = let clash : fails (fault.Torn (n + 1)) ≡ shows_it c = h in absurd cc
+    by_end d n end h = let same : shows_it d ≡ shows_it c = h in let is : d ≡ c = cc in (is, tt)
 
     by_result : (d : Content) (r : Result LogRead LogFault) → outcome_of d r ≡ Ok c → (read : LogRead) × (outcome d r ≡ (c, Ok read)) × HasNothingTorn read.end
     by_result d (Ok read) h = let ended = by_end d read.lines read.end h in (read, ap (λ e. outcome e (Ok read)) ended.0, ended.1)
@@ -54,9 +54,8 @@ pub read_is_accepted : (limit : ℕ) (start c : Content) (bytes : List ℕ) (rea
 read_is_accepted limit start c bytes read is whole = ap (λ (p : LogOutcome). outcome_of p.0 p.1) is ∙ by_end read.end whole
   where
     by_end : (end : LogEnd) → HasNothingTorn end → at_end c read.lines end ≡ Ok c
-    by_end Whole whole = refl
-    by_end Bare whole = refl
     by_end (Torn k) whole = absurd whole
+    by_end end whole = refl
 
 -- its operations were taken one by one
 pub accepted_taken : (limit : ℕ) (start c : Content) (bytes : List ℕ) → shown_from limit start bytes ≡ Ok c → taken_one_by_one limit start (log_operations bytes) ≡ Ok c
@@ -77,16 +76,7 @@ content_of_log bytes c h =
 
 pub content_of_input : (known : Option (List ℕ)) (limit : ℕ) (start c : Content) → limit ≡ MAX_LIMIT → start ≡ nothing
     → IfSome known (λ bytes. shown_from limit start bytes ≡ Ok c) → IfSome known (λ bytes. IsContentOf bytes c)
-content_of_input None limit start c same empty h = tt
-content_of_input (Some bytes) limit start c same empty h = content_of_log bytes c (sym (λ k. shown_from (same k) (empty k) bytes) ∙ h)
-
-text_of_content : (known : Option (List ℕ)) (c : Content) (written : List ℕ) → IfSome known (λ bytes. IsContentOf bytes c) → written ≡ shown_bytes c → IfSome known (λ bytes. IsTextOf bytes written)
-text_of_content None c written h is = tt
-text_of_content (Some bytes) c written h is = record { accepted = h.accepted; is = is ∙ ap shown_bytes h.is }
-
-pub text_of_input : (known : Option (List ℕ)) (limit : ℕ) (start c : Content) (written : List ℕ) → limit ≡ MAX_LIMIT → start ≡ nothing
-    → IfSome known (λ bytes. shown_from limit start bytes ≡ Ok c) → written ≡ shown_bytes c → IfSome known (λ bytes. IsTextOf bytes written)
-text_of_input known limit start c written same empty h is = text_of_content known c written (content_of_input known limit start c same empty h) is
+content_of_input known limit start c same empty h = IfSome_then known h (λ bytes taken. content_of_log bytes c (sym (λ k. shown_from (same k) (empty k) bytes) ∙ taken))
 
 abbrev made : Kept → Result Kept Refusal
 made v = Ok v
@@ -101,18 +91,16 @@ made_of_nothing v h =
 pub at_err : {A E : Type 0} (P : E → Type 0) (r : Result A E) (e : E) → r ≡ Err e → P e → IfErr r P
 at_err P r e is h = subst (λ answer. IfErr answer P) (sym is) h
 
--- it is written as it was made
-pub written_of : (known : Option (List ℕ)) (made written : List ℕ) → written ≡ made → IfSome known (λ bytes. IsTextOf bytes made) → IfSome known (λ bytes. IsTextOf bytes written)
-written_of known made written same h = subst (λ w. IfSome known (λ bytes. IsTextOf bytes w)) (sym same) h
+-- an answer that is a failed read is that of the call that it comes of
+pub read_failed : {A : Type 0} (r : Result A ShowFault) (e : ShowFault) → (p : ShowFault) × (r ≡ Err p) × (p ≡ e) → r ≡ Err fault.Read → e ≡ fault.Read
+read_failed {A} r e (p, is, one) read = sym one ∙ subst (λ (q : Result A ShowFault). IfErr q (λ f. f ≡ fault.Read)) (sym read ∙ is) refl
 
 module _ {W : Type 0} (contents : W → Option (List ℕ)) where
-  pub shows : (known : Option (List ℕ)) (old new : Calls W) (written : List ℕ) → IfSome known (λ bytes. IsTextOf bytes written) → Writes contents old new written → IfSome known (λ bytes. ShowsLog contents old new bytes)
-  shows None old new written h w = tt
-  shows (Some bytes) old new written h w = record { accepted = h.accepted; written = subst (λ l. Writes contents old new l) h.is w }
+  pub shows : (known : Option (List ℕ)) (old new : Calls W) (c : Content) (written : List ℕ) → IfSome known (λ bytes. IsContentOf bytes c) → written ≡ shown_bytes c → Writes contents old new written → IfSome known (λ bytes. ShowsLog contents old new bytes)
+  shows known old new c written h is w = IfSome_then known h (λ bytes own. record { accepted = own.accepted; written = subst (Writes contents old new) (is ∙ ap shown_bytes own.is) w })
 
-  pub begins_to_show : (known : Option (List ℕ)) (old new : Calls W) (written : List ℕ) → IfSome known (λ bytes. IsTextOf bytes written) → WritesFront contents old new written → IfSome known (λ bytes. WritesNothing contents old new ⊎ BeginsToShow contents old new bytes)
-  begins_to_show None old new written h w = tt
-  begins_to_show (Some bytes) old new written h w = inr (record { accepted = h.accepted; begun = subst (λ l. WritesFront contents old new l) h.is w })
+  pub begins_to_show : (known : Option (List ℕ)) (old new : Calls W) (c : Content) (written : List ℕ) → IfSome known (λ bytes. IsContentOf bytes c) → written ≡ shown_bytes c → WritesFront contents old new written → IfSome known (λ bytes. WritesNothing contents old new ⊎ BeginsToShow contents old new bytes)
+  begins_to_show known old new c written h is w = IfSome_then known h (λ bytes own. inr (record { accepted = own.accepted; begun = subst (WritesFront contents old new) (is ∙ ap shown_bytes own.is) w }))
 
 -- all whole lines that were read were taken, by a store that was made empty
 pub whole_from : {R : Type 0} {remaining : R → Option (List ℕ)} {r s : Calls R} {took : Intake} → took.limit ≡ MAX_LIMIT → took.old ≡ nothing → HasTakenWholeLines Log remaining r s took → (c : Content) × HasTakenWholeLines Log remaining r s (content_intake MAX_LIMIT nothing c)

@@ -6,7 +6,7 @@ use Rattle.rga_ops.specs.declared.op.Op.{Op}
 use Rattle.rga_exchange.specs.declared.fault.LogFault.{LogFault}
 use Rattle.rga_exchange.specs.declared.fault.LogFault.TheVariants as log
 use Rattle.rga_exchange.specs.declared.log.LogEnd.{LogEnd}
-use Rattle.rga_exchange.specs.declared.log.LogEnd.TheVariants.{Whole, Bare, Torn}
+use Rattle.rga_exchange.specs.declared.log.LogEnd.TheVariants.{Torn}
 use Rattle.rga_exchange.specs.declared.log.LogRead.{LogRead}
 use Rattle.rga_exchange.specs.Log.{log_outcome}
 use Rattle.rga_exchange.specs.Taking.{Intake}
@@ -25,9 +25,8 @@ show_fault log.Memory = fault.Memory
 
 -- behind n lines; a line that was cut off is the next one
 abbrev pub at_end : Content → ℕ → LogEnd → ShowOutcome
-at_end c n Whole = Ok c
-at_end c n Bare = Ok c
 at_end c n (Torn bytes) = Err (fault.Torn (n + 1))
+at_end c n end = Ok c
 
 abbrev pub outcome_of : Content → Result LogRead LogFault → ShowOutcome
 outcome_of c (Ok read) = at_end c read.lines read.end

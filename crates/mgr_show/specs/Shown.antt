@@ -29,11 +29,6 @@ pub record IsAccepted (bytes : List ℕ) : Type 0 where
   pub agreed : IsAgreed (log_operations bytes)
   pub content : log_of MAX_LIMIT bytes ≡ Ok (log_content bytes)
 
--- the text that was made of it
-pub record IsTextOf (bytes : List ℕ) (written : List ℕ) : Type 0 where
-  pub accepted : IsAccepted bytes
-  pub is : written ≡ shown_bytes (log_content bytes)
-
 module _ {W : Type 0} (contents : W → Option (List ℕ)) (old new : Calls W) where
   -- the text of an accepted log was written
   pub record ShowsLog (bytes : List ℕ) : Type 0 where

@@ -2,17 +2,15 @@
 ghost use Rattle.std.specs.Prelude.{◌≡◌, ◌≢◌, ◌⊎◌, ℕ, List, true, Ok, Err, IfOk, IfErr, IfSome};
 ghost use Rattle.std.specs.Prelude.{OnOk, OnErr};
 ghost use Rattle.rga_exchange.specs.Counting.{CountsAs, WritesNothing};
-ghost use Rattle.mgr_show.specs.Stored.{IsRead};
 ghost use Rattle.mgr_show.specs.Missing.{claims_heard, log_held, reads_failed, OnBoth};
 ghost use Rattle.mgr_show.specs.Missing.{IsOfClaims, IsOfLog, WritesMissing, BeginsMissing};
 ghost use Rattle.mgr_show.specs.Note.{log_source};
 
 use crate::fault::{MissingFault, ShowFault};
 use crate::sources::Sources;
-use crate::stored::{StoredLog, read_note};
+use crate::stored::read_note;
 use rga_brief::{Summary, hear_summary, missing};
 use rga_exchange::{Counted, ReceiveFault, append_log};
-use rga_flat::FlatStore;
 use rga_store::TextStore;
 use std::alloc::Global;
 use std::io::Write;
@@ -57,37 +55,17 @@ pub fn write_missing<S: Sources, W: Write>(
     ensures writes { CountsAs MissingFault.Write result writer.old writer.new }
 {
     let peer = read_claims(alloc, sources, claims)?;
-    let log = read_held(alloc, sources, name)?;
+    let log = match read_note(alloc, sources, name) {
+        Ok(log) => log,
+        Err(ShowFault::Memory) => return Err(MissingFault::Memory),
+        Err(fault) => return Err(MissingFault::Log(fault)),
+    };
     let _known = log.store.known();
     let Ok(ops) = missing(alloc, &log.store, &peer) else {
         return Err(MissingFault::Memory);
     };
     let number = append_log(alloc, &ops, writer)?;
     Ok(number)
-}
-
-/// The log of a note, as `read_note` says.
-fn read_held<S: Sources>(
-    alloc: Global,
-    sources: &mut S,
-    name: &str,
-) -> Result<StoredLog<FlatStore>, MissingFault>
-    ensures read { IfOk result (λ log. IfSome (S.contents sources.old (log_source name.now))
-        (λ bytes. IsRead bytes log.store.content log.read)) }
-    ensures refused { IfErr result (λ e. IsOfLog e →
-        IfSome (S.contents sources.old (log_source name.now)) (λ bytes.
-        log_held bytes ≡ Err e)) }
-    ensures of_log { IfErr result (λ e. ¬ (IsOfClaims e)) }
-    ensures whole { (number : ℕ) → result ≢ Err (MissingFault.Log (ShowFault.Torn number)) }
-    ensures no_write { result ≢ Err MissingFault.Write }
-    ensures same { (other : List ℕ) → S.contents sources.new other ≡ S.contents sources.old other }
-    ensures reads { S.failures sources.new ≡ reads_failed result (S.failures sources.old) }
-{
-    match read_note(alloc, sources, name) {
-        Ok(log) => Ok(log),
-        Err(ShowFault::Memory) => Err(MissingFault::Memory),
-        Err(fault) => Err(MissingFault::Log(fault)),
-    }
 }
 
 /// What the claims of a name say.

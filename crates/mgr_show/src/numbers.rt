@@ -87,23 +87,15 @@ fn look_at_text<S: Sources>(
         S.failures sources.new ≡ failures_of_look is (S.failures sources.old)) }
     ensures unfailed { OnErr result (S.failures sources.new ≡ S.failures sources.old) }
 {
-    match sources.read(alloc, name) {
-        Ok(bytes) => compare(alloc, &bytes, store),
-        Err(ShowFault::Read) => Ok(TextIs::Unread),
-        Err(_) => Err(ShowFault::Memory),
-    }
-}
-
-/// Whether bytes are the text of a store. `Memory` alone.
-fn compare(alloc: Global, bytes: &[u8], store: &FlatStore) -> Result<TextIs, ShowFault>
-    ensures text { IfOk result (λ is.
-        is ≡ text_is bytes.now (shown_bytes store.now.content)) }
-    ensures memory { IfErr result (λ e. e ≡ ShowFault.Memory) }
-{
+    let bytes = match sources.read(alloc, name) {
+        Ok(bytes) => bytes,
+        Err(ShowFault::Read) => return Ok(TextIs::Unread),
+        Err(_) => return Err(ShowFault::Memory),
+    };
     let Ok(text) = store.text_string(alloc) else {
         return Err(ShowFault::Memory);
     };
-    if bytes == text.as_bytes() {
+    if bytes.as_slice() == text.as_bytes() {
         return Ok(TextIs::Same);
     }
     Ok(TextIs::Other)

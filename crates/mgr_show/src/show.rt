@@ -1,6 +1,5 @@
 //! The text of a log.
-ghost use Rattle.std.specs.Prelude.{◌≡◌, ◌≢◌, ◌⊎◌, ◌||◌, true, Ok, Err, OnOk, OnErr, IfOk, IfErr};
-ghost use Rattle.std.specs.Prelude.{string_bytes};
+ghost use Rattle.std.specs.Prelude.{◌≡◌, ◌≢◌, ◌⊎◌, ◌||◌, true, Ok, Err, OnOk, OnErr, IfErr};
 ghost use Rattle.rga_ops.specs.Prelude.{Content, nothing};
 ghost use Rattle.rga_store.specs.declared.text_store.TheConstants.{MAX_LIMIT};
 ghost use Rattle.rga_exchange.specs.Counting.{CountsAs, OnBytes, Writes, WritesFront, WritesNothing};
@@ -8,7 +7,7 @@ ghost use Rattle.rga_exchange.specs.DeletionRuns.{has_deletion_runs};
 ghost use Rattle.rga_exchange.specs.Taking.{intake, content_intake, HasTakenWholeLines};
 ghost use Rattle.rga_exchange.specs.declared.taking.Form.TheVariants.{Log};
 ghost use Rattle.mgr_show.specs.Log.{log_of, shown_from};
-ghost use Rattle.mgr_show.specs.Shown.{IsOfInput, IsTextOf, ShowsLog, BeginsToShow};
+ghost use Rattle.mgr_show.specs.Shown.{IsOfInput, ShowsLog, BeginsToShow};
 
 use crate::fault::ShowFault;
 use rga_exchange::{Counted, LogEnd, take_log};
@@ -49,23 +48,6 @@ pub fn show_ops<R: Read, W: Write>(
     ensures reads { CountsAs ShowFault.Read result reader.old reader.new }
     ensures writes { CountsAs ShowFault.Write result writer.old writer.new }
 {
-    let text = text_of_log(alloc, reader)?;
-    write_text(text.as_str(), writer)
-}
-
-/// The text of a log, whose operations are put in order once all are read.
-fn text_of_log<R: Read>(alloc: Global, reader: &mut Counted<R>) -> Result<String, ShowFault>
-    ensures text { IfOk result (λ text. OnBytes R.remaining reader.old
-        (λ bytes. IsTextOf bytes (string_bytes text))) }
-    ensures refused { IfErr result (λ e. IsOfInput e → OnBytes R.remaining reader.old
-        (λ bytes. log_of MAX_LIMIT bytes ≡ Err e)) }
-
-    ensures whole_lines { IfErr result (λ e. e ≡ ShowFault.Read → (c : Content)
-        × HasTakenWholeLines Log R.remaining reader.old reader.new
-        (content_intake MAX_LIMIT nothing c)) }
-    ensures device { CountsAs ShowFault.Read result reader.old reader.new }
-    ensures no_write { result ≢ Err ShowFault.Write }
-{
     let Ok(mut records) = Records::new(alloc, MAX_LIMIT) else {
         return Err(ShowFault::Memory);
     };
@@ -73,7 +55,7 @@ fn text_of_log<R: Read>(alloc: Global, reader: &mut Counted<R>) -> Result<String
     let Ok(text) = records.text_string(alloc) else {
         return Err(ShowFault::Memory);
     };
-    Ok(text)
+    write_text(text.as_str(), writer)
 }
 
 /// Takes the operations of a log to its end, where a last line that was cut off is a fault.

@@ -1,14 +1,12 @@
 //! The numbers of a log as they are written.
-ghost use Rattle.std.specs.Prelude.{◌≡◌, ◌++◌, OnOk, IfOk, map, codes, decimal, string_bytes};
+ghost use Rattle.std.specs.Prelude.{◌≡◌, ◌++◌, OnOk, IfOk, map, string_bytes};
 ghost use Rattle.std.specs.List.{flat_map, join_with_byte};
-ghost use Rattle.mgr_show.specs.Told.{operations_line, size_lines, tally_line};
-ghost use Rattle.mgr_show.specs.Told.{operations_members, size_members, tally_object};
-ghost use Rattle.mgr_show.specs.Told.{end_name, numbers_bytes, text_name};
+ghost use Rattle.mgr_show.specs.Told.{end_name, numbers_bytes, operations_line, operations_members};
+ghost use Rattle.mgr_show.specs.Told.{size_lines, size_members, tally_line, tally_object, text_name};
 
 use crate::counts::Counts;
 use crate::numbers::{Numbers, TextIs};
 use crate::tallies::Tally;
-use itoa::Buffer;
 use rga_exchange::LogEnd;
 use std::alloc::{AllocError, Global};
 use std::collections::BTreeMap;
@@ -38,26 +36,16 @@ pub(crate) fn numbers_text(
     Ok(text)
 }
 
-/// Adds words, and a number after them.
-fn push_number(text: &mut String, words: &str, number: u64) -> Result<(), AllocError>
-    ensures { OnOk result (string_bytes text.new
-        ≡ string_bytes text.old ++ (words.now ++ decimal number)) }
-{
-    let mut digits = Buffer::new();
-    text.push_str(words)?;
-    text.push_str(digits.format(number))
-}
-
 #[tactic(auto, unfolding(crate::specs::Told::operations_line))]
 fn push_operations_line(text: &mut String, name: &str, counts: &Counts) -> Result<(), AllocError>
     ensures { OnOk result (string_bytes text.new
         ≡ string_bytes text.old ++ operations_line name.now counts.now) }
 {
-    text.push_str(name)?;
-    push_number(text, ".ops: ", counts.operations as u64)?;
-    push_number(text, " operations: ", counts.insertions as u64)?;
-    push_number(text, " insertions, ", counts.deletions as u64)?;
-    text.push_str(" deletions\n")
+    write!(
+        text,
+        "{name}.ops: {} operations: {} insertions, {} deletions\n",
+        counts.operations, counts.insertions, counts.deletions,
+    )
 }
 
 #[tactic(auto, unfolding(crate::specs::Told::size_lines))]
@@ -65,15 +53,13 @@ fn push_size_lines(text: &mut String, numbers: &Numbers) -> Result<(), AllocErro
     ensures { OnOk result (string_bytes text.new
         ≡ string_bytes text.old ++ size_lines numbers.now) }
 {
-    push_number(text, "", numbers.counts.visible as u64)?;
-    push_number(text, " visible, ", numbers.counts.waiting as u64)?;
-    push_number(text, " waiting, ", numbers.bytes as u64)?;
-    text.push_str(" bytes, ends ")?;
-    text.push_str(name_of_end(numbers.end))?;
-    text.push_str("\ntext: ")?;
-    text.push_str(name_of_text(numbers.text))?;
-    text.push_str("\n")?;
-    Ok(())
+    let end = name_of_end(numbers.end);
+    let is = name_of_text(numbers.text);
+    write!(
+        text,
+        "{} visible, {} waiting, {} bytes, ends {end}\ntext: {is}\n",
+        numbers.counts.visible, numbers.counts.waiting, numbers.bytes,
+    )
 }
 
 /// Adds a line for each replica.
@@ -93,11 +79,11 @@ fn push_line(text: &mut String, replica: u16, tally: Tally) -> Result<(), AllocE
     ensures { OnOk result (string_bytes text.new
         ≡ string_bytes text.old ++ tally_line (replica, tally)) }
 {
-    push_number(text, "replica ", replica as u64)?;
-    push_number(text, ": ", tally.characters)?;
-    push_number(text, " characters, greatest counter ", tally.counter)?;
-    text.push_str("\n")?;
-    Ok(())
+    write!(
+        text,
+        "replica {replica}: {} characters, greatest counter {}\n",
+        tally.characters, tally.counter,
+    )
 }
 
 #[tactic(auto, unfolding(crate::specs::Told::operations_members))]
@@ -105,10 +91,11 @@ fn push_operations_members(text: &mut String, counts: &Counts) -> Result<(), All
     ensures { OnOk result (string_bytes text.new
         ≡ string_bytes text.old ++ operations_members counts.now) }
 {
-    push_number(text, "{\"operations\":", counts.operations as u64)?;
-    push_number(text, ",\"insertions\":", counts.insertions as u64)?;
-    push_number(text, ",\"deletions\":", counts.deletions as u64)?;
-    Ok(())
+    write!(
+        text,
+        "{{\"operations\":{},\"insertions\":{},\"deletions\":{}",
+        counts.operations, counts.insertions, counts.deletions,
+    )
 }
 
 #[tactic(auto, unfolding(crate::specs::Told::size_members))]
@@ -116,15 +103,14 @@ fn push_size_members(text: &mut String, numbers: &Numbers) -> Result<(), AllocEr
     ensures { OnOk result (string_bytes text.new
         ≡ string_bytes text.old ++ size_members numbers.now) }
 {
-    push_number(text, ",\"visible\":", numbers.counts.visible as u64)?;
-    push_number(text, ",\"waiting\":", numbers.counts.waiting as u64)?;
-    push_number(text, ",\"bytes\":", numbers.bytes as u64)?;
-    text.push_str(",\"end\":\"")?;
-    text.push_str(name_of_end(numbers.end))?;
-    text.push_str("\",\"text\":\"")?;
-    text.push_str(name_of_text(numbers.text))?;
-    text.push_str("\"")?;
-    Ok(())
+    let counts = &numbers.counts;
+    let end = name_of_end(numbers.end);
+    let is = name_of_text(numbers.text);
+    write!(
+        text,
+        ",\"visible\":{},\"waiting\":{},\"bytes\":{},\"end\":\"{end}\",\"text\":\"{is}\"",
+        counts.visible, counts.waiting, numbers.bytes,
+    )
 }
 
 /// Adds an object for each replica, with commas between them.
@@ -149,11 +135,11 @@ fn push_object(text: &mut String, replica: u16, tally: Tally) -> Result<(), Allo
     ensures { OnOk result (string_bytes text.new
         ≡ string_bytes text.old ++ tally_object (replica, tally)) }
 {
-    push_number(text, "{\"replica\":", replica as u64)?;
-    push_number(text, ",\"characters\":", tally.characters)?;
-    push_number(text, ",\"counter\":", tally.counter)?;
-    text.push_str("}")?;
-    Ok(())
+    write!(
+        text,
+        "{{\"replica\":{replica},\"characters\":{},\"counter\":{}}}",
+        tally.characters, tally.counter,
+    )
 }
 
 fn name_of_end(end: LogEnd) -> &'static str

@@ -3,7 +3,7 @@ ghost use Rattle.std.specs.Prelude.{◌≡◌, ◌≢◌, ◌⊎◌, ℕ, List, 
 ghost use Rattle.std.specs.Prelude.{IfOk, IfErr, IfSome, OnOk, OnErr};
 ghost use Rattle.rga_exchange.specs.Counting.{CountsAs, WritesNothing};
 ghost use Rattle.mgr_show.specs.Shown.{IsOfInput, log_content};
-ghost use Rattle.mgr_show.specs.Note.{log_name, IsReadable};
+ghost use Rattle.mgr_show.specs.Note.{log_name};
 ghost use Rattle.mgr_show.specs.Sources.{failures_after};
 ghost use Rattle.mgr_show.specs.Authors.{authors_bytes};
 ghost use Rattle.mgr_show.specs.About.{read_of, WritesAbout, BeginsToWriteAbout};
@@ -57,31 +57,12 @@ pub fn write_authors<S: Sources, W: Write>(
     ensures reads { S.failures sources.new ≡ failures_after result (S.failures sources.old) }
     ensures writes { CountsAs ShowFault.Write result writer.old writer.new }
 {
-    let text = authors_text(alloc, sources, name, by_lines)?;
-    write_text(&text, writer)
-}
-
-/// What is written of a note.
-fn authors_text<S: Sources>(
-    alloc: Global,
-    sources: &mut S,
-    name: &str,
-    by_lines: bool,
-) -> Result<String, ShowFault>
-    ensures text { IfOk result (λ text. IfSome (S.contents sources.old (log_name name.now))
-        (λ bytes. string_bytes text ≡ authors_bytes by_lines (log_content bytes))) }
-    ensures readable { OnOk result (IfSome (S.contents sources.old (log_name name.now))
-        (λ bytes. IsReadable bytes)) }
-    ensures refused { IfErr result (λ e. IsOfInput e →
-        IfSome (S.contents sources.old (log_name name.now)) (λ bytes. read_of bytes ≡ Err e)) }
-    ensures whole { (number : ℕ) → result ≢ Err (ShowFault.Torn number) }
-    ensures no_write { result ≢ Err ShowFault.Write }
-    ensures same { (other : List ℕ) → S.contents sources.new other ≡ S.contents sources.old other }
-    ensures reads { S.failures sources.new ≡ failures_after result (S.failures sources.old) }
-{
     let file = log_name(alloc, name)?;
     let log = read_log::<FlatStore, S>(alloc, sources, file.as_str())?;
-    content_text(alloc, &log.store, by_lines).map_err(|_| ShowFault::Memory)
+    let Ok(text) = content_text(alloc, &log.store, by_lines) else {
+        return Err(ShowFault::Memory);
+    };
+    write_text(&text, writer)
 }
 
 /// What is written of a content. `Memory` alone.

@@ -1,13 +1,16 @@
-use Rattle.std.proofs.Common.{◌+◌, refl, sym, ◌∙◌}
+use Rattle.std.proofs.Common.{ℕ, ◌+◌, ◌<◌, List, ◌∷◌, length, take, sym, ap, subst, ◌∙◌}
 use Rattle.std.proofs.lemmas.List.{take_rest}
-use Rattle.mgr_mend.proofs.GuardLemmas.{first_of_lines, rest_alone, shorter}
-use Rattle.rga_lines.proofs.StreamLemmas.{first_line, no_first_line}
+use Rattle.mgr_mend.specs.Mending.{all_lines}
+use Rattle.mgr_mend.proofs.LinesLemmas.{FirstPart, first_part, all_lines-first, all_lines-only, shorter}
 use Rattle.mgr_mend.proofs.guards.first_line.Goals as goal
 
 pub returns-in-None : goal.returns-in-None
-returns-in-None c = rest_alone _ (no_first_line _ (sym c.line_end.ensures ∙ c.in-None.is))
+returns-in-None c = all_lines-only c.args.bytes.now c.in-None.ensures
 
 pub returns-in-Some : goal.returns-in-Some
 returns-in-Some c =
-    let first = first_line c.args.bytes.now c.in-Some.end (sym c.line_end.ensures ∙ c.in-Some.is) in
-    (first_of_lines c.args.bytes.now _ _ c.in-Some.end first refl (take_rest c.args.bytes.now (c.in-Some.end + 1)), shorter c.args.bytes.now _ c.in-Some.end first.within (take_rest c.args.bytes.now (c.in-Some.end + 1)))
+    let bytes : List ℕ = c.args.bytes.now in
+    let n : ℕ = c.in-Some.end in
+    let first : FirstPart bytes n = first_part bytes n c.in-Some.ensures in
+    let behind = sym (take_rest bytes (n + 1)) in
+    (all_lines-first bytes n first ∙ ap (λ (b : List ℕ). take n bytes ∷ all_lines b) behind, subst (λ (b : List ℕ). length b < length bytes) behind (shorter bytes n first))

@@ -1,8 +1,10 @@
-use Rattle.std.proofs.Common.{arith}
+use Rattle.std.proofs.Common.{arith, ◌∙◌}
+use Rattle.std.specs.List.{flat_map}
+use Rattle.std.proofs.lemmas.List.Concat.{flat_map_single}
 use Rattle.rga_lines.specs.Log.{operations_at}
 use Rattle.mgr_mend.specs.Mending.{line_operations, all_lines, whole_operations}
-use Rattle.mgr_mend.specs.Parts.{count_said, counts_of}
-use Rattle.mgr_mend.proofs.LinesLemmas.{FirstPart, first_part, all_lines-only, gathers_line, gathers_rest, lists_line, lists_rest, shorter}
+use Rattle.mgr_mend.specs.Parts.{count_said}
+use Rattle.mgr_mend.proofs.LinesLemmas.{FirstPart, first_part, all_lines-only, count_line, gathers_line, gathers_rest, shorter}
 use Rattle.mgr_mend.proofs.reading.read_operations.Goals as goal
 
 pub lines-preserved : goal.lines-preserved
@@ -14,7 +16,7 @@ lines-preserved c =
     let back = c.split_at-in-Some.ensures.back in
     record {
       read = gathers_line line_operations c.lines.ops.items c.add_line.new.ops.items (whole_operations c.args.bytes.now) rest c.split_at.result.0.now c.split_at-in-Some.result.1.now n first front back c.in_ok-add_line.ensures.ops c.lines.invariant.read;
-      counted = lists_line (λ bytes. count_said (operations_at bytes)) c.lines.counts.items c.add_line.new.counts.items (counts_of (all_lines c.args.bytes.now)) rest c.split_at.result.0.now c.split_at-in-Some.result.1.now n first front back c.in_ok-add_line.ensures.counts c.lines.invariant.counted;
+      counted = gathers_line count_line c.lines.counts.items c.add_line.new.counts.items (flat_map count_line (all_lines c.args.bytes.now)) rest c.split_at.result.0.now c.split_at-in-Some.result.1.now n first front back c.in_ok-add_line.ensures.counts c.lines.invariant.counted;
       within = rw back (omega (arith, shorter rest n first, c.lines.invariant.within));
     }
 
@@ -36,4 +38,5 @@ returns-clause-ops c =
 pub returns-clause-counts : goal.returns-clause-counts
 returns-clause-counts c =
     let rest = c.lines.rest.now in
-    lists_rest (λ bytes. count_said (operations_at bytes)) c.lines.counts.items c.add_line-2.new.counts.items (counts_of (all_lines c.args.bytes.now)) rest (all_lines-only rest (rw c.in_default.is at c.memchr.ensures)) c.in_ok-add_line-2.ensures.counts c.lines.invariant.counted
+    gathers_rest count_line c.lines.counts.items c.add_line-2.new.counts.items (flat_map count_line (all_lines c.args.bytes.now)) rest (all_lines-only rest (rw c.in_default.is at c.memchr.ensures)) c.in_ok-add_line-2.ensures.counts c.lines.invariant.counted
+    ∙ flat_map_single (λ bytes. count_said (operations_at bytes)) (all_lines c.args.bytes.now)

@@ -1,8 +1,6 @@
-use Rattle.std.proofs.Common.{◌≡◌, ◌∙◌, Result, Err, refl, sym}
+use Rattle.std.proofs.Common.{refl}
 use Rattle.std.proofs.lemmas.Result.{err_from_is_err_and}
-use Rattle.mgr_show.specs.declared.fault.ShowFault.{ShowFault}
-use Rattle.mgr_show.specs.declared.fault.ShowFault.TheVariants.{Read}
-use Rattle.mgr_show.proofs.ShownLaws.{content_of_input, made_of_nothing, whole_from}
+use Rattle.mgr_show.proofs.ShownLaws.{content_of_input, made_of_nothing, read_failed, whole_from}
 use Rattle.mgr_show.proofs.CompactedLaws.{compacts, begins_to_compact, on_err}
 use Rattle.mgr_show.proofs.compact.compact_log.Goals as goal
 
@@ -18,14 +16,7 @@ returns-in_err-compact_records-clause-begun g c =
     let content = content_of_input _ _ _ _ made.1 made.0 c.in_ok-take_whole_log.ensures.ok in
     on_err c.from_residual-in_err-compact_records.result (begins_to_compact _ _ _ _ _ _ _ content c.in_ok-take_whole_log.ensures.deletion_runs c.in_err-compact_records.ensures.begun)
 
-abbrev failed : ShowFault → Result (Unit {0}) ShowFault
-failed e = Err e
-
 pub returns-in_err-take_whole_log-clause-whole_lines : goal.returns-in_err-take_whole_log-clause-whole_lines
 returns-in_err-take_whole_log-clause-whole_lines g c =
     let made = made_of_nothing c.in-Ok.records (c.in-Ok.ensures.made refl) in
-    let p = err_from_is_err_and c.from_residual.result c.from_residual.ensures.1 in
-    λ read.
-    let answered : failed p.0 ≡ failed Read = sym p.1 ∙ read in
-    let is : p.0 ≡ Read = cc in
-    whole_from made.1 made.0 (c.in_err-take_whole_log.ensures.whole_lines (sym p.2 ∙ is))
+    λ read. whole_from made.1 made.0 (c.in_err-take_whole_log.ensures.whole_lines (read_failed c.from_residual.result _ (err_from_is_err_and c.from_residual.result c.from_residual.ensures.1) read))

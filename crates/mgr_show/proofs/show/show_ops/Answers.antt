@@ -1,27 +1,22 @@
-use Rattle.std.proofs.Common.{◌≡◌, ◌∙◌, Result, Err, sym}
-use Rattle.std.proofs.lemmas.Result.{on_ok_weaker, IfErr-weaker, err_from_is_err_and}
-use Rattle.mgr_show.specs.declared.fault.ShowFault.{ShowFault}
-use Rattle.mgr_show.specs.declared.fault.ShowFault.TheVariants.{Read}
-use Rattle.mgr_show.proofs.ShownLaws.{shows, begins_to_show, written_of}
+use Rattle.std.proofs.Common.{◌∙◌, refl}
+use Rattle.std.proofs.lemmas.Result.{on_ok_weaker, err_from_is_err_and}
+use Rattle.mgr_show.proofs.ShownLaws.{content_of_input, made_of_nothing, shows, begins_to_show, read_failed, whole_from}
+use Rattle.mgr_show.proofs.CompactedLaws.{on_err}
 use Rattle.mgr_show.proofs.show.show_ops.Goals as goal
 
 pub returns-clause-shown : goal.returns-clause-shown
 returns-clause-shown g c =
-    let text = written_of _ _ _ c.as_str.ensures.value c.in_ok-text.ensures.text in
-    on_ok_weaker c.write_text.result (λ written. shows _ _ c.args.writer.now c.write_text.new.writer c.as_str.result.now text written) c.write_text.ensures.written
+    let made = made_of_nothing c.in-Ok.records (c.in-Ok.ensures.made refl) in
+    let content = content_of_input _ _ _ _ made.1 made.0 c.in_ok-take_whole_log.ensures.ok in
+    on_ok_weaker c.write_text.result (λ written. shows _ _ c.args.writer.now c.write_text.new.writer _ _ content (c.as_str.ensures.value ∙ c.in-Ok-text_string.ensures.ok) written) c.write_text.ensures.written
 
 pub returns-clause-begun : goal.returns-clause-begun
 returns-clause-begun g c =
-    let text = written_of _ _ _ c.as_str.ensures.value c.in_ok-text.ensures.text in
-    IfErr-weaker c.write_text.result _ _ (λ e failed. begins_to_show _ _ _ _ c.as_str.result.now text c.write_text.ensures.begun) c.write_text.ensures.fault
+    let made = made_of_nothing c.in-Ok.records (c.in-Ok.ensures.made refl) in
+    let content = content_of_input _ _ _ _ made.1 made.0 c.in_ok-take_whole_log.ensures.ok in
+    on_err c.write_text.result (begins_to_show _ _ _ _ _ _ content (c.as_str.ensures.value ∙ c.in-Ok-text_string.ensures.ok) c.write_text.ensures.begun)
 
-abbrev failed : ShowFault → Result (Unit {0}) ShowFault
-failed e = Err e
-
-pub returns-in_err-text-clause-whole_lines : goal.returns-in_err-text-clause-whole_lines
-returns-in_err-text-clause-whole_lines g c =
-    let p = err_from_is_err_and c.from_residual.result c.from_residual.ensures.1 in
-    λ read.
-    let answered : failed p.0 ≡ failed Read = sym p.1 ∙ read in
-    let is : p.0 ≡ Read = cc in
-    c.in_err-text.ensures.whole_lines (sym p.2 ∙ is)
+pub returns-in_err-take_whole_log-clause-whole_lines : goal.returns-in_err-take_whole_log-clause-whole_lines
+returns-in_err-take_whole_log-clause-whole_lines g c =
+    let made = made_of_nothing c.in-Ok.records (c.in-Ok.ensures.made refl) in
+    λ read. whole_from made.1 made.0 (c.in_err-take_whole_log.ensures.whole_lines (read_failed c.from_residual.result _ (err_from_is_err_and c.from_residual.result c.from_residual.ensures.1) read))

@@ -2,7 +2,7 @@ use Rattle.std.proofs.Common.{rules, Ok, sym, ap, ◌∙◌}
 use Rattle.rga_lines.specs.declared.line.Line.TheVariants.{One, Run, Deletions, Head}
 use Rattle.rga_lines.proofs.ReadingLemmas.{any_run, any_deletions}
 use Rattle.rga_lines.proofs.StandLemmas.{stands, stands_for}
-use Rattle.mgr_mend.proofs.guards.read_operations.Goals as goal
+use Rattle.mgr_mend.proofs.reading.operations_of_line.Goals as goal
 
 pub ops-requires : goal.ops-requires
 ops-requires c = any_run c.args.line.now c.in-Ok-Run.run' (sym (c.in-Ok-Run.ensures.exact (λ e. absurd cc)) ∙ ap Ok c.in-Ok-Run.field-0-is)
