@@ -2,9 +2,9 @@
 use Rattle.std.proofs.Common.{true≢false, ◌≡◌, ◌∙◌, [], Bool, true, false, ◌||◌, Option, None, refl, sym, ap, subst}
 use Rattle.mg_keys.specs.Begun.{KeyState, HasBegun, fresh, waits}
 use Rattle.mg_keys.specs.declared.argument.Argument.{Argument}
-use Rattle.mg_keys.specs.declared.argument.Argument.TheVariants.{Absent, Multiplied, Typed}
+use Rattle.mg_keys.specs.declared.argument.Argument.TheVariants.{Absent}
 use Rattle.mg_keys.specs.declared.sequence.Sequence.{Sequence}
-use Rattle.mg_keys.specs.declared.sequence.Sequence.TheVariants.{Start, Escape, ControlX, Quote, Character}
+use Rattle.mg_keys.specs.declared.sequence.Sequence.TheVariants.{Start}
 use Rattle.mg_keys.specs.declared.step.Mode.{Mode}
 use Rattle.mg_keys.specs.declared.step.Mode.TheVariants as mode
 use Rattle.mg_keys.proofs.BegunLaws.{waits_tells}
@@ -16,12 +16,7 @@ keys_of m a s = record { mode = m; argument = a; sequence = s }
 
 plain_fresh : (a : Argument) (s : Sequence) → waits mode.Plain a s ≡ false → keys_of mode.Plain a s ≡ fresh mode.Plain
 plain_fresh Absent Start w = refl
-plain_fresh Absent Escape w = absurd (true≢false w)
-plain_fresh Absent ControlX w = absurd (true≢false w)
-plain_fresh Absent Quote w = absurd (true≢false w)
-plain_fresh Absent (Character begun) w = absurd (true≢false w)
-plain_fresh (Multiplied n) s w = absurd (true≢false w)
-plain_fresh (Typed n) s w = absurd (true≢false w)
+plain_fresh a s w = absurd (true≢false w)
 
 fresh_keys : (keys : KeyState) → keys.mode ≡ mode.Plain → HasBegun keys [] → keys ≡ fresh mode.Plain
 fresh_keys keys plain begun =

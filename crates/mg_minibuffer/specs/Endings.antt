@@ -38,8 +38,7 @@ unbound = idles Same message.UndefinedKey
 
 abbrev pub or_closed : prompt_behind.Next → prompt_behind.Next
 or_closed (Open prompt) = Open prompt
-or_closed Same = Closed
-or_closed Closed = Closed
+or_closed next = Closed
 
 -- an ending behind which the prompt that was open is closed, whatever comes of it
 abbrev pub closing : Ending → Ending

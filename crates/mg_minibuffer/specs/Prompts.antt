@@ -10,11 +10,9 @@ use Rattle.mg_minibuffer.specs.declared.prompt.Prompt.TheVariants.{Line, Replace
 
 -- how bytes are read
 abbrev pub mode : Prompt → Mode
-mode (Line asked answer) = modes.Prompt
-mode (Replacement pattern answer) = modes.Prompt
 mode (Searching search) = modes.Search
 mode (Replacing pattern put count) = modes.Query
-mode Quitting = modes.Prompt
+mode p = modes.Prompt
 
 abbrev pub search_label : Direction → List ℕ
 search_label Forward = codes "I-search: "
@@ -37,5 +35,4 @@ abbrev pub typed_answer : Prompt → List ℕ
 typed_answer (Line asked chars) = chars
 typed_answer (Replacement pattern chars) = chars
 typed_answer (Searching search) = search.pattern
-typed_answer (Replacing pattern put count) = []
-typed_answer Quitting = []
+typed_answer p = []

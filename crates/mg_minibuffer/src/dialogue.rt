@@ -198,10 +198,8 @@ impl Dialogue {
         ensures { result ≡ spec.takes_text self.now.prompt }
     {
         match &self.prompt {
-            Some(Prompt::Line { .. }) | Some(Prompt::Replacement { .. }) => true,
-            Some(Prompt::Searching(_)) => true,
-            Some(Prompt::Replacing { .. }) | Some(Prompt::Quitting) => false,
-            None => false,
+            None | Some(Prompt::Replacing { .. }) | Some(Prompt::Quitting) => false,
+            _ => true,
         }
     }
 

@@ -4,7 +4,9 @@ ghost use Rattle.mg_minibuffer.specs.Endings as endings;
 ghost use Rattle.mg_minibuffer.specs.LineStep as spec;
 
 use crate::answers::{rubbed, typed};
-use crate::ending::{Action, Ending, Next, Reaction, Request, closing, idles, shows, unbound};
+use crate::ending::{
+    Action, Ending, Next, Reaction, Request, closing, ending_of, idles, shows, unbound,
+};
 use crate::message::Message;
 use crate::plain::{asks_for, does, plain_step};
 use crate::prompt::{Asked, Prompt};
@@ -86,11 +88,8 @@ fn requests(request: Request) -> Reaction
     ensures { result ≡ spec.requests request }
 {
     Reaction::Ends(Ending {
-        action: Action::Nothing,
-        next: Next::Closed,
-        message: Message::Nothing,
         request,
-        refused: Next::Same,
+        ..ending_of(Action::Nothing, Next::Closed, Message::Nothing)
     })
 }
 

@@ -30,11 +30,8 @@ pub(crate) fn asks_for(request: Request) -> Ending
     ensures { result ≡ spec.asks_for request }
 {
     Ending {
-        action: Action::EndRun,
-        next: Next::Same,
-        message: Message::Nothing,
         request,
-        refused: Next::Same,
+        ..does(Action::EndRun)
     }
 }
 

@@ -7,7 +7,7 @@ ghost use Rattle.mg_screen.specs.declared.windows.WindowFault.TheVariants.{TooSm
 ghost use Rattle.mg_screen.specs.declared.windows.WindowFault.TheVariants.{Memory};
 ghost use Rattle.mg_screen.specs.Layout as spec;
 
-use crate::heights::{remove_both, share, split_both};
+use crate::heights::{insert_both, share};
 use crate::size::MIN_SPLIT_HEIGHT;
 use std::alloc::{AllocError, Global};
 use std::marker::Model;
@@ -139,10 +139,14 @@ impl<T: Copy> Windows<T> {
             IfErr result (λ e. e ≡ Memory) }
     {
         let index = self.current;
-        if self.heights[index] < MIN_SPLIT_HEIGHT {
+        let height = self.heights[index];
+        if height < MIN_SPLIT_HEIGHT {
             return Err(WindowFault::TooSmall);
         }
-        split_both(&mut self.heights, &mut self.shown, index)?;
+        let upper = (height - 1) / 2;
+        let what = self.shown[index];
+        insert_both(&mut self.heights, &mut self.shown, index, upper, what)?;
+        self.heights[index + 1] = height - 1 - upper;
         Ok(())
     }
 
@@ -159,7 +163,12 @@ impl<T: Copy> Windows<T> {
         if self.heights.as_slice().len() <= 1 {
             return Err(WindowFault::OnlyOne);
         }
-        self.current = remove_both(&mut self.heights, &mut self.shown, self.current);
+        let index = self.current;
+        let height = self.heights.remove(index);
+        let _ = self.shown.remove(index);
+        let heir = index.saturating_sub(1);
+        self.heights[heir] += height + 1;
+        self.current = heir;
         Ok(())
     }
 

@@ -111,15 +111,7 @@ typing_moves Quitting (step.Text c) scene last typing = by_choice (nat_eq c 121)
 typing_moves Quitting step.Rub scene last typing = nothing
 typing_moves Quitting step.Next scene last typing = nothing
 typing_moves Quitting step.Prev scene last typing = nothing
-typing_moves p step.Pending scene last typing = absurd (true≢false (sym typing))
-typing_moves p (step.Run command n) scene last typing = absurd (true≢false (sym typing))
-typing_moves p (step.Ask question) scene last typing = absurd (true≢false (sym typing))
-typing_moves p (step.Edge window) scene last typing = absurd (true≢false (sym typing))
-typing_moves p step.Accept scene last typing = absurd (true≢false (sym typing))
-typing_moves p step.Cancel scene last typing = absurd (true≢false (sym typing))
-typing_moves p (step.Answer answer) scene last typing = absurd (true≢false (sym typing))
-typing_moves p step.Leave scene last typing = absurd (true≢false (sym typing))
-typing_moves p step.Unbound scene last typing = absurd (true≢false (sym typing))
+typing_moves p s scene last typing = absurd (true≢false (sym typing))
 
 pub returns : goal.returns
 returns c p s scene last e command n column situation f typing is =
