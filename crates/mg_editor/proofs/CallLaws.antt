@@ -93,12 +93,9 @@ opening_spares name Waits = inr (λ f g e. e)
 
 pub unopened_spare : (name : List ℕ) (role : Role) (fault : LinkFault) → AllSpare name (link_refusals fault (opening role))
 unopened_spare name Connects link.Socket = (inr (λ f g e. e), tt)
-unopened_spare name Connects link.NoPort = (inr (λ f g e. e), tt)
-unopened_spare name Waits link.Socket = (inr (λ f g e. e), tt)
-unopened_spare name Waits link.NoPort = (inr (λ f g e. e), tt)
 unopened_spare name role link.Memory = tt
+unopened_spare name role fault = (inr (λ f g e. e), tt)
 
 pub unended_spare : (name : List ℕ) (fault : LinkFault) → AllSpare name (link_refusals fault (link_call Finish))
-unended_spare name link.Socket = (inr (λ f g e. e), tt)
-unended_spare name link.NoPort = (inr (λ f g e. e), tt)
 unended_spare name link.Memory = tt
+unended_spare name fault = (inr (λ f g e. e), tt)

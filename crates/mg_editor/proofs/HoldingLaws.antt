@@ -48,11 +48,8 @@ use Rattle.mg_editor.proofs.SetLaws.{set_cases, set_has, still_there, was_there}
 -- what was taken in two parts
 takes_both : (ops : List Op) (xs ys : List BufferStep) → TakesOnly ops xs → TakesOnly ops ys → TakesOnly ops (xs ++ ys)
 takes_both ops [] ys one two = two
-takes_both ops (Saves answer ∷ xs) ys one two = takes_both ops xs ys one two
-takes_both ops (Runs call old new ∷ xs) ys one two = takes_both ops xs ys one two
-takes_both ops (Undoes old new ∷ xs) ys one two = takes_both ops xs ys one two
 takes_both ops (Takes os ∷ xs) ys (here, one) two = (here, takes_both ops xs ys one two)
-takes_both ops (Rests ∷ xs) ys one two = takes_both ops xs ys one two
+takes_both ops (x ∷ xs) ys one two = takes_both ops xs ys one two
 
 -- one that is allowed is a list that is allowed
 one_allowed : (limit : ℕ) (c : Content) (op : Op) (r : Taken) → known_count c ≤ limit → answer limit c op ≡ Ok r → list_answer limit c (op ∷ []) ≡ Ok tt

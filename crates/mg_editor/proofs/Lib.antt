@@ -1,8 +1,5 @@
 pub mod Steps
 pub mod FrameLaws
-pub mod LiveFrameLaws
-pub mod PlaceCellLaws
-pub mod ShowingLaws
 pub mod SetLaws
 pub mod PressCases
 pub mod ActionCases
@@ -14,7 +11,6 @@ pub mod RequestLaws
 pub mod MeetingLaws
 pub mod LoggedLaws
 pub mod PasteCases
-pub mod RequestCases
 pub mod NamesLaws
 pub mod RemovalLaws
 pub mod SweepLaws

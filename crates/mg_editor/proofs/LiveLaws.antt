@@ -1,20 +1,17 @@
 -- An open search that was put behind its elements went where the text went; and what operations leave of the buffer at an index.
-use Rattle.std.proofs.Common.{◌≡◌, ◌∙◌, ℕ, ◌<◌, Bool, true, false, List, length, set, Option, Some, None, Result, Ok, Err, OnOk, refl, sym, ap, subst}
+use Rattle.std.proofs.Common.{◌≡◌, ◌∙◌, ℕ, ◌<◌, Bool, true, List, length, Option, Some, None, refl, sym, ap, subst}
 use Rattle.std.specs.Prelude.{nat_eq, if◌then◌else◌}
 use Rattle.std.specs.Option.{option_and_then, option_map}
-use Rattle.std.proofs.lemmas.List.{get_or-set_same, length-set}
+use Rattle.std.proofs.lemmas.List.{length-set}
 use Rattle.rga_ops.specs.Content.{Content}
-use Rattle.rga_ops.specs.Identifier.{Identifier}
 use Rattle.rga_ops.specs.declared.op.Op.{Op}
 use Rattle.mg_buffer.specs.Carried.{carried, carried_match, element_before}
-use Rattle.mg_buffer.specs.Following.{TakesOperations, with_operations}
-use Rattle.mg_buffer.specs.OpenState.{OpenState}
-use Rattle.mg_buffer.specs.State.{State}
+use Rattle.mg_buffer.specs.Following.{with_operations}
 use Rattle.mg_minibuffer.specs.Dialogues.{Dialogue, search_of}
 use Rattle.mg_minibuffer.specs.declared.prompt.Prompt.{Prompt}
-use Rattle.mg_minibuffer.specs.declared.prompt.Prompt.TheVariants.{Line, Replacement, Searching, Replacing, Quitting}
-use Rattle.mg_workspace.specs.AtIndex.{state_at, with_operations_at, with_state_at}
-use Rattle.mg_workspace.specs.Buffers.{buffer_at, no_buffer}
+use Rattle.mg_minibuffer.specs.declared.prompt.Prompt.TheVariants.{Searching}
+use Rattle.mg_workspace.specs.AtIndex.{state_at, with_operations_at}
+use Rattle.mg_workspace.specs.Buffers.{buffer_at}
 use Rattle.mg_workspace.specs.Workspaces.{Workspace}
 use Rattle.mg_editor.specs.Editors.{Editor}
 use Rattle.mg_editor.specs.declared.live_taking.Anchors.{Anchors}
@@ -30,14 +27,9 @@ carried_found pattern old new (Some i) = refl
 goes_along : (here : Bool) (old new : Content) (d : Dialogue) (p : Option Prompt)
     → anchored_talk new (if here then option_map (anchors_of old) (search_of p) else None) (record d { prompt = p })
     ≡ (if here then record d { prompt = carried_prompt old new p } else record d { prompt = p })
-goes_along false old new d p = refl
-goes_along true old new d None = refl
-goes_along true old new d (Some (Line asked answer)) = refl
-goes_along true old new d (Some (Replacement pattern answer)) = refl
 goes_along true old new d (Some (Searching s)) =
     ap (λ (f : Option ℕ). record d { prompt = Some (Searching (record s { origin = carried old new s.origin; found = f })) }) (carried_found s.pattern old new s.found)
-goes_along true old new d (Some (Replacing pattern put count)) = refl
-goes_along true old new d (Some Quitting) = refl
+goes_along here old new d p = refl
 
 pub talk_goes_along : (i : ℕ) (e : Editor) (w : Workspace)
     → anchored_talk (state_at i w).content (anchors_at i e) e.talk ≡ carried_talk i e.work w e.talk
@@ -56,16 +48,6 @@ took_so i ops whole old w anchors new same are took is =
     ∙ ap (λ v. with_changed i v whole) (took ∙ ap (λ (e : Editor). with_operations_at i ops e.work) same)
 
 -- ---- the buffer
-
-state_there : (i : ℕ) (w : Workspace) (b : State) → i < length w.buffers.all → state_at i (with_state_at i b w) ≡ b
-state_there i w b within = ap (λ (o : OpenState). o.buffer) (get_or-set_same w.buffers.all i (record (buffer_at i w.buffers) { buffer = b }) no_buffer within)
-
-pub takes_there : (i : ℕ) (ops : List Op) (old new : Editor) → i < length old.work.buffers.all → new ≡ taking i ops old
-    → TakesOperations (state_at i old.work) ops (state_at i new.work)
-takes_there i ops old new within is =
-    let b = state_at i old.work in
-    let now : state_at i new.work ≡ with_operations ops b = ap (λ (e : Editor). state_at i e.work) is ∙ state_there i old.work (with_operations ops b) within in
-    subst (TakesOperations b ops) (sym now) (record { content = refl; unsaved = refl; rest = refl })
 
 pub as_many : (i : ℕ) (ops : List Op) (w v : Workspace) → i < length w.buffers.all → v ≡ with_operations_at i ops w → i < length v.buffers.all
 as_many i ops w v within is =

@@ -34,7 +34,7 @@ use Rattle.mg_editor.specs.Telling.{CarryAnswer}
 use Rattle.mg_editor.proofs.ActionCases.{KeepsNames, action_leaves, ended_so, one_keeps, run_keeps, takes_keep}
 use Rattle.mg_editor.proofs.PasteCases.{behind_a_paste}
 use Rattle.mg_editor.proofs.PressCases.{behind_a_press, replaces}
-use Rattle.mg_editor.proofs.RequestCases.{Opens, carry_leaves}
+use Rattle.mg_editor.proofs.RequestLaws.{Opens, carry_leaves}
 
 abbrev Own : List OpenState → Type 0
 Own l = (i j : ℕ) → i < length l → j < length l → (get_or l i no_buffer).buffer.name ≡ (get_or l j no_buffer).buffer.name → i ≡ j

@@ -4,7 +4,7 @@ use Rattle.mg_plain.specs.declared.command.Command.TheVariants.{InsertText}
 use Rattle.mg_minibuffer.specs.Dialogues.{takes_text}
 use Rattle.mg_minibuffer.specs.declared.ending.Request.TheVariants.{Idle}
 use Rattle.mg_minibuffer.specs.declared.prompt.Prompt.{Prompt}
-use Rattle.mg_minibuffer.specs.declared.prompt.Prompt.TheVariants.{Line, Replacement, Searching, Replacing, Quitting}
+use Rattle.mg_minibuffer.specs.declared.prompt.Prompt.TheVariants.{Replacing, Quitting}
 use Rattle.mg_workspace.specs.Workspaces.{Workspace}
 use Rattle.mg_editor.specs.Editors.{Editor}
 use Rattle.mg_editor.specs.Pasting.{PasteAnswer, Pasted, PastedAt, Inserts, Types, first_line, running}
@@ -30,11 +30,9 @@ module _ (Leads : Workspace → Workspace → Type 0) (one : (w v : Workspace) �
 
   pastes_at : (p : Option Prompt) (put : List ℕ) (old new : Editor) (r : PasteAnswer) → old.talk.prompt ≡ p → PastedAt p put old new r → Leads old.work new.work
   pastes_at None put old new r is it = inserts put old new r it
-  pastes_at (Some (Line asked answer)) put old new r is it = types (first_line put) old new r (ap takes_text is) it
-  pastes_at (Some (Replacement pattern answer)) put old new r is it = types (first_line put) old new r (ap takes_text is) it
-  pastes_at (Some (Searching search)) put old new r is it = types (first_line put) old new r (ap takes_text is) it
   pastes_at (Some (Replacing pattern other count)) put old new r is it = nowhere old new (ap (λ (e : Editor). e.work) it.0)
   pastes_at (Some Quitting) put old new r is it = nowhere old new (ap (λ (e : Editor). e.work) it.0)
+  pastes_at (Some p) put old new r is it = types (first_line put) old new r (ap takes_text is) it
 
   pub behind_a_paste : (put : List ℕ) (old new : Editor) (r : PasteAnswer) → Pasted put old new r → Leads old.work new.work
   behind_a_paste put old new r (inl (begun, busy)) = nowhere old new (ap (λ (e : Editor). e.work) busy.0)

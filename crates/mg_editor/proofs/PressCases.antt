@@ -32,18 +32,7 @@ module _ (Holds : Workspace → Type 0) where
   took : (step : Step) (before old new : Editor) (r : PressAnswer) → before.work ≡ old.work → Holds old.work → ((reaction : Reaction) (request : Request) → FollowsReaction reaction old new request → Holds new.work)
       → StepTaken step before old new r → Holds new.work
   took step.Pending before old new r same so follows it = subst Holds (sym (ap (λ (e : Editor). e.work) it.0)) so
-  took (step.Run c n) before old new r same so follows it = answered _ before old new r same so (follows _) it
-  took (step.Ask q) before old new r same so follows it = answered _ before old new r same so (follows _) it
-  took (step.Edge w) before old new r same so follows it = answered _ before old new r same so (follows _) it
-  took (step.Text c) before old new r same so follows it = answered _ before old new r same so (follows _) it
-  took step.Rub before old new r same so follows it = answered _ before old new r same so (follows _) it
-  took step.Accept before old new r same so follows it = answered _ before old new r same so (follows _) it
-  took step.Cancel before old new r same so follows it = answered _ before old new r same so (follows _) it
-  took step.Next before old new r same so follows it = answered _ before old new r same so (follows _) it
-  took step.Prev before old new r same so follows it = answered _ before old new r same so (follows _) it
-  took (step.Answer a) before old new r same so follows it = answered _ before old new r same so (follows _) it
-  took step.Leave before old new r same so follows it = answered _ before old new r same so (follows _) it
-  took step.Unbound before old new r same so follows it = answered _ before old new r same so (follows _) it
+  took step before old new r same so follows it = answered _ before old new r same so (follows _) it
 
   pub behind_a_press : (byte : ℕ) (old new : Editor) (r : PressAnswer) → Holds old.work
       → ((reaction : Reaction) (request : Request) (read : Dialogue) → FollowsReaction reaction (record old { talk = read }) new request → Holds new.work) → Pressed byte old new r → Holds new.work

@@ -29,7 +29,7 @@ use Rattle.mg_editor.proofs.CourseLaws.{save_keeps}
 use Rattle.mg_editor.proofs.NamesLaws.{set_name}
 use Rattle.mg_editor.proofs.PasteCases.{behind_a_paste}
 use Rattle.mg_editor.proofs.PressCases.{behind_a_press, replaces}
-use Rattle.mg_editor.proofs.RequestCases.{carry_leaves}
+use Rattle.mg_editor.proofs.RequestLaws.{carry_leaves}
 use Rattle.mg_editor.proofs.SetLaws.{still_or_gone}
 
 -- ---- each name stays open

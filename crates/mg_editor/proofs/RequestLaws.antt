@@ -1,35 +1,96 @@
--- What requests leave of each buffer, as steps of what is held.
-use Rattle.std.proofs.Common.{◌≡◌, ◌⊎◌, inl, inr, ◌∙◌, ℕ, zero, suc, ◌<◌, Bool, true, false, List, [], ◌∷◌, ◌++◌, get_or, Option, Some, None, Result, Ok, Err, refl, sym, ap, subst, arith, append-nil}
+-- What requests that are carried leave of each buffer, and what they do with the buffers.
+use Rattle.std.proofs.Common.{◌≡◌, ◌⊎◌, inl, inr, ℕ, Bool, true, false, List, [], ◌∷◌, ◌++◌, Option, Some, None, Result, Ok, Err, refl, ap, ◌∙◌, zero, suc, ◌<◌, get_or, sym, subst, arith, append-nil}
 use Rattle.std.specs.Prelude.{encode_utf8_all, if◌then◌else◌}
-use Rattle.std.specs.List.{Contains}
-use Rattle.std.proofs.lemmas.List.Elements.{Contains-append_cases}
-use Rattle.std.proofs.lemmas.Option.{same_Some}
 use Rattle.rga_exchange.specs.declared.log.LogEnd.{LogEnd}
-use Rattle.mg_buffer.specs.OpenState.{OpenState}
+use Rattle.mg_buffer.specs.OpenState.{OpenState, with_brief, with_runs}
+use Rattle.mg_buffer.specs.State.{State}
 use Rattle.mg_files.specs.Calls.{Call, Adds, found_call, load_told}
-use Rattle.mg_files.specs.Files.{Files}
 use Rattle.mg_files.specs.Loading.{load_outcome}
 use Rattle.mg_files.specs.declared.fault.LoadFault.{LoadFault}
-use Rattle.mg_files.specs.declared.port.PortFault.{PortFault}
-use Rattle.mg_files.specs.declared.port.PortFault.TheVariants.{File, Memory}
-use Rattle.mg_files.specs.Held.{Held, MayLead}
-use Rattle.mg_files.proofs.ChangeSteps.{made_are}
+use Rattle.mg_files.proofs.OpenSteps.{opened_name}
 use Rattle.mg_minibuffer.specs.declared.ending.Request.{Request}
-use Rattle.mg_minibuffer.specs.declared.ending.Request.TheVariants as request
-use Rattle.mg_minibuffer.specs.declared.message.Message.TheVariants as message
-use Rattle.mg_files.specs.Asking.{Connects, Waits}
+use Rattle.mg_files.specs.Asking.{Role, Connects, Waits}
+use Rattle.mg_files.specs.Meeting.{Exchanges}
 use Rattle.mg_workspace.specs.Names.{buffer_named}
 use Rattle.mg_workspace.specs.Opening.{is_full}
 use Rattle.mg_workspace.specs.Workspaces.{Workspace, workspace_buffer}
 use Rattle.mg_editor.specs.Carrying.{Carried}
 use Rattle.mg_editor.specs.Editors.{Editor}
 use Rattle.mg_editor.specs.Finding.{Loads, Opening, open_outcome, opening_outcome, unopened}
+use Rattle.mg_editor.specs.Meeting.{meeting_outcome, role_of}
+use Rattle.mg_editor.specs.Telling.{CarryAnswer, ChangesCurrent, TellsOutcome, editor_saying}
+use Rattle.mg_editor.proofs.ActionCases.{KeepsNames}
+use Rattle.mg_editor.proofs.CourseLaws.{save_keeps, save_goes}
+use Rattle.std.specs.List.{Contains}
+use Rattle.std.proofs.lemmas.List.Elements.{Contains-append_cases}
+use Rattle.std.proofs.lemmas.Option.{same_Some}
+use Rattle.mg_files.specs.Files.{Files}
+use Rattle.mg_files.specs.declared.port.PortFault.{PortFault}
+use Rattle.mg_files.specs.declared.port.PortFault.TheVariants.{File, Memory}
+use Rattle.mg_files.specs.Held.{Held, MayLead}
+use Rattle.mg_files.proofs.ChangeSteps.{made_are}
 use Rattle.mg_editor.specs.Holding.{AreOpen, HaveOwnNames, GoesOn, IsOpenedBy}
-use Rattle.mg_editor.specs.Meeting.{role_of}
-use Rattle.mg_editor.specs.Telling.{CarryAnswer, TellsOutcome, editor_saying}
 use Rattle.mg_editor.proofs.CallLaws.{AllSpare, all_spared}
-use Rattle.mg_editor.proofs.CourseLaws.{save_goes}
 use Rattle.mg_editor.proofs.EachLaws.{all_go, stay_here, nothing_made}
+use Rattle.mg_minibuffer.specs.declared.ending.Request.TheVariants as request
+use Rattle.mg_minibuffer.specs.declared.message.Message.TheVariants as message
+use Rattle.mg_workspace.specs.declared.failures.Task.TheVariants as task
+
+-- ---- what a request that is carried may do with the buffers
+
+-- no buffer of that name was open, and one was opened
+abbrev pub Opens : List ℕ → Workspace → Workspace → Type 0
+Opens name w v =
+    (x : OpenState) × (buffer_named name w.buffers.all ≡ None) × (x.buffer.name ≡ encode_utf8_all name) × (v.buffers.all ≡ w.buffers.all ++ x ∷ [])
+
+-- the request was for it
+abbrev pub OpensAsked : Request → Workspace → Workspace → Type 0
+OpensAsked carried w v = (name : List ℕ) × (carried ≡ request.Find name) × Opens name w v
+
+loads : (name : List ℕ) (calls more : Option (List Call)) (r : Opening) (w v : Workspace) → buffer_named name w.buffers.all ≡ None → Loads (encode_utf8_all name) calls more r w v
+    → KeepsNames w v ⊎ Opens name w v
+loads name calls more r w v none (inl (is, answer, adds)) = inl (inl (ap (λ (u : Workspace). u.buffers.all) is))
+loads name calls more r w v none (inr (Err fault, adds, (is, answer))) = inl (inl (ap (λ (u : Workspace). u.buffers.all) is))
+loads name calls more r w v none (inr (Ok found, adds, (is, answer))) =
+    by (load_outcome (encode_utf8_all name) w.replica w.limit found) refl is
+  where
+    by : (o : Result (OpenState × LogEnd) LoadFault) → load_outcome (encode_utf8_all name) w.replica w.limit found ≡ o → v ≡ (open_outcome o w).0 → KeepsNames w v ⊎ Opens name w v
+    by (Err fault) came is = inl (inl (ap (λ (u : Workspace). u.buffers.all) is))
+    by (Ok (b, end)) came is =
+        let named : b.buffer.name ≡ encode_utf8_all name = opened_name (encode_utf8_all name) w.replica w.limit found b end came in
+        inr (with_brief w.brief (with_runs w.runs b), none, named, ap (λ (u : Workspace). u.buffers.all) is)
+
+meets : (role : Role) (calls more : Option (List Call)) (old new : Editor) (r : CarryAnswer)
+    → ChangesCurrent task.Exchange (λ answer b d. Exchanges role calls more b d answer) meeting_outcome old new r → KeepsNames old.work new.work
+meets role calls more old new r h =
+    inr (old.work.buffers.current, h.became.0, ap (λ (b : State). b.name) h.became.2.rest, ap (λ (w : Workspace). w.buffers.all) h.became.1)
+
+-- what a request for a buffer leads to, by the editor where nothing is opened
+abbrev Asked : List ℕ → Option (List Call) → Option (List Call) → Editor → Editor → CarryAnswer → Option Editor → Type 0
+Asked name calls more old new r None = TellsOutcome (Loads (encode_utf8_all name) calls more) opening_outcome old new r
+Asked name calls more old new r (Some now) = (more ≡ calls) × (new ≡ now) × (r ≡ Ok tt)
+
+finds : (name : List ℕ) (calls more : Option (List Call)) (old new : Editor) (r : CarryAnswer) → Carried (request.Find name) calls more old new r → KeepsNames old.work new.work ⊎ Opens name old.work new.work
+finds name calls more old new r h = by (buffer_named name old.work.buffers.all) refl h
+  where
+    by : (at : Option ℕ) → buffer_named name old.work.buffers.all ≡ at → Asked name calls more old new r (unopened at old) → KeepsNames old.work new.work ⊎ Opens name old.work new.work
+    by (Some i) is (told, same, answer) = inl (inl (ap (λ (e : Editor). e.work.buffers.all) same))
+    by None is it = if_full (is_full old.work) it
+      where
+        if_full : (full : Bool) → Asked name calls more old new r (if full then Some (editor_saying old.work message.TooManyBuffers old) else None) → KeepsNames old.work new.work ⊎ Opens name old.work new.work
+        if_full true (told, same, answer) = inl (inl (ap (λ (e : Editor). e.work.buffers.all) same))
+        if_full false told = loads name calls more told.came old.work new.work is told.became
+
+pub carry_leaves : (carried : Request) (calls more : Option (List Call)) (old new : Editor) (r : CarryAnswer) → Carried carried calls more old new r → KeepsNames old.work new.work ⊎ OpensAsked carried old.work new.work
+carry_leaves request.Save calls more old new r h =
+    inl (inr (old.work.buffers.current, h.became.0, (save_keeps h.came calls more (workspace_buffer old.work) h.became.0 h.became.2).name, ap (λ (w : Workspace). w.buffers.all) h.became.1))
+carry_leaves request.Exchange calls more old new r h = inl (meets Connects calls more old new r h)
+carry_leaves request.Serve calls more old new r h = inl (meets Waits calls more old new r h)
+carry_leaves (request.Find name) calls more old new r h = elim (finds name calls more old new r h) [
+  | inl keeps ↦ inl keeps
+  | inr opened ↦ inr (name, refl, opened)
+]
+carry_leaves carried calls more old new r (told, is, answer) = inl (inl (ap (λ (e : Editor). e.work.buffers.all) is))
 
 -- ---- a buffer that is asked for
 
@@ -90,10 +151,6 @@ opens name before made s t r old v (inr (Ok found, adds, (is, answer))) leads d 
 pub request_goes : (carried : Request) (before made : List Call) (old new : Editor) (r : CarryAnswer) (s t : Held) → role_of carried ≡ None → AreOpen old.work.buffers → HaveOwnNames old.work.buffers
     → Carried carried (Some before) (Some (before ++ made)) old new r → MayLead made s t → (d : OpenState) → Contains new.work.buffers.all d
     → GoesOn [] old.work.buffers s d t ⊎ ((name : List ℕ) × (carried ≡ request.Find name) × IsOpenedBy (encode_utf8_all name) old.work s d t)
-request_goes request.Idle before made old new r s t alone are own (more, is, answer) leads d c =
-    inl (stay_here old.work.buffers new.work.buffers.all s t (ap (λ (e : Editor). e.work.buffers.all) is) (nothing_made before made s t more leads) d c)
-request_goes request.Quit before made old new r s t alone are own (more, is, answer) leads d c =
-    inl (stay_here old.work.buffers new.work.buffers.all s t (ap (λ (e : Editor). e.work.buffers.all) is) (nothing_made before made s t more leads) d c)
 request_goes request.Save before made old new r s t alone are own h leads d c =
     let after = h.became.0 in
     inl (all_go [] before made s t old.work.buffers after new.work.buffers.all are.current own (ap (λ (w : Workspace). w.buffers.all) h.became.1)
@@ -114,3 +171,5 @@ request_goes (request.Find name) before made old new r s t alone are own h leads
         (nothing_made before made s t more leads) d c)
 request_goes request.Exchange before made old new r s t alone are own h leads d c = let no : Some Connects ≡ None = alone in absurd cc
 request_goes request.Serve before made old new r s t alone are own h leads d c = let no : Some Waits ≡ None = alone in absurd cc
+request_goes carried before made old new r s t alone are own (more, is, answer) leads d c =
+    inl (stay_here old.work.buffers new.work.buffers.all s t (ap (λ (e : Editor). e.work.buffers.all) is) (nothing_made before made s t more leads) d c)

@@ -22,10 +22,6 @@ first_left i all lt = drop-cons all i no_buffer lt ∙ ap (λ n. get_or all i no
 
 -- ---- whether any is due
 
-pub any_due_from : (writing : Writing) (i : ℕ) (all : List OpenState) → i < length all
-    → is_any_due writing i (drop i all) ≡ (is_due writing i (get_or all i no_buffer) || is_any_due writing (i + 1) (drop (i + 1) all))
-any_due_from writing i all lt = ap (is_any_due writing i) (first_left i all lt)
-
 pub any_log_due : (i : ℕ) (bs : List OpenState) → is_any_due Log i bs ≡ list_any is_log_due bs
 any_log_due i [] = refl
 any_log_due i (b ∷ bs) = ap (λ t. is_log_due b || t) (any_log_due (i + 1) bs)

@@ -6,7 +6,7 @@ use Rattle.mg_files.specs.declared.port.PortFault.{PortFault}
 use Rattle.mg_files.specs.Asking.{Connects, Waits}
 use Rattle.mg_files.specs.Meeting.{Exchanges}
 use Rattle.mg_minibuffer.specs.declared.ending.Request.{Request}
-use Rattle.mg_minibuffer.specs.declared.ending.Request.TheVariants.{Idle, Save, Find, Exchange, Serve, Quit}
+use Rattle.mg_minibuffer.specs.declared.ending.Request.TheVariants.{Save, Find, Exchange, Serve}
 use Rattle.mg_minibuffer.specs.declared.message.Message.TheVariants.{Wrote, NoChanges}
 use Rattle.mg_editor.specs.Editors.{Editor}
 use Rattle.mg_editor.specs.Finding.{Loads, opening_outcome, unopened}
@@ -24,7 +24,6 @@ save_outcome (Err fault) = Err (Port fault)
 
 -- what the request leads to; where it asks nothing of the port the calls stay
 abbrev pub Carried : Request → Option (List Call) → Option (List Call) → Editor → Editor → CarryAnswer → Type 0
-Carried Idle calls more old new r = (more ≡ calls) × (new ≡ old) × (r ≡ Ok tt)
 Carried Save calls more old new r = ChangesCurrent task.Save (λ answer. SavesTo answer calls more) save_outcome old new r
 Carried (Find name) calls more old new r = elim (unopened (buffer_named name old.work.buffers.all) old) [
   | None ↦ TellsOutcome (Loads (encode_utf8_all name) calls more) opening_outcome old new r
@@ -32,4 +31,4 @@ Carried (Find name) calls more old new r = elim (unopened (buffer_named name old
 ]
 Carried Exchange calls more old new r = ChangesCurrent task.Exchange (λ answer b d. Exchanges Connects calls more b d answer) meeting_outcome old new r
 Carried Serve calls more old new r = ChangesCurrent task.Exchange (λ answer b d. Exchanges Waits calls more b d answer) meeting_outcome old new r
-Carried Quit calls more old new r = (more ≡ calls) × (new ≡ old) × (r ≡ Ok tt)
+Carried request calls more old new r = (more ≡ calls) × (new ≡ old) × (r ≡ Ok tt)

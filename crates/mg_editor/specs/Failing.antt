@@ -11,7 +11,7 @@ use Rattle.mg_files.specs.declared.fault.ExchangeFault.TheVariants as exchange
 use Rattle.mg_workspace.specs.declared.failures.Failure.{Failure}
 use Rattle.mg_workspace.specs.declared.failures.Failure.TheVariants.{Device, Line, Refused, Memory}
 use Rattle.mg_editor.specs.declared.fault.CarryFault.{CarryFault}
-use Rattle.mg_editor.specs.declared.fault.CarryFault.TheVariants.{Port, Load, Exchange}
+use Rattle.mg_editor.specs.declared.fault.CarryFault.TheVariants.{Port, Exchange}
 
 abbrev pub port_failure : PortFault → Failure
 port_failure port.File = Device
@@ -21,24 +21,19 @@ port_failure port.Memory = Memory
 abbrev pub peer_failure : ReceiveFault → Failure
 peer_failure (receive.Line line fault) = Line line fault
 peer_failure (receive.Refused line refusal) = Refused line refusal
-peer_failure receive.Cut = Device
-peer_failure receive.Count = Device
-peer_failure receive.Read = Device
 peer_failure receive.Memory = Memory
+peer_failure fault = Device
 
 -- with nowhere to meet a peer there is no device
 abbrev pub exchange_failure : ExchangeFault → Failure
 exchange_failure (exchange.Save fault) = port_failure fault
-exchange_failure (exchange.Link link.Socket) = Device
-exchange_failure (exchange.Link link.NoPort) = Device
 exchange_failure (exchange.Link link.Memory) = Memory
-exchange_failure (exchange.Send send.Write) = Device
 exchange_failure (exchange.Send send.Memory) = Memory
 exchange_failure (exchange.Receive fault) = peer_failure fault
+exchange_failure fault = Device
 
 -- why a save or an exchange failed; a buffer that is not opened is none of these
 abbrev pub outcome_failure : {A : Type 0} → Result A CarryFault → Option Failure
-outcome_failure (Ok done) = None
 outcome_failure (Err (Port fault)) = Some (port_failure fault)
-outcome_failure (Err (Load fault)) = None
 outcome_failure (Err (Exchange fault)) = Some (exchange_failure fault)
+outcome_failure outcome = None

@@ -6,7 +6,7 @@ use Rattle.mg_buffer.specs.Sight.{place_of}
 use Rattle.mg_buffer.specs.State.{State}
 use Rattle.mg_minibuffer.specs.Prompts.{label, typed_answer}
 use Rattle.mg_minibuffer.specs.declared.prompt.Prompt.{Prompt}
-use Rattle.mg_minibuffer.specs.declared.prompt.Prompt.TheVariants.{Line, Replacement, Searching, Replacing, Quitting}
+use Rattle.mg_minibuffer.specs.declared.prompt.Prompt.TheVariants.{Searching, Replacing}
 use Rattle.mg_screen.specs.Layout.{Window}
 use Rattle.mg_screen.specs.Lines.{line_index, column_of}
 use Rattle.mg_events.specs.declared.status.Asking.{Asking}
@@ -24,11 +24,9 @@ use Rattle.mg_workspace.specs.declared.viewport.Viewport.{Viewport}
 -- what is asked
 abbrev pub mode_status : Option Prompt → Asking
 mode_status None = asking.Plain
-mode_status (Some (Line asked answer)) = asking.Prompt
-mode_status (Some (Replacement pattern answer)) = asking.Prompt
 mode_status (Some (Searching search)) = asking.Search
 mode_status (Some (Replacing pattern put count)) = asking.Query
-mode_status (Some Quitting) = asking.Prompt
+mode_status (Some p) = asking.Prompt
 
 -- the label of a prompt, and the answer so far
 pub record IsShownPrompt (p : Prompt) (s : PromptStatus) : Type 0 where
@@ -38,9 +36,8 @@ pub record IsShownPrompt (p : Prompt) (s : PromptStatus) : Type 0 where
 -- the open prompt, if one is open
 abbrev pub IsPromptStatus : Option Prompt → Option PromptStatus → Type 0
 IsPromptStatus None None = Unit {0}
-IsPromptStatus None (Some s) = ⊥
-IsPromptStatus (Some p) None = ⊥
 IsPromptStatus (Some p) (Some s) = IsShownPrompt p s
+IsPromptStatus prompt status = ⊥
 
 -- ---- buffers
 

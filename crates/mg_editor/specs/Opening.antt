@@ -2,7 +2,7 @@
 use Rattle.std.specs.Prelude.{ℕ, List, Result, Ok, Err}
 use Rattle.rga_ops.specs.Order.{text}
 use Rattle.rga_exchange.specs.declared.log.LogEnd.{LogEnd}
-use Rattle.rga_exchange.specs.declared.log.LogEnd.TheVariants.{Whole, Bare, Torn}
+use Rattle.rga_exchange.specs.declared.log.LogEnd.TheVariants.{Torn}
 use Rattle.mg_files.specs.Files.{Files}
 use Rattle.mg_files.specs.Loading.{load_outcome}
 use Rattle.mg_files.specs.declared.fault.LoadFault.{LoadFault}
@@ -16,9 +16,8 @@ use Rattle.mg_workspace.specs.Workspaces.{workspace_buffer}
 
 -- a log that was torn is told
 abbrev pub message_of_end : LogEnd → Message
-message_of_end Whole = Nothing
-message_of_end Bare = Nothing
 message_of_end (Torn bytes) = TornLog bytes
+message_of_end end = Nothing
 
 -- the editor with the buffer that was found so, or why that is not loaded
 abbrev pub opened_editor : Values → Files → Result Editor LoadFault

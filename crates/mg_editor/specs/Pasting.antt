@@ -11,7 +11,7 @@ use Rattle.mg_minibuffer.specs.declared.ending.Next.TheVariants.{Same}
 use Rattle.mg_minibuffer.specs.declared.ending.Request.TheVariants.{Idle}
 use Rattle.mg_minibuffer.specs.declared.message.Message.TheVariants as message
 use Rattle.mg_minibuffer.specs.declared.prompt.Prompt.{Prompt}
-use Rattle.mg_minibuffer.specs.declared.prompt.Prompt.TheVariants.{Line, Replacement, Searching, Replacing, Quitting}
+use Rattle.mg_minibuffer.specs.declared.prompt.Prompt.TheVariants.{Replacing, Quitting}
 use Rattle.mg_minibuffer.specs.Endings.{ending_of}
 use Rattle.mg_editor.specs.Editors.{Editor}
 use Rattle.mg_editor.specs.Presses.{Ended, StepTaken}
@@ -53,11 +53,9 @@ first_line put = before_first is_newline put
 -- at an open prompt, or without one
 abbrev pub PastedAt : Option Prompt → List ℕ → Editor → Editor → PasteAnswer → Type 0
 PastedAt None put old new r = Inserts put old new r
-PastedAt (Some (Line asked answer)) put old new r = Types (first_line put) old new r
-PastedAt (Some (Replacement pattern answer)) put old new r = Types (first_line put) old new r
-PastedAt (Some (Searching s)) put old new r = Types (first_line put) old new r
 PastedAt (Some (Replacing pattern instead count)) put old new r = IsBusy old new r
 PastedAt (Some Quitting) put old new r = IsBusy old new r
+PastedAt (Some p) put old new r = Types (first_line put) old new r
 
 -- a key sequence that has begun is not broken off
 abbrev pub Pasted : List ℕ → Editor → Editor → PasteAnswer → Type 0

@@ -28,10 +28,9 @@ CarryAnswer = Result (Unit {0}) CarryFault
 
 -- what a request's port did wrong, as an exchange says it: files that were found, and are not loaded, are no fault of it
 abbrev pub port_outcome : {A : Type 0} → Result A CarryFault → Result (Unit {0}) ExchangeFault
-port_outcome (Ok a) = Ok tt
 port_outcome (Err (Port fault)) = Err (exchange.Save fault)
-port_outcome (Err (Load fault)) = Ok tt
 port_outcome (Err (Exchange fault)) = Err fault
+port_outcome outcome = Ok tt
 
 -- ---- what is said of faults
 
@@ -75,12 +74,11 @@ message_of_peer receive.Memory = message.Refused notice.Memory
 
 abbrev pub message_of_exchange : ExchangeFault → Message
 message_of_exchange (exchange.Save fault) = message_of_port fault
-message_of_exchange (exchange.Link link.Socket) = message.SocketFault
 message_of_exchange (exchange.Link link.NoPort) = message.NoPort
 message_of_exchange (exchange.Link link.Memory) = message.Refused notice.Memory
-message_of_exchange (exchange.Send send.Write) = message.SocketFault
 message_of_exchange (exchange.Send send.Memory) = message.Refused notice.Memory
 message_of_exchange (exchange.Receive fault) = message_of_peer fault
+message_of_exchange fault = message.SocketFault
 
 abbrev pub message_of_fault : CarryFault → Message
 message_of_fault (Port fault) = message_of_port fault

@@ -1,7 +1,7 @@
 use Rattle.mg_workspace.specs.AtIndex.{state_at}
 use Rattle.mg_workspace.specs.Viewports.{shown_buffers}
 use Rattle.mg_editor.specs.LiveShowing.{cells_over, window_cells}
-use Rattle.mg_editor.proofs.PlaceCellLaws.{windows_on}
+use Rattle.mg_editor.proofs.FrameLaws.{windows_on}
 use Rattle.mg_editor.proofs.live_places.place_cells.Goals as goal
 
 pub loop-window-preserved : goal.loop-window-preserved

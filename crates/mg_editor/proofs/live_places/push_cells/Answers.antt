@@ -2,7 +2,7 @@ use Rattle.std.proofs.Common.{◌≡◌, ◌∙◌, ◌++◌, List, Option, ap}
 use Rattle.std.specs.Option.{option_to_list}
 use Rattle.mg_events.specs.declared.status.PlaceStatus.{PlaceStatus}
 use Rattle.mg_editor.specs.LiveShowing.{element_cell}
-use Rattle.mg_editor.proofs.PlaceCellLaws.{cells_on}
+use Rattle.mg_editor.proofs.FrameLaws.{cells_on}
 use Rattle.mg_editor.proofs.live_places.push_cells.Goals as goal
 
 pub loop-element-preserved : goal.loop-element-preserved

@@ -4,7 +4,7 @@ use Rattle.std.proofs.lemmas.Option.{slice_get-get_or}
 use Rattle.mg_buffer.specs.OpenState.{OpenState}
 use Rattle.mg_screen.specs.Layout.{Window, heights}
 use Rattle.mg_workspace.specs.declared.viewport.Viewport.{Viewport}
-use Rattle.mg_editor.proofs.ShowingLaws.{rows_and_name_there}
+use Rattle.mg_editor.proofs.FrameLaws.{rows_and_name_there}
 use Rattle.mg_editor.proofs.live_status.window_status.Goals as goal
 
 pub returns : goal.returns

@@ -1,5 +1,5 @@
 use Rattle.std.proofs.Common.{rules, ◌≡◌, ◌++◌, [], ◌∷◌}
-use Rattle.mg_editor.proofs.ShowingLaws.{told_on}
+use Rattle.mg_editor.proofs.FrameLaws.{told_on}
 use Rattle.mg_editor.proofs.live_status.window_statuses.Goals as goal
 
 pub loop-window-preserved : goal.loop-window-preserved

@@ -4,9 +4,7 @@ use Rattle.mg_screen.specs.Layout.{FillsRows}
 use Rattle.mg_screen.specs.Screen.{Screen}
 use Rattle.mg_editor.specs.Editors.{Editor}
 use Rattle.mg_editor.specs.LiveShowing.{place_cells_in}
-use Rattle.mg_editor.proofs.FrameLaws.{screen_filled, rows_from}
-use Rattle.mg_editor.proofs.LiveFrameLaws.{cursor_at_point_shown}
-use Rattle.mg_editor.proofs.PlaceCellLaws.{placed_cells}
+use Rattle.mg_editor.proofs.FrameLaws.{screen_filled, rows_from, cursor_at_point_shown, placed_cells}
 use Rattle.mg_editor.proofs.editor.Editor.placed_live_frame.Goals as goal
 
 pub place_cells-requires-clause-rows_to : goal.place_cells-requires-clause-rows_to
