@@ -1,6 +1,5 @@
 mod RunLemmas
 mod ReportLemmas
-mod PlaceLemmas
 mod WrittenLaws
 mod MemoryLaws
 mod FaultLaws

@@ -1,5 +1,5 @@
 -- How a report stands to the line of operations with the same bytes.
-use Rattle.std.proofs.Common.{◌≡◌, ◌≢◌, ℕ, ◌≤◌, Bool, true, false, List, length, Option, Some, None, Ok, Err, if◌then◌else◌, refl, sym, ap, ◌∙◌, codes, nat_lt, le-ltb}
+use Rattle.std.proofs.Common.{◌≡◌, ◌≢◌, ℕ, ◌≤◌, Bool, true, false, List, length, Option, Some, None, Err, if◌then◌else◌, refl, sym, ap, ◌∙◌, codes, nat_lt, le-ltb}
 use Rattle.std.specs.Prelude.{option_and_then}
 use Rattle.std.specs.Str.{IsUtf8, is_utf8, bytes_eq}
 use Rattle.std.proofs.lemmas.Bool.{ltb-false}
@@ -9,15 +9,13 @@ use Rattle.serde_json.specs.Data.{Data, null, boolean, number, string, array, ob
 use Rattle.serde_json.specs.Events.{members_len}
 use Rattle.serde_json.specs.Read.{read}
 use Rattle.serde_json.specs.Find.{get_member, as_str}
-use Rattle.rga_lines.specs.declared.line.Line.{Line}
-use Rattle.rga_lines.specs.declared.fault.LineFault.{LineFault}
 use Rattle.rga_lines.specs.declared.fault.LineFault.TheVariants as fault
 use Rattle.rga_lines.specs.Table as table
 use Rattle.rga_lines.specs.Table.{AnyReading, value_line, text_line, any_line_at}
 use Rattle.mg_events.specs.Faults.{ReportKind, paste_report, splice_report, size_report, places_report, rest_report, kinds, kind_among}
 use Rattle.mg_events.specs.Reports.{ReportReading, member_count, paste, splice, size, places, rest, operations_report, of_kind, with_name, value_report, text_report, report_at}
 
-abbrev of_other_kind : AnyReading
+abbrev pub of_other_kind : AnyReading
 of_other_kind = Err fault.Kind
 
 -- ---- by name
@@ -104,31 +102,21 @@ line_other bytes other = parts_other (nat_lt 65536 (length bytes)) (is_utf8 byte
 
 -- ---- what was said of the bytes as a line of operations
 
-pub operations_said : (bytes : List ℕ) (said : Line) (r : ReportReading) → (Ok said ≢ Err fault.Memory → Ok said ≡ any_line_at bytes)
-    → r ≡ operations_report (Ok said) → r ≡ report_at bytes
-operations_said bytes said r exact is =
-    let known : Ok said ≡ any_line_at bytes = exact (λ e. cc) in
-    is ∙ (ap operations_report known ∙ sym (line_other bytes (λ e. ok_is_no_fault said (known ∙ e))))
-  where
-    ok_is_no_fault : (x : Line) → Ok x ≡ of_other_kind → ⊥
-    ok_is_no_fault x e = cc
-
-abbrev fault_of : AnyReading → LineFault
-fault_of (Ok said) = fault.Memory
-fault_of (Err e) = e
-
-pub fault_said : (bytes : List ℕ) (e : LineFault) (r : ReportReading) → (e ≢ fault.Memory → any_line_at bytes ≡ Err e) → e ≢ fault.Kind
-    → r ≡ Err e → r ≢ Err fault.Memory → r ≡ report_at bytes
-fault_said bytes e r known other is no_memory =
-    let said : any_line_at bytes ≡ Err e = known (λ m. no_memory (is ∙ ap (λ f. Err f) m)) in
-    is ∙ (ap operations_report (sym said) ∙ sym (line_other bytes (λ k. other (ap fault_of (sym said ∙ k)))))
+pub other_said : (bytes : List ℕ) (said : AnyReading) (r : ReportReading) → (said ≢ Err fault.Memory → said ≡ any_line_at bytes) → said ≢ of_other_kind
+    → r ≡ operations_report said → r ≢ Err fault.Memory → r ≡ report_at bytes
+other_said bytes said r exact other is no_memory =
+    let known : said ≡ any_line_at bytes = exact (λ e. no_memory (is ∙ ap operations_report e)) in
+    is ∙ ap operations_report known ∙ sym (line_other bytes (λ e. other (known ∙ e)))
 
 -- ---- what the value says
 
-pub is_short : (bytes : List ℕ) → any_line_at bytes ≡ Err fault.Kind → length bytes ≤ 65536
+pub is_short : (bytes : List ℕ) (said : AnyReading) → (said ≢ Err fault.Memory → said ≡ any_line_at bytes) → said ≡ of_other_kind → length bytes ≤ 65536
 unfolding any_line_at
-is_short bytes e = by (nat_lt 65536 (length bytes)) refl e
+is_short bytes said exact is = by (nat_lt 65536 (length bytes)) refl (sym (exact (λ m. kind_is_other (sym is ∙ m))) ∙ is)
   where
+    kind_is_other : of_other_kind ≡ Err fault.Memory → ⊥
+    kind_is_other e = cc
+
     by : (b : Bool) → nat_lt 65536 (length bytes) ≡ b → line_by b (is_utf8 bytes) (read bytes) ≡ Err fault.Kind → length bytes ≤ 65536
     by true long said = absurd cc
     by false short said = ltb-false 65536 (length bytes) short
@@ -145,9 +133,3 @@ pub accepted : (bytes : List ℕ) (d : Data) → length bytes ≤ 65536 → IsUt
 unfolding report_at
 accepted bytes d h text e =
     rw (le-ltb _ _ h) (ap (λ (b : Bool). text_report b (read bytes)) (is_utf8-from_IsUtf8 bytes text) ∙ ap (text_report true) e)
-
-pub kind_said : (bytes : List ℕ) (e : LineFault) → (e ≢ fault.Memory → any_line_at bytes ≡ Err e) → e ≡ fault.Kind → any_line_at bytes ≡ Err fault.Kind
-kind_said bytes e known is = known (λ m. kind_is_other (sym is ∙ m)) ∙ ap (λ f. Err f) is
-  where
-    kind_is_other : fault.Kind ≡ fault.Memory → ⊥
-    kind_is_other k = cc

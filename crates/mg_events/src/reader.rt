@@ -71,9 +71,18 @@ impl Reader {
         ensures left { spec.Leaves self.old byte self.new }
     {
         match self.phase {
-            Phase::Keys => self.read_key(byte),
+            Phase::Keys if byte != REPORT => Event::Key(byte),
+            Phase::Keys => {
+                self.phase = Phase::Report;
+                self.line.clear();
+                Event::Nothing
+            }
             Phase::Report => self.read_more(byte),
-            Phase::Dropping(fault) => self.drop_more(fault, byte),
+            Phase::Dropping(_) if byte != NEWLINE => Event::Nothing,
+            Phase::Dropping(fault) => {
+                self.phase = Phase::Keys;
+                Event::Refused(fault)
+            }
         }
     }
 
@@ -93,19 +102,6 @@ impl Reader {
             Phase::Keys => false,
             Phase::Report | Phase::Dropping(_) => true,
         }
-    }
-
-    /// A key, or the beginning of a report.
-    fn read_key(&mut self, byte: u8) -> Event
-        ensures event { result ≡ (spec.key_step self.old byte).event }
-        ensures left { self.new ≡ (spec.key_step self.old byte).left }
-    {
-        if byte != REPORT {
-            return Event::Key(byte);
-        }
-        self.phase = Phase::Report;
-        self.line.clear();
-        Event::Nothing
     }
 
     /// A byte of a report's line, or its newline.
@@ -134,17 +130,5 @@ impl Reader {
     {
         self.phase = Phase::Dropping(fault);
         self.line.clear();
-    }
-
-    /// A byte that is dropped, or the newline behind such.
-    fn drop_more(&mut self, fault: LineFault, byte: u8) -> Event
-        ensures event { result ≡ (spec.dropping_step fault self.old byte).event }
-        ensures left { self.new ≡ (spec.dropping_step fault self.old byte).left }
-    {
-        if byte != NEWLINE {
-            return Event::Nothing;
-        }
-        self.phase = Phase::Keys;
-        Event::Refused(fault)
     }
 }

@@ -1,6 +1,5 @@
 //! What the bytes of a report's line say.
-ghost use Rattle.std.specs.Prelude.{◌≡◌, ◌≢◌, ◌<◌, ◌≤◌, length, Err, IfOk};
-ghost use Rattle.rga_lines.specs.Table.{any_line_at};
+ghost use Rattle.std.specs.Prelude.{◌≡◌, ◌≢◌, ◌<◌, length, Err, IfOk};
 ghost use Rattle.rga_lines.specs.declared.fault.LineFault.TheVariants.{Memory, Long};
 ghost use Rattle.mg_events.specs.Reports.{report_at, HasSoundRun};
 
@@ -45,35 +44,13 @@ pub fn read_report(alloc: Global, line: &[u8]) -> Result<Report, LineFault>
 {
     match read_any(alloc, line) {
         Ok(said) => operations_report(Ok(said)),
-        Err(fault) => read_other(alloc, line, fault),
-    }
-}
-
-/// What a line says that has this fault as a line of operations.
-fn read_other(alloc: Global, line: &[u8], fault: LineFault) -> Result<Report, LineFault>
-    requires { fault ≢ Memory → any_line_at line.now ≡ Err fault }
-    ensures exact { result ≢ Err Memory → result ≡ report_at line.now }
-    ensures long { fault ≡ Long → result ≡ Err Long }
-{
-    match fault {
-        LineFault::Kind => read_value(alloc, line),
-        _ => Err(fault),
-    }
-}
-
-/// What a line of at most `MAX_LINE` bytes says, by its value.
-fn read_value(alloc: Global, line: &[u8]) -> Result<Report, LineFault>
-    requires { length line.now ≤ 65536 }
-    ensures { result ≢ Err Memory → result ≡ report_at line.now }
-{
-    match Value::from_slice(alloc, line) {
-        Ok(value) => report_of(alloc, &value),
-        Err(e) => {
-            if e.is_memory() {
-                Err(LineFault::Memory)
-            } else {
-                Err(LineFault::Json)
-            }
-        }
+        Err(fault) => match fault {
+            LineFault::Kind => match Value::from_slice(alloc, line) {
+                Ok(value) => report_of(alloc, &value),
+                Err(e) if e.is_memory() => Err(LineFault::Memory),
+                Err(_) => Err(LineFault::Json),
+            },
+            _ => Err(fault),
+        },
     }
 }

@@ -1,16 +1,14 @@
 //! What a value says as a report.
-ghost use Rattle.std.specs.Prelude.{◌≡◌, ◌≢◌, codes, IfOk, IfErr, Err, option_and_then};
-ghost use Rattle.std.specs.Str.{chars};
+ghost use Rattle.std.specs.Prelude.{◌≡◌, ◌≢◌, codes, IfOk, IfErr, Err};
 ghost use Rattle.serde_json.specs.View.{items_view, view};
-ghost use Rattle.serde_json.specs.Find.{get, as_array};
-ghost use Rattle.rga_lines.specs.Table.{parent_of, two_numbers, value_line};
+ghost use Rattle.serde_json.specs.Find.{get};
+ghost use Rattle.rga_lines.specs.Table.{value_line};
 ghost use Rattle.rga_lines.specs.declared.fault.LineFault.TheVariants.{Memory};
 ghost use Rattle.mg_events.specs.Reports as spec;
 
 use crate::report::{Places, Report};
 use mg_plain::Chars;
-use rga_lines::parts::element_or_root;
-use rga_lines::{Line, LineFault, line_of};
+use rga_lines::{Line, LineFault, characters, line_of, parent_of};
 use rga_ops::Id;
 use serde_json::Value;
 use std::alloc::Global;
@@ -21,13 +19,12 @@ use std::alloc::Global;
 pub(crate) fn report_of(alloc: Global, value: &Value) -> Result<Report, LineFault>
     ensures { result ≢ Err Memory → result ≡ spec.value_report (view value.now) }
 {
-    let Some(op) = value.get("op") else {
-        return operations_in(alloc, value);
-    };
-    let Some(name) = op.as_str() else {
-        return operations_in(alloc, value);
-    };
-    named(alloc, name, value)
+    if let Some(op) = value.get("op")
+        && let Some(name) = op.as_str()
+    {
+        return named(alloc, name, value);
+    }
+    operations_report(line_of(alloc, value))
 }
 
 /// The report with this `op`.
@@ -44,18 +41,12 @@ fn named(alloc: Global, name: &str, value: &Value) -> Result<Report, LineFault>
     } else if name == "places" {
         places(alloc, member_count(value), value)
     } else if name == "rest" {
-        rest(member_count(value))
+        (member_count(value) == 1)
+            .then_some(Report::Rest)
+            .ok_or(LineFault::Member)
     } else {
-        operations_in(alloc, value)
+        operations_report(line_of(alloc, value))
     }
-}
-
-/// What a value says as a line of operations.
-fn operations_in(alloc: Global, value: &Value) -> Result<Report, LineFault>
-    ensures { result ≢ Err Memory
-        → result ≡ spec.operations_report (value_line (view value.now)) }
-{
-    operations_report(line_of(alloc, value))
 }
 
 /// What a line of operations says as a report: its head and its end are none.
@@ -85,20 +76,14 @@ fn member_count(value: &Value) -> usize
 fn more_count(value: &Value) -> usize
     ensures { result ≡ spec.more_count (get (codes "more") (view value.now)) }
 {
-    match value.get("more") {
-        Some(_) => 1,
-        None => 0,
-    }
+    value.get("more").map_or(0, |_| 1)
 }
 
 /// Whether there is more; `None` if `more` is no boolean.
 fn more_of(value: &Value) -> Option<bool>
     ensures { result ≡ spec.more_of (get (codes "more") (view value.now)) }
 {
-    match value.get("more") {
-        Some(more) => more.as_bool(),
-        None => Some(false),
-    }
+    value.get("more").map_or(Some(false), |more| more.as_bool())
 }
 
 /// Pasted text, by an object of so many members.
@@ -108,12 +93,9 @@ fn paste(alloc: Global, members: usize, value: &Value) -> Result<Report, LineFau
     if members != 2 + more_count(value) {
         return Err(LineFault::Member);
     }
-    let Some(text) = value.get("text") else {
-        return Err(LineFault::Member);
-    };
-    let (Some(text), Some(more)) = (text.as_str(), more_of(value)) else {
-        return Err(LineFault::Kind);
-    };
+    let text = value.get("text").ok_or(LineFault::Member)?;
+    let text = text.as_str().ok_or(LineFault::Kind)?;
+    let more = more_of(value).ok_or(LineFault::Kind)?;
     let text = Chars::from(characters(alloc, text)?);
     Ok(Report::Paste { text, more })
 }
@@ -125,20 +107,15 @@ fn splice(alloc: Global, members: usize, value: &Value) -> Result<Report, LineFa
     if members != 5 + more_count(value) {
         return Err(LineFault::Member);
     }
-    let (Some(base), Some(hi), Some(lo), Some(text)) = (
-        value.get("base"),
-        value.get("hi"),
-        value.get("lo"),
-        value.get("text"),
-    ) else {
-        return Err(LineFault::Member);
-    };
-    let (Some(base), Some(hi), Some(lo)) = (base.as_u64(), hi.as_u64(), lo.as_u64()) else {
-        return Err(LineFault::Kind);
-    };
-    let (Some(text), Some(more)) = (text.as_str(), more_of(value)) else {
-        return Err(LineFault::Kind);
-    };
+    let base = value.get("base").ok_or(LineFault::Member)?;
+    let hi = value.get("hi").ok_or(LineFault::Member)?;
+    let lo = value.get("lo").ok_or(LineFault::Member)?;
+    let text = value.get("text").ok_or(LineFault::Member)?;
+    let base = base.as_u64().ok_or(LineFault::Kind)?;
+    let hi = hi.as_u64().ok_or(LineFault::Kind)?;
+    let lo = lo.as_u64().ok_or(LineFault::Kind)?;
+    let text = text.as_str().ok_or(LineFault::Kind)?;
+    let more = more_of(value).ok_or(LineFault::Kind)?;
     let text = Chars::from(characters(alloc, text)?);
     Ok(Report::Splice {
         base,
@@ -156,12 +133,10 @@ fn size(members: usize, value: &Value) -> Result<Report, LineFault>
     if members != 3 {
         return Err(LineFault::Member);
     }
-    let (Some(columns), Some(rows)) = (value.get("cols"), value.get("rows")) else {
-        return Err(LineFault::Member);
-    };
-    let (Some(columns), Some(rows)) = (columns.as_u64(), rows.as_u64()) else {
-        return Err(LineFault::Kind);
-    };
+    let columns = value.get("cols").ok_or(LineFault::Member)?;
+    let rows = value.get("rows").ok_or(LineFault::Member)?;
+    let columns = columns.as_u64().ok_or(LineFault::Kind)?;
+    let rows = rows.as_u64().ok_or(LineFault::Kind)?;
     Ok(Report::Size { rows, columns })
 }
 
@@ -172,30 +147,13 @@ fn places(alloc: Global, members: usize, value: &Value) -> Result<Report, LineFa
     if members != 2 {
         return Err(LineFault::Member);
     }
-    let Some(places) = value.get("places") else {
-        return Err(LineFault::Member);
-    };
-    let Some(items) = places.as_array() else {
-        return Err(LineFault::Kind);
-    };
+    let places = value.get("places").ok_or(LineFault::Member)?;
+    let items = places.as_array().ok_or(LineFault::Kind)?;
     if !are_arrays(items.as_slice()) {
         return Err(LineFault::Kind);
     }
-    match places_of(alloc, items.as_slice())? {
-        Some(all) => Ok(Report::Places(Places { all })),
-        None => Err(LineFault::Id),
-    }
-}
-
-/// That nobody types, by an object of so many members.
-fn rest(members: usize) -> Result<Report, LineFault>
-    ensures { result ≡ spec.rest members }
-{
-    if members == 1 {
-        Ok(Report::Rest)
-    } else {
-        Err(LineFault::Member)
-    }
+    let all = places_of(alloc, items.as_slice())?.ok_or(LineFault::Id)?;
+    Ok(Report::Places(Places { all }))
 }
 
 fn are_arrays(items: &[Value]) -> bool
@@ -219,50 +177,11 @@ fn places_of(alloc: Global, items: &[Value]) -> Result<Option<Vec<Id>>, LineFaul
     let mut all = Vec::new(alloc);
     let mut rest = items;
     'items: while let Some((item, behind)) = rest.split_first() {
-        let Some(id) = place_of(item) else {
+        let Some(id) = item.as_array().and_then(|numbers| parent_of(numbers)) else {
             return Ok(None);
         };
         all.push(id)?;
         rest = behind;
     }
     Ok(Some(all))
-}
-
-/// The identifier of an element, or the root.
-fn place_of(item: &Value) -> Option<Id>
-    ensures { result ≡ option_and_then parent_of (as_array (view item.now)) }
-{
-    let Some(numbers) = item.as_array() else {
-        return None;
-    };
-    let Some((counter, replica)) = two_numbers(numbers) else {
-        return None;
-    };
-    let Ok(replica) = u16::try_from(replica) else {
-        return None;
-    };
-    element_or_root(counter, replica)
-}
-
-fn two_numbers(numbers: &Vec<Value>) -> Option<(u64, u64)>
-    ensures { result ≡ two_numbers (items_view numbers.now.items) }
-{
-    let [counter, replica] = numbers.as_slice() else {
-        return None;
-    };
-    let Some(counter) = counter.as_u64() else {
-        return None;
-    };
-    let Some(replica) = replica.as_u64() else {
-        return None;
-    };
-    Some((counter, replica))
-}
-
-/// The characters of a text.
-fn characters(alloc: Global, text: &str) -> Result<Vec<char>, LineFault>
-    ensures ok { IfOk result (λ all. all.items ≡ chars text.now) }
-    ensures memory { IfErr result (λ e. e ≡ Memory) }
-{
-    Ok(text.chars().collect(alloc)?)
 }

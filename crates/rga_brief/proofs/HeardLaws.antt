@@ -1,20 +1,7 @@
 -- What is heard of claims, in words.
-use Rattle.std.proofs.Common.{◌≡◌, ℕ, ◌+◌, Bool, true, false, cond, nat_lt, ◌==◌, eqb-true, eq-eqb, List, [], ◌∷◌, ◌++◌, map, length, refl, sym, ap, ◌∙◌, subst, append_assoc, append-nil, true≢false}
-use Rattle.std.specs.Prelude.{Result, Ok, Err, ◌↔◌}
-use Rattle.std.proofs.lemmas.Bool.{lt-ltb, le-ltb, ltb-true, ltb-false, ne_eqb}
-use Rattle.rga_lines.specs.Stream.{lines_of, rest_of}
-use Rattle.rga_lines.specs.declared.line.TheConstants.{MAX_LINE}
-use Rattle.rga_lines.specs.declared.fault.LineFault.{LineFault}
+use Rattle.rga_brief.proofs.Prelude.{◌≡◌, ℕ, ◌+◌, Bool, true, false, cond, nat_lt, ◌==◌, eqb-true, eq-eqb, List, [], ◌∷◌, ◌++◌, map, length, refl, sym, ap, ◌∙◌, subst, append_assoc, append-nil, true≢false, Result, Ok, Err, ◌↔◌, lt-ltb, le-ltb, ltb-true, ltb-false, ne_eqb, lines_of, rest_of, MAX_LINE, LineFault, ReceiveFault, Summary, Claim, summary_from, claim_line_at, ClaimLine, One, Last, SayClaims, StopsAs, IsHeardAs, ended, unended, after_claim_line, lines_heard, summary_heard}
 use Rattle.rga_lines.specs.declared.fault.LineFault.TheVariants as line_fault
-use Rattle.rga_exchange.specs.declared.fault.ReceiveFault.{ReceiveFault}
 use Rattle.rga_exchange.specs.declared.fault.ReceiveFault.TheVariants as fault
-use Rattle.rga_brief.specs.Summary.{Summary}
-use Rattle.rga_brief.specs.declared.claim.Claim.{Claim}
-use Rattle.rga_brief.specs.Summaries.{summary_from}
-use Rattle.rga_brief.specs.Lines.{claim_line_at}
-use Rattle.rga_brief.specs.declared.claim_line.ClaimLine.{ClaimLine}
-use Rattle.rga_brief.specs.declared.claim_line.ClaimLine.TheVariants.{One, Last}
-use Rattle.rga_brief.specs.Told.{SayClaims, StopsAs, IsHeardAs, ended, unended, after_claim_line, lines_heard, summary_heard}
 
 abbrev Answer : Type 0
 Answer = Result Summary ReceiveFault

@@ -1,25 +1,11 @@
 -- What is heard of claims, as they are read.
-use Rattle.std.proofs.Common.{◌≡◌, ℕ, ◌+◌, ◌≤◌, cond, List, [], ◌∷◌, ◌++◌, length, refl, sym, ap, ◌∙◌, append_assoc, append-nil, arith}
-use Rattle.std.specs.Prelude.{Option, Result, Err}
+use Rattle.rga_brief.proofs.Prelude.{◌≡◌, ℕ, ◌+◌, ◌≤◌, cond, List, [], ◌∷◌, ◌++◌, length, refl, sym, ap, ◌∙◌, append_assoc, append-nil, arith, Option, Result, Err, lt-ltb, le-ltb, Calls, OnBytes, BeginsLong, Splitting, lines_of, MAX_LINE, LineFault, GivesLine, rest_is_all, ReceiveFault, Summary, Claim, HasHeard, claim_line_at, after_claim_line, lines_heard, bytes_heard, summary_heard, ClaimLine}
 use Rattle.std.specs.Io.KnownBytes.{Consumes, IsAtEnd}
 use Rattle.std.proofs.KnownBytes.{Consumes-nil, Consumes-trans, Consumes-whole}
-use Rattle.std.proofs.lemmas.Bool.{lt-ltb, le-ltb}
-use Rattle.rga_exchange.specs.Counting.{Calls, OnBytes}
-use Rattle.rga_lines.specs.Stream.{BeginsLong, Splitting, lines_of}
-use Rattle.rga_lines.specs.declared.line.TheConstants.{MAX_LINE}
-use Rattle.rga_lines.specs.declared.fault.LineFault.{LineFault}
 use Rattle.rga_lines.specs.declared.fault.LineFault.TheVariants as line_fault
-use Rattle.rga_lines.proofs.SplitterLemmas.{GivesLine, rest_is_all}
-use Rattle.rga_exchange.specs.declared.fault.ReceiveFault.{ReceiveFault}
 use Rattle.rga_exchange.specs.declared.fault.ReceiveFault.TheVariants as fault
-use Rattle.rga_brief.specs.Summary.{Summary}
-use Rattle.rga_brief.specs.declared.claim.Claim.{Claim}
-use Rattle.rga_brief.specs.Heard.{HasHeard}
-use Rattle.rga_brief.specs.Lines.{claim_line_at}
 use Rattle.rga_brief.proofs.LineLaws.{too_long}
-use Rattle.rga_brief.specs.Told.{after_claim_line, lines_heard, bytes_heard, summary_heard}
 use Rattle.rga_exchange.specs.declared.block.TheConstants.{BLOCK}
-use Rattle.rga_brief.specs.declared.claim_line.ClaimLine.{ClaimLine}
 
 -- ---- one line
 

@@ -1,3 +1,4 @@
+pub mod Prelude
 pub mod MissingLaws
 pub mod OneSummary
 pub mod TellingLaws

@@ -1,17 +1,8 @@
 -- What a line says where claims are told.
-use Rattle.std.proofs.Common.{◌≡◌, ℕ, ◌<◌, ◌≤◌, Bool, true, false, cond, List, length, refl, ap, sym, ◌∙◌}
-use Rattle.std.specs.Prelude.{Option, None, Result, Err}
-use Rattle.std.specs.Str.{IsUtf8, is_utf8}
-use Rattle.std.proofs.lemmas.Bool.{lt-ltb, le-ltb}
-use Rattle.std.proofs.lemmas.Str.{is_utf8-from_IsUtf8, IsUtf8-from_is_utf8}
+use Rattle.rga_brief.proofs.Prelude.{◌≡◌, ℕ, ◌<◌, ◌≤◌, Bool, true, false, cond, List, length, refl, ap, sym, ◌∙◌, Option, None, Result, Err, IsUtf8, is_utf8, lt-ltb, le-ltb, is_utf8-from_IsUtf8, IsUtf8-from_is_utf8, MAX_LINE, LineFault, Claim, claim_in, claim_said, claim_or_end, ClaimLine}
 use Rattle.rga_lines.specs.Table.{any_line_at}
-use Rattle.rga_lines.specs.declared.line.TheConstants.{MAX_LINE}
-use Rattle.rga_lines.specs.declared.fault.LineFault.{LineFault}
 use Rattle.rga_lines.specs.declared.fault.LineFault.TheVariants as fault
-use Rattle.rga_brief.specs.declared.claim.Claim.{Claim}
-use Rattle.rga_brief.specs.Claims.{claim_in}
-use Rattle.rga_brief.specs.Lines.{claim_said, claim_or_end, claim_line_at}
-use Rattle.rga_brief.specs.declared.claim_line.ClaimLine.{ClaimLine}
+use Rattle.rga_brief.specs.Lines.{claim_line_at}
 
 abbrev wrong : LineFault → Result ClaimLine LineFault
 wrong e = Err e

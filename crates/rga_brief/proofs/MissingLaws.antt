@@ -1,36 +1,13 @@
 -- Digests, operation by operation; what is sent by them, and what comes of it.
-use Rattle.std.proofs.Common.{◌≡◌, ℕ, ◌==◌, ◌&&◌, Bool, true, false, cond, eqb-true, eq-eqb, List, [], ◌∷◌, ◌++◌, filter, refl, sym, ap, ◌∙◌, ◌≤◌, not, subst, inl, inr, true≢false}
-use Rattle.std.specs.Prelude.{Option, Some, None, Result, Ok, Err, IfOk, Contains}
-use Rattle.std.specs.Option.{unwrap_or, option_or, option_eq}
-use Rattle.std.proofs.lemmas.Bool.{and_parts, or_cases, or_left, or_right}
-use Rattle.std.proofs.lemmas.List.{append-nil}
-use Rattle.std.proofs.lemmas.List.Elements.{filter-append}
-use Rattle.std.proofs.lemmas.List.Sums.{fold-append}
-use Rattle.rga_ops.specs.Operation.{id_of, checked}
-use Rattle.rga_ops.specs.declared.op.Op.{Op}
+use Rattle.rga_brief.proofs.Prelude.{◌≡◌, ℕ, ◌==◌, ◌&&◌, Bool, true, false, cond, eqb-true, eq-eqb, List, [], ◌∷◌, ◌++◌, filter, refl, sym, ap, ◌∙◌, ◌≤◌, not, subst, inl, inr, true≢false, Option, Some, None, Result, Ok, Err, IfOk, Contains, unwrap_or, option_or, option_eq, and_parts, or_cases, or_left, or_right, append-nil, filter-append, fold-append, id_of, checked, Op, Block, Digests, block_of, is_block, inserts_in, deletes_in, mixed_operation, digest, digests_of, inserted, deleted, with_operation, inserted_in, deleted_in, own_digests, Element, Content, join, single, content_of, Holds, Agree, IsAgreed, IsSound, IsWithin, known_count, AreWellFormed, IsJoinable, operations, after_answer, taken, get-join, contains-join, within_itself, within_join, join_swap, join_assoc, Contains-first, Contains-later, Contains-cases, content_inserted, content_deleted, inserted-iff, Refusal, exchange_outcome, exchange_text, Summary, IsSummary, digests_at, lacks_by, lacks, missing, DigestsTellApart, Lacking, Lacks, lacks_between, go_on, taken_in_turn}
 use Rattle.rga_ops.specs.declared.op.Op.TheVariants.{Insert, Delete}
-use Rattle.rga_brief.specs.declared.block.Block.{Block}
-use Rattle.rga_brief.specs.declared.digests.Digests.{Digests}
 use Rattle.rga_brief.specs.declared.digests.TheConstants.{START}
-use Rattle.rga_brief.specs.Digest.{block_of, is_block, inserts_in, deletes_in, mixed_operation, digest, digests_of, inserted, deleted, with_operation, inserted_in, deleted_in, own_digests}
 use Rattle.std.proofs.lemmas.Option.{same_Some}
-use Rattle.rga_ops.specs.Content.{Element, Content, join, single, content_of, Holds, Agree, IsAgreed, IsSound, IsWithin, known_count}
-use Rattle.rga_ops.specs.ListAnswer.{AreWellFormed, IsJoinable}
-use Rattle.rga_ops.specs.Operations.{operations}
-use Rattle.rga_ops.specs.Answer.{after_answer, taken}
 use Rattle.rga_ops.proofs.AnswerLaws.{known-iff}
-use Rattle.rga_ops.proofs.ContentLaws.{get-join, contains-join, within_itself, within_join, join_swap, join_assoc}
-use Rattle.rga_ops.proofs.OperationLaws.{Contains-first, Contains-later, Contains-cases, content_inserted, content_deleted, inserted-iff}
 use Rattle.rga_ops.proofs.OperationsLaws.{content_of-operations, operations_hold}
 use Rattle.rga_ops.proofs.AgreeLaws.{held_agree, agree_within}
 use Rattle.rga_ops.proofs.TakenLaws.{held_adds_nothing, held_stays, taken_is}
-use Rattle.rga_ops.specs.declared.refusal.Refusal.{Refusal}
-use Rattle.rga_exchange.specs.Receiving.{exchange_outcome}
-use Rattle.rga_exchange.specs.Sending.{exchange_text}
 use Rattle.rga_exchange.specs.declared.fault.SendFault.{SendFault}
-use Rattle.rga_brief.specs.Summary.{Summary, IsSummary, digests_at, lacks_by, lacks, missing, DigestsTellApart}
-use Rattle.rga_brief.specs.Lacking.{Lacking, Lacks, lacks_between}
-use Rattle.rga_brief.specs.Taking.{go_on, taken_in_turn}
 use Rattle.std.specs.FinMap as finite_map
 use Rattle.std.specs.FinSet as finite_set
 

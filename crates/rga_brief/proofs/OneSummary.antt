@@ -1,7 +1,5 @@
 -- There is one summary for each content; it comes back from its claims, of which the last of each block counts.
-use Rattle.std.proofs.Common.{◌≡◌, T, cond, List, [], ◌∷◌, refl, sym, ap, ◌∙◌, subst, Bool, true, false, ◌++◌, map, append_assoc, true≢false}
-use Rattle.std.specs.Prelude.{Some, Option, None}
-use Rattle.std.specs.List.{AllByRecursion}
+use Rattle.rga_brief.proofs.Prelude.{◌≡◌, T, cond, List, [], ◌∷◌, refl, sym, ap, ◌∙◌, subst, Bool, true, false, ◌++◌, map, append_assoc, true≢false, Some, Option, None, AllByRecursion, Content, Block, Digests, block_cmp, Summary, IsSummary, digests_at, option_or, append-nil, Claim, entry_claim, claims_of, put_claims, summary_from, last_claimed}
 use Rattle.std.specs.List.Sorted.{IsStrictlySortedBy}
 use Rattle.std.specs.Map.{lookup, keys_of}
 use Rattle.std.specs.Ordering.{eq_by_cmp, is_lt, nat_cmp, is_eq, match_ordering, ordering_reverse}
@@ -10,18 +8,9 @@ use Rattle.std.specs.FinMap.{find, is_sorted, IsAntisymmetric}
 use Rattle.std.specs.FinMap.Entries.{below_all, same_entries}
 use Rattle.std.specs.declared.cmp.Ordering.TheVariants.{Less, Equal, Greater}
 use Rattle.std.proofs.lemmas.Map.Lookups.{exact_pairs, exact_unsigned}
-use Rattle.rga_ops.specs.Content.{Content}
 use Rattle.rga_ops.proofs.SortedLaws.{both_hold}
-use Rattle.rga_brief.specs.declared.block.Block.{Block}
-use Rattle.rga_brief.specs.declared.digests.Digests.{Digests}
-use Rattle.rga_brief.specs.Digest.{block_cmp}
-use Rattle.rga_brief.specs.Summary.{Summary, IsSummary, digests_at}
-use Rattle.std.specs.Option.{option_or}
 use Rattle.std.specs.BTreeMap.{insert_entry}
 use Rattle.std.specs.declared.cmp.Ordering.{Ordering}
-use Rattle.std.proofs.lemmas.List.{append-nil}
-use Rattle.rga_brief.specs.declared.claim.Claim.{Claim}
-use Rattle.rga_brief.specs.Summaries.{entry_claim, claims_of, put_claims, summary_from, last_claimed}
 
 -- ---- there is one summary for each content
 

@@ -1,27 +1,11 @@
 -- What is missing is received as all would be.
-use Rattle.std.proofs.Common.{◌≡◌, ℕ, ◌+◌, ◌<◌, ◌≤◌, ◌^◌, Bool, true, false, cond, List, [], ◌∷◌, ◌++◌, map, filter, length, refl, sym, ap, subst, ◌∙◌, arith}
-use Rattle.std.specs.Prelude.{Option, Some, None, Result, Ok, Err}
-use Rattle.std.proofs.lemmas.Bool.{eq-eqb}
-use Rattle.rga_ops.specs.Content.{Content, IsSound, IsWithin}
-use Rattle.rga_ops.specs.Operations.{operations}
-use Rattle.rga_ops.specs.Answer.{taken}
-use Rattle.rga_ops.specs.ListAnswer.{AreWellFormed}
-use Rattle.rga_ops.specs.declared.op.Op.{Op}
-use Rattle.rga_ops.specs.declared.refusal.Refusal.{Refusal}
-use Rattle.rga_ops.proofs.OperationLaws.{Contains-first}
+use Rattle.rga_brief.proofs.Prelude.{◌≡◌, ℕ, ◌+◌, ◌<◌, ◌≤◌, ◌^◌, Bool, true, false, cond, List, [], ◌∷◌, ◌++◌, map, filter, length, refl, sym, ap, subst, ◌∙◌, arith, Option, Some, None, Result, Ok, Err, eq-eqb, Content, IsSound, IsWithin, operations, taken, AreWellFormed, Op, Refusal, Contains-first, head_back, end_back, line_back, ReceiveFault, number_received, exchange_outcome, exchange_text, stream_text, AreWritable, later_writable, later_well_formed, lines_and_end, exchange_lines-cut, exchange_rest, exchange_says, sound_list, Summary, IsSummary, DigestsTellApart, lacks, missing, Outcome, taken_in_turn}
 use Rattle.rga_lines.specs.Spelling.{line, end_line}
-use Rattle.rga_lines.proofs.ReadBack.{head_back, end_back, line_back}
-use Rattle.rga_exchange.specs.declared.fault.ReceiveFault.{ReceiveFault}
 use Rattle.rga_exchange.specs.declared.fault.ReceiveFault.TheVariants as fault
 use Rattle.rga_exchange.specs.declared.fault.LogFault.TheVariants as log
 use Rattle.rga_exchange.specs.declared.taking.Form.TheVariants.{Log, Exchange}
 use Rattle.rga_exchange.specs.Taking.{Stop, AtEnd, AtFault, Progress, progress, after_line, refused_at, go_on, lines_taken, with_rest, stream_taken}
-use Rattle.rga_exchange.specs.Receiving.{number_received, exchange_outcome}
-use Rattle.rga_exchange.specs.Sending.{exchange_text, stream_text, AreWritable}
 use Rattle.rga_exchange.proofs.HeadLaws.{as_log}
-use Rattle.rga_exchange.proofs.AppendedLaws.{later_writable, later_well_formed, lines_and_end, exchange_lines-cut, exchange_rest, exchange_says, sound_list}
-use Rattle.rga_brief.specs.Summary.{Summary, IsSummary, DigestsTellApart, lacks, missing}
-use Rattle.rga_brief.specs.Taking.{Outcome, taken_in_turn}
 use Rattle.rga_brief.specs.Taking as turn
 use Rattle.rga_brief.proofs.MissingLaws.{from_chosen, missing_taken, missing_well_formed}
 use Rattle.rga_brief.specs.Alike.{AreReceivedAlike}

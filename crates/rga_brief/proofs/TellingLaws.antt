@@ -1,27 +1,11 @@
 -- What a claim says and how it is spelled, and a summary that is heard as it was told.
-use Rattle.std.proofs.Common.{◌≡◌, ℕ, ◌+◌, ◌*◌, ◌/◌, ◌%◌, ◌^◌, ◌<◌, ◌≤◌, cond, lt-ltb, List, [], ◌∷◌, length, refl, ap, ◌∙◌, arith, lit<, ◌≢◌, Bool, true, false, not, ◌&&◌, ◌==◌, ◌++◌, codes, decimal, sym, true≢false, map, subst, append_assoc, append-nil, lit≤}
-use Rattle.std.specs.Prelude.{Option, Some, None, Result, Ok, Err, IfOk, OnOk, Vec, option_and_then}
-use Rattle.serde_json.specs.Data.{depth, Data}
-use Rattle.serde_json.specs.Read.{max_depth, read, of_json}
-use Rattle.serde_json.specs.declared.value.Value.{Value}
-use Rattle.serde_json.specs.View.{items_view}
+use Rattle.rga_brief.proofs.Prelude.{◌≡◌, ℕ, ◌+◌, ◌*◌, ◌/◌, ◌%◌, ◌^◌, ◌<◌, ◌≤◌, cond, lt-ltb, List, [], ◌∷◌, length, refl, ap, ◌∙◌, arith, lit<, ◌≢◌, Bool, true, false, not, ◌&&◌, ◌==◌, ◌++◌, codes, decimal, sym, true≢false, map, subst, append_assoc, append-nil, lit≤, Option, Some, None, Result, Ok, Err, IfOk, OnOk, Vec, option_and_then, depth, Data, max_depth, read, of_json, Block, Claim, digest_of, with_digests, claim_with, claim_of, claim_data, IsInRange, IsDigest, pair_text, part_text, claim_in, digest_data, pair_data, All, list_all, AllByRecursion, AllPass-from_list_all, has_float, compact_text, outline, IsUtf8, is_utf8, eq-eqb, length-append, All-nil, All-cons, IsUtf8-append, is_utf8-from_IsUtf8, Content, Calls, Writes, WritesFront, HasNoNewline, lines_of, rest_of, MAX_LINE, IsUtf8-decimal, read_tokens, end_back, cut_again, ReceiveFault, Summary, IsSummary, claims_of, summary_from, claim_line_at, end_said, IsTold, TellsSummary, claim_lines, summary_text, after_claim_line, lines_heard, summary_heard, One, Last}
 use Rattle.std.proofs.Math.Nat.{div-lt_iff_lt-mul, div-le_self, mod-le}
-use Rattle.rga_lines.specs.Table.{two_numbers}
-use Rattle.rga_brief.specs.declared.block.Block.{Block}
-use Rattle.rga_brief.specs.declared.claim.Claim.{Claim}
-use Rattle.rga_brief.specs.Claims.{block_of, digest_of, with_digests, claim_with, claim_of, claim_data, IsInRange, IsDigest, claim_line, pair_text, part_text, claim_in, digest_data, pair_data}
-use Rattle.std.specs.List.{All, list_all, AllByRecursion}
+use Rattle.rga_brief.specs.Claims.{block_of, claim_line}
 use Rattle.std.proofs.lemmas.Bool.Decides.{nat_tests}
 use Rattle.std.proofs.lemmas.Fmt.{decimal_by_steps, length-decimal-le}
 use Rattle.std.proofs.lemmas.List.Folds.{list_all-append}
-use Rattle.std.proofs.lemmas.List.Sums.{AllPass-from_list_all}
-use Rattle.serde_json.specs.Written.{has_float, compact_text, outline}
 use Rattle.serde_json.proofs.OnLiterals.{serde_json_on_literals}
-use Rattle.std.specs.Str.{IsUtf8, is_utf8}
-use Rattle.std.proofs.lemmas.Bool.{eq-eqb}
-use Rattle.std.proofs.lemmas.List.{length-append}
-use Rattle.std.proofs.lemmas.List.Elements.{All-nil, All-cons}
-use Rattle.std.proofs.lemmas.Str.{IsUtf8-append, is_utf8-from_IsUtf8}
 use Rattle.json.specs.Lex.{tokens}
 use Rattle.json.proofs.Printed.Decimals.{IsNumber-decimal}
 use Rattle.json.proofs.Printed.Tokens.{tokens-print}
@@ -29,40 +13,15 @@ use Rattle.json.proofs.Printed.Trees.{ArePrintable-json_tokens}
 use Rattle.json.proofs.Printed.Utf8.{IsUtf8-are_ascii}
 use Rattle.serde_json.proofs.Numbers.{number_of-decimal}
 use Rattle.serde_json.proofs.Texts.{print-outline}
-use Rattle.rga_ops.specs.Content.{Content}
-use Rattle.rga_exchange.specs.Counting.{Calls, Writes, WritesFront}
 use Rattle.rga_lines.specs.Spelling.{end_line}
-use Rattle.rga_lines.specs.Stream.{HasNoNewline, lines_of, rest_of}
-use Rattle.rga_lines.specs.declared.line.TheConstants.{MAX_LINE}
 use Rattle.rga_lines.proofs.NewlineLemmas.{end_has_none}
-use Rattle.rga_lines.proofs.ReadBack.{IsUtf8-decimal, read_tokens, end_back}
 use Rattle.rga_lines.proofs.SpellingLemmas.{end_data, compact_end}
-use Rattle.rga_exchange.proofs.AppendedLaws.{cut_again}
-use Rattle.rga_exchange.specs.declared.fault.ReceiveFault.{ReceiveFault}
 use Rattle.rga_exchange.specs.declared.fault.ReceiveFault.TheVariants.{Count}
-use Rattle.rga_brief.specs.Summary.{Summary, IsSummary}
 use Rattle.rga_brief.proofs.OneSummary.{one_summary, comes_back}
-use Rattle.rga_brief.specs.Summaries.{claims_of, summary_from}
-use Rattle.rga_brief.specs.Lines.{claim_line_at, end_said}
 use Rattle.rga_brief.proofs.LineLaws.{said}
-use Rattle.rga_brief.specs.Told.{IsTold, TellsSummary, claim_lines, summary_text, after_claim_line, lines_heard, summary_heard}
-use Rattle.rga_brief.specs.declared.claim_line.ClaimLine.TheVariants.{One, Last}
 use Rattle.json.specs.Tree as tree
 
 -- ---- the JSON of a claim says that claim
-
--- ---- two numbers
-
-pub too_few : (values : List Value) → length values < 2 → two_numbers (items_view values) ≡ None
-too_few [] h = refl
-too_few (v ∷ []) h = refl
-too_few (v ∷ w ∷ values) h = absurd (omega arith)
-
-pub too_many : (values : List Value) → 3 ≤ length values → two_numbers (items_view values) ≡ None
-too_many [] h = absurd (omega arith)
-too_many (v ∷ []) h = absurd (omega arith)
-too_many (v ∷ w ∷ []) h = absurd (omega arith)
-too_many (v ∷ w ∷ u ∷ values) h = refl
 
 -- ---- a digest
 

@@ -26,20 +26,14 @@ pub struct Digests {
 pub(crate) fn inserted(digests: Option<Digests>) -> Option<u64>
     ensures { result ≡ spec.inserted digests }
 {
-    match digests {
-        Some(digests) => digests.inserted,
-        None => None,
-    }
+    digests?.inserted
 }
 
 /// The digest of the deletions of a block.
 pub(crate) fn deleted(digests: Option<Digests>) -> Option<u64>
     ensures { result ≡ spec.deleted digests }
 {
-    match digests {
-        Some(digests) => digests.deleted,
-        None => None,
-    }
+    digests?.deleted
 }
 
 /// The digests of a block with one operation more.

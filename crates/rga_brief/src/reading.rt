@@ -1,12 +1,12 @@
 //! Lines read.
 ghost use Rattle.std.specs.Prelude.{◌≡◌, IfOk, IfErr};
-ghost use Rattle.serde_json.specs.View.{items_view, view};
-ghost use Rattle.rga_lines.specs.Table.{two_numbers};
+ghost use Rattle.serde_json.specs.View.{view};
 ghost use Rattle.rga_brief.specs.Claims as spec;
 
 use crate::block::Block;
 use crate::claim::{Claim, HALF};
 use crate::digests::Digests;
+use rga_lines::two_numbers;
 use rga_ops::Refusal;
 use serde_json::Value;
 use std::alloc::Global;
@@ -27,28 +27,17 @@ pub fn read_claim(alloc: Global, text: &str) -> Result<Option<Claim>, Refusal>
 {
     match Value::from_str(alloc, text) {
         Ok(value) => Ok(claim_of(&value)),
-        Err(e) => {
-            if e.is_memory() {
-                Err(Refusal::Memory)
-            } else {
-                Ok(None)
-            }
-        }
+        Err(e) if e.is_memory() => Err(Refusal::Memory),
+        Err(_) => Ok(None),
     }
 }
 
 fn claim_of(value: &Value) -> Option<Claim>
     ensures { result ≡ spec.claim_of (view value.now) }
 {
-    let Some(block) = block_in(value) else {
-        return None;
-    };
-    let Some(deleted) = digest_in(value, "del") else {
-        return None;
-    };
-    let Some(inserted) = digest_in(value, "ins") else {
-        return None;
-    };
+    let block = block_in(value)?;
+    let deleted = digest_in(value, "del")?;
+    let inserted = digest_in(value, "ins")?;
     if !has_members(value, 1 + one(deleted) + one(inserted)) {
         return None;
     }
@@ -60,15 +49,8 @@ fn claim_of(value: &Value) -> Option<Claim>
 fn block_in(value: &Value) -> Option<Block>
     ensures { result ≡ spec.block_in (view value.now) }
 {
-    let Some(member) = value.get("block") else {
-        return None;
-    };
-    let Some((replica, number)) = two_numbers(member) else {
-        return None;
-    };
-    let Ok(replica) = u16::try_from(replica) else {
-        return None;
-    };
+    let (replica, number) = two_numbers(value.get("block")?.as_array()?)?;
+    let replica = u16::try_from(replica).ok()?;
     Some(Block { replica, number })
 }
 
@@ -79,15 +61,9 @@ fn digest_in(value: &Value, name: &str) -> Option<Option<u64>>
     let Some(member) = value.get(name) else {
         return Some(None);
     };
-    let Some((high, low)) = two_numbers(member) else {
-        return None;
-    };
-    let Ok(high) = u32::try_from(high) else {
-        return None;
-    };
-    let Ok(low) = u32::try_from(low) else {
-        return None;
-    };
+    let (high, low) = two_numbers(member.as_array()?)?;
+    let high = u32::try_from(high).ok()?;
+    let low = u32::try_from(low).ok()?;
     Some(Some(u64::from(high) * HALF + u64::from(low)))
 }
 
@@ -95,10 +71,7 @@ fn digest_in(value: &Value, name: &str) -> Option<Option<u64>>
 fn one(digest: Option<u64>) -> usize
     ensures { result ≡ spec.one digest }
 {
-    match digest {
-        Some(_) => 1,
-        None => 0,
-    }
+    digest.map_or(0, |_| 1)
 }
 
 /// Whether the value is an object of so many members.
@@ -109,29 +82,4 @@ fn has_members(value: &Value, count: usize) -> bool
         Some(members) => members.len() == count,
         None => false,
     }
-}
-
-/// The two whole numbers that an array is of exactly these.
-fn two_numbers(value: &Value) -> Option<(u64, u64)>
-    ensures { result ≡ spec.numbers_of (view value.now) }
-{
-    let Some(items) = value.as_array() else {
-        return None;
-    };
-    two_of(items)
-}
-
-fn two_of(items: &Vec<Value>) -> Option<(u64, u64)>
-    ensures { result ≡ two_numbers (items_view items.now.items) }
-{
-    let [first, second] = items.as_slice() else {
-        return None;
-    };
-    let Some(first) = first.as_u64() else {
-        return None;
-    };
-    let Some(second) = second.as_u64() else {
-        return None;
-    };
-    Some((first, second))
 }

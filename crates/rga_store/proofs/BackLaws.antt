@@ -1,15 +1,5 @@
 -- Operations that were taken in turn, and that are removed again, the last first.
-use Rattle.std.proofs.Common.{◌≡◌, ℕ, ◌<◌, ◌+◌, List, [], ◌∷◌, ◌++◌, length, take, drop, slice_index_or, refl, sym, ap, ◌∙◌, subst, arith, length-append}
-use Rattle.std.specs.Prelude.{Ok}
-use Rattle.std.proofs.lemmas.List.{take_more, take-append-le, drop-append-le}
-use Rattle.rga_ops.specs.Content.{Content, Holds, join, single, clock_of}
-use Rattle.rga_ops.specs.Answer.{answer, taken, and_take, taken_one_by_one}
-use Rattle.rga_ops.specs.declared.op.Op.{Op}
-use Rattle.rga_ops.specs.declared.refusal.Refusal.TheVariants.{Memory}
-use Rattle.rga_ops.proofs.AnswerLaws.{Answer, ok, err, passed, bad}
-use Rattle.rga_ops.proofs.TakenLaws.{one_by_one-append}
-use Rattle.rga_ops.specs.declared.refusal.Taken.TheVariants.{New}
-use Rattle.rga_store.specs.Without.{without_operation}
+use Rattle.rga_store.proofs.Prelude.{◌≡◌, ℕ, ◌<◌, ◌+◌, List, [], ◌∷◌, ◌++◌, length, take, drop, slice_index_or, refl, sym, ap, ◌∙◌, subst, arith, length-append, Ok, take_more, take-append-le, drop-append-le, Content, Holds, join, single, clock_of, answer, taken, and_take, taken_one_by_one, Op, Memory, Answer, ok, err, passed, bad, one_by_one-append, New, without_operation}
 use Rattle.rga_store.proofs.WithoutLaws.{without_new, new_held}
 use Rattle.rga_store.specs.declared.steps.Step.{Step}
 use Rattle.rga_store.specs.Back.{without_noted, CanTakeBack, IsLastNoted}

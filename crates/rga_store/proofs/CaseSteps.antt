@@ -1,6 +1,5 @@
 -- What follows in each case of a test.
-use Rattle.std.proofs.Common.{◌≡◌, Bool, true, false, cond, ◌||◌, sym}
-use Rattle.std.proofs.Math.Bool.{or-true, or-false}
+use Rattle.rga_store.proofs.Prelude.{◌≡◌, Bool, true, false, cond, ◌||◌, sym, or-true, or-false}
 
 -- true here, and elsewhere as it was
 pub true_where : (here there : Bool) → cond here true there ≡ (there || here)

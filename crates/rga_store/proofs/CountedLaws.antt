@@ -1,19 +1,9 @@
 -- What counts say of a content, and those of the empty one.
-use Rattle.std.proofs.Common.{◌≡◌, ℕ, ◌≤◌, true, sym, ◌∙◌, arith, true≢false}
-use Rattle.std.specs.Prelude.{Ok}
+use Rattle.rga_store.proofs.Prelude.{◌≡◌, ℕ, ◌≤◌, true, sym, ◌∙◌, arith, true≢false, Ok, none-some, id_cmp, checked, Element, Content, Holds, nothing, clock_of, clock_within, known_nothing, Op, Insert, Delete, IsCounted}
 use Rattle.std.specs.FinMap as finite_map
 use Rattle.std.specs.FinSet as finite_set
 use Rattle.std.proofs.lemmas.Bool.Decides.{nat_tests}
-use Rattle.std.proofs.lemmas.Option.{none-some}
-use Rattle.rga_ops.specs.Identifier.{id_cmp}
-use Rattle.rga_ops.specs.Operation.{checked}
-use Rattle.rga_ops.specs.Content.{Element, Content, Holds, nothing, clock_of}
-use Rattle.rga_ops.proofs.ClockLaws.{clock_within}
-use Rattle.rga_ops.proofs.KnownLaws.{known_nothing}
-use Rattle.rga_ops.specs.declared.op.Op.{Op}
-use Rattle.rga_ops.specs.declared.op.Op.TheVariants.{Insert, Delete}
 use Rattle.rga_store.specs.Limit.{is_limit}
-use Rattle.rga_store.specs.Counted.{IsCounted}
 use Rattle.rga_store.proofs.StepLaws.{inserted_within}
 
 pub within_limits : (limit : ℕ) → is_limit limit ≡ true → limit ≤ 1000000

@@ -1,14 +1,6 @@
 -- Operations in front of the first insertion that is new, one after another.
-use Rattle.std.proofs.Common.{◌≡◌, ℕ, ◌+◌, ◌<◌, Bool, true, false, cond, not, List, [], ◌∷◌, ◌++◌, take, drop, length, get_or, sym, ap, ◌∙◌}
-use Rattle.std.specs.Prelude.{Some, None}
-use Rattle.std.specs.List.{take_while}
-use Rattle.std.proofs.lemmas.List.{take_more}
+use Rattle.rga_store.proofs.Prelude.{◌≡◌, ℕ, ◌+◌, ◌<◌, Bool, true, false, cond, not, List, [], ◌∷◌, ◌++◌, take, drop, length, get_or, sym, ap, ◌∙◌, Some, take_while, take_more, id_of, Content, join, single, content_of, has_another, first_conflict, inserts_anew, from, join_more, Op}
 use Rattle.std.proofs.lemmas.List.Sums.{take_while-cons}
-use Rattle.rga_ops.specs.Operation.{id_of}
-use Rattle.rga_ops.specs.Content.{Content, join, single, content_of}
-use Rattle.rga_ops.specs.ListAnswer.{has_another, first_conflict, inserts_anew}
-use Rattle.rga_ops.proofs.ListSteps.{from, join_more}
-use Rattle.rga_ops.specs.declared.op.Op.{Op}
 
 module _ (c : Content) where
   abbrev passes : Op → Bool
@@ -22,9 +14,6 @@ module _ (c : Content) where
     -- what is left begins with the operation, unless that inserts something anew
     left_is : (b : Bool) → inserts_anew c op ≡ b → take_while passes (drop i ops) ≡ cond (not b) (op ∷ take_while passes (drop (i + 1) ops)) []
     left_is b h = ap (take_while passes) (from ops i op within at) ∙ take_while-cons passes op (drop (i + 1) ops) ∙ ap (λ t. cond (not t) (op ∷ take_while passes (drop (i + 1) ops)) []) h
-
-    pub stopped : (d : Content) → inserts_anew c op ≡ true → first_conflict d (take_while passes (drop i ops)) ≡ None
-    stopped d h = ap (first_conflict d) (left_is true h)
 
     pub conflicting : (d : Content) → inserts_anew c op ≡ false → has_another d op ≡ true → first_conflict d (take_while passes (drop i ops)) ≡ Some (id_of op)
     conflicting d h other =

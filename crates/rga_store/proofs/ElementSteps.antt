@@ -1,10 +1,5 @@
 -- An element as a store tells it, its parent and its character, and one that is looked up in two places.
-use Rattle.std.proofs.Common.{◌≡◌, ℕ, Bool, true, false, cond, refl, sym, ap, ◌∙◌}
-use Rattle.std.specs.Prelude.{Option, Some, None}
-use Rattle.std.specs.Option.{option_map, option_or}
-use Rattle.std.proofs.lemmas.Option.{same_Some, none-some}
-use Rattle.rga_ops.specs.Identifier.{Identifier}
-use Rattle.rga_ops.specs.Content.{Element, element}
+use Rattle.rga_store.proofs.Prelude.{◌≡◌, ℕ, Bool, true, false, cond, refl, sym, ap, ◌∙◌, Option, Some, None, option_map, option_or, same_Some, none-some, Identifier, Element, element}
 
 abbrev pub pair_of : Option Element → Option (Identifier × ℕ)
 pair_of = option_map (λ x. (x.parent, x.ch))

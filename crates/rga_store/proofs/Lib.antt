@@ -1,3 +1,4 @@
+pub mod Prelude
 pub mod CaseSteps
 pub mod RetainLaws
 pub mod SortedIdLaws

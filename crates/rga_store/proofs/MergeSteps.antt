@@ -1,13 +1,6 @@
 -- A merge, as the operations of the other store taken one by one.
-use Rattle.std.proofs.Common.{◌≡◌, ℕ, ◌≤◌, ap, ◌∙◌}
-use Rattle.std.specs.Prelude.{None, Ok}
+use Rattle.rga_store.proofs.Prelude.{◌≡◌, ℕ, ◌≤◌, ap, ◌∙◌, None, Ok, Content, known_ids, join, IsSound, operations, taken_one_by_one, least_conflict, merge_answer, content_of-operations, list_one_by_one}
 use Rattle.std.specs.FinSet as finite_set
-use Rattle.rga_ops.specs.Content.{Content, known_ids, join, IsSound}
-use Rattle.rga_ops.specs.Operations.{operations}
-use Rattle.rga_ops.specs.Answer.{taken_one_by_one}
-use Rattle.rga_ops.specs.ListAnswer.{least_conflict, merge_answer}
-use Rattle.rga_ops.proofs.OperationsLaws.{content_of-operations}
-use Rattle.rga_ops.proofs.ListAnswerLaws.{list_one_by_one}
 use Rattle.rga_ops.proofs.MergeLaws.{no_least_conflict-iff, merge_taken-iff, merge_list-iff}
 
 -- contents that do not conflict, and have room together: the other's operations are taken one by one

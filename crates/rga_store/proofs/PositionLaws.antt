@@ -1,16 +1,8 @@
 -- The index of a visible element, by its place.
-use Rattle.std.proofs.Common.{◌≡◌, ℕ, zero, suc, ◌+◌, ◌-◌, ◌≤◌, true, false, not, ◌&&◌, ◌||◌, List, [], ◌∷◌, position, refl, sym, ap, ◌∙◌, arith, true≢false}
-use Rattle.std.specs.Prelude.{Option, Some, None, SomeIff, IfSome}
-use Rattle.std.specs.Option.{option_map}
-use Rattle.std.specs.List.{list_any, slice_get}
+use Rattle.rga_store.proofs.Prelude.{◌≡◌, ℕ, zero, suc, ◌+◌, ◌-◌, ◌≤◌, true, false, not, ◌&&◌, ◌||◌, List, [], ◌∷◌, position, refl, sym, ap, ◌∙◌, arith, true≢false, Option, Some, None, SomeIff, IfSome, option_map, list_any, slice_get, and-false, same_Some, none-some, Identifier, is_id, Content, element_at, is, is_id-same}
 use Rattle.std.specs.FinSet as finite_set
-use Rattle.std.proofs.Math.Bool.{and-false}
-use Rattle.std.proofs.lemmas.Option.{same_Some, none-some}
-use Rattle.rga_ops.specs.Identifier.{Identifier, is_id}
-use Rattle.rga_ops.specs.Content.{Content, element_at}
 use Rattle.rga_ops.specs.RootPath.{is_complete}
 use Rattle.rga_ops.specs.Places.{is_visible, visible, place}
-use Rattle.rga_ops.proofs.IdentifierLaws.{is, is_id-same}
 use Rattle.rga_ops.proofs.PathLaws.{inserted_if_complete}
 use Rattle.rga_ops.proofs.VisibleLaws.{visible_elements, position_later, own_index, no_place, place_at}
 use Rattle.rga_ops.proofs.PlaceLaws.{index_in, index_of_place, complete_of_place}

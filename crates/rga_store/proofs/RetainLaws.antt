@@ -1,7 +1,6 @@
 -- What is left of a list of identifiers whose members were tested.
-use Rattle.std.proofs.Common.{◌≡◌, Bool, cond, filter, subst, List, [], ◌∷◌, ◌∙◌}
+use Rattle.rga_store.proofs.Prelude.{◌≡◌, Bool, cond, filter, subst, List, [], ◌∷◌, ◌∙◌, Identifier}
 use Rattle.std.specs.List.Retain.{RetainsInTurn}
-use Rattle.rga_ops.specs.Identifier.{Identifier}
 
 -- what a `retain` leaves whose closure only tests
 pub filter_retained : {F : Type 0} (R : F → Identifier → Bool → F → Identifier → Type 0) (test : Identifier → Bool) (f : F) → ((x : Identifier) (b : Bool) (g : F) (y : Identifier) → R f x b g y → (b ≡ test x) × (g ≡ f) × (y ≡ x)) → (xs ys : List Identifier) → RetainsInTurn R f xs ys → ys ≡ filter test xs

@@ -1,21 +1,15 @@
 -- Identifiers that rise are known by which they are: so what is sorted is the list of a map's keys, or of the members of a set in their order.
-use Rattle.std.proofs.Common.{◌≡◌, ℕ, ◌+◌, ◌<◌, Bool, true, false, cond, ◌&&◌, ◌||◌, T, List, [], ◌∷◌, map, length, get_or, refl, sym, ap, ◌∙◌, arith, true≢false}
-use Rattle.std.specs.Prelude.{Some, None}
+use Rattle.rga_store.proofs.Prelude.{◌≡◌, ℕ, ◌+◌, ◌<◌, Bool, true, false, cond, ◌&&◌, ◌||◌, T, List, [], ◌∷◌, map, length, get_or, refl, sym, ap, ◌∙◌, arith, true≢false, Some, None, list_any, IsDistinct, AllByRecursion, Identifier, root, id_cmp, ids_total, ids_exact, is, is_swap, alone, rising, any-rising}
 use Rattle.std.specs.Ordering.{is_lt, is_eq, ordering_reverse}
 use Rattle.std.specs.declared.cmp.Ordering.{Ordering}
 use Rattle.std.specs.declared.cmp.Ordering.TheVariants.{Less, Equal, Greater}
-use Rattle.std.specs.List.{list_any, IsDistinct, AllByRecursion}
 use Rattle.std.specs.List.Sorted.{IsSorted, IsPermutation, IsStrictlySortedBy}
 use Rattle.std.specs.FinMap as finite_map
 use Rattle.std.specs.FinMap.{FinMap, find, is_sorted}
 use Rattle.std.specs.FinMap.Entries.{below_all, same_entries}
 use Rattle.std.proofs.lemmas.List.Sorted.{list_any-IsPermutation}
 use Rattle.std.proofs.lemmas.Map.Keys.{sorted_from_all_adjacent, apart_from_distinct, IsDistinct-IsPermutation}
-use Rattle.rga_ops.specs.Identifier.{Identifier, root, id_cmp}
-use Rattle.rga_ops.proofs.IdentifierLaws.{ids_total, ids_exact, is, is_swap}
-use Rattle.rga_ops.specs.Operations.{alone, rising}
 use Rattle.rga_ops.proofs.SortedLaws.{both_so, both_hold, less_of}
-use Rattle.rga_ops.proofs.OperationsLaws.{any-rising}
 use Rattle.rga_store.specs.Rising.{IsRising}
 
 -- ---- what is sorted and distinct rises

@@ -1,32 +1,12 @@
 -- What a new operation changes in a content: which operations are well-formed, and how many are known. And the element of a child.
-use Rattle.std.proofs.Common.{◌≡◌, ℕ, ◌+◌, ◌≤◌, Bool, true, false, cond, ◌||◌, List, [], ◌∷◌, length, is_some, refl, sym, ap, ◌∙◌, subst, arith, true≢false, inl, inr, add-one}
-use Rattle.std.specs.Prelude.{Option, Some, None, Ok, ◌≢◌, ◌⊎◌, max}
-use Rattle.std.specs.Option.{option_map_or}
+use Rattle.rga_store.proofs.Prelude.{◌≡◌, ℕ, ◌+◌, ◌≤◌, Bool, true, false, cond, ◌||◌, List, [], ◌∷◌, length, is_some, refl, sym, ap, ◌∙◌, subst, arith, true≢false, inl, inr, add-one, Option, Some, None, Ok, ◌≢◌, ◌⊎◌, max, option_map_or, or-false, length-map, Identifier, id_cmp, is_id, id_of, Element, element, Content, join, single, known_ids, IsSound, IsWithin, answer, ids_total, ids_exact, is, is_id-is, contains-join, contains-single, get-insertion, get-deletion, held_stays, known_taken, len-le_union, clock_insertion, clock_deletion, falls_to, contains-known, IsNew, new-iff, IsNewInsertion, IsNewDeletion, new_insertion, new_deletion, Op, Insert, Delete, New, IsCounted}
 use Rattle.std.specs.List.{IsDistinct}
 use Rattle.std.specs.FinMap as finite_map
 use Rattle.std.specs.FinSet as finite_set
-use Rattle.std.proofs.Math.Bool.{or-false}
-use Rattle.std.proofs.lemmas.List.{length-map}
-use Rattle.rga_ops.specs.Identifier.{Identifier, id_cmp, is_id}
-use Rattle.rga_ops.specs.Operation.{id_of}
-use Rattle.rga_ops.specs.Content.{Element, element, Content, join, single, known_ids, IsSound, IsWithin}
-use Rattle.rga_ops.specs.Answer.{answer}
-use Rattle.rga_ops.proofs.IdentifierLaws.{ids_total, ids_exact, is, is_id-is}
-use Rattle.rga_ops.proofs.ContentLaws.{contains-join}
-use Rattle.rga_ops.proofs.OperationLaws.{contains-single}
 use Rattle.rga_ops.proofs.MemberLaws.{none_among}
 use Rattle.rga_ops.proofs.SoundLaws.{sound_after}
-use Rattle.rga_ops.proofs.ListSteps.{get-insertion, get-deletion}
-use Rattle.rga_ops.proofs.TakenLaws.{held_stays}
-use Rattle.rga_ops.proofs.KnownLaws.{known_taken, len-le_union}
-use Rattle.rga_ops.proofs.ClockLaws.{clock_insertion, clock_deletion, falls_to}
-use Rattle.rga_ops.proofs.AnswerLaws.{contains-known, IsNew, new-iff, IsNewInsertion, IsNewDeletion, new_insertion, new_deletion}
 use Rattle.rga_ops.proofs.WaitingLaws.{distinct_inserted}
-use Rattle.rga_ops.specs.declared.op.Op.{Op}
-use Rattle.rga_ops.specs.declared.op.Op.TheVariants.{Insert, Delete}
-use Rattle.rga_ops.specs.declared.refusal.Taken.TheVariants.{New}
 use Rattle.rga_store.specs.Child.{is_child}
-use Rattle.rga_store.specs.Counted.{IsCounted}
 
 -- ---- what is well-formed
 

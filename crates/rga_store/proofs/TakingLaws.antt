@@ -1,15 +1,6 @@
 -- What a replica took by a call, by what the call says of the content.
-use Rattle.std.proofs.Common.{◌≡◌, ◌≢◌, ℕ, List, [], ◌∷◌, refl, sym, ◌∙◌}
-use Rattle.std.specs.Prelude.{Ok, Err, OnOk}
-use Rattle.rga_ops.specs.Content.{Content, join, single, content_of}
-use Rattle.rga_ops.specs.Answer.{answer}
-use Rattle.rga_ops.specs.ListAnswer.{Verdict}
+use Rattle.rga_store.proofs.Prelude.{◌≡◌, ◌≢◌, ℕ, List, [], ◌∷◌, refl, sym, ◌∙◌, Ok, Err, OnOk, Content, join, single, content_of, answer, Verdict, Op, New, Known, Memory, Answer, ok, err, known-iff, held_adds_nothing}
 use Rattle.rga_ops.specs.Took.{one, list, merged}
-use Rattle.rga_ops.specs.declared.op.Op.{Op}
-use Rattle.rga_ops.specs.declared.refusal.Taken.TheVariants.{New, Known}
-use Rattle.rga_ops.specs.declared.refusal.Refusal.TheVariants.{Memory}
-use Rattle.rga_ops.proofs.AnswerLaws.{Answer, ok, err, known-iff}
-use Rattle.rga_ops.proofs.TakenLaws.{held_adds_nothing}
 use Rattle.rga_store.specs.Taking.{TakesMore, TakesAllOf}
 
 -- an operation, new or known

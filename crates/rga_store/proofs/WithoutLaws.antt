@@ -1,22 +1,7 @@
 -- What removing an operation again leaves: the content from before it, with its counts.
-use Rattle.std.proofs.Common.{◌≡◌, ℕ, ◌+◌, ◌-◌, ◌≤◌, Bool, true, false, cond, not, ◌&&◌, ◌||◌, is_some, refl, sym, ap, ◌∙◌, subst, arith}
-use Rattle.std.specs.Prelude.{Option, Some, None, Ok}
+use Rattle.rga_store.proofs.Prelude.{◌≡◌, ℕ, ◌+◌, ◌-◌, ◌≤◌, Bool, true, false, cond, not, ◌&&◌, ◌||◌, is_some, refl, sym, ap, ◌∙◌, subst, arith, Option, Some, None, Ok, or-false, Identifier, Element, element, Content, join, single, known_ids, clock_of, Holds, IsWithin, answer, after_answer, ids_total, is, is_itself, same_id, same_content, within_join, contains-known, new_insertion, new_deletion, taken_is, Op, Insert, Delete, New, without_insertion, without_deletion, without_operation, IsCounted, get-insertion, get-deletion}
 use Rattle.std.specs.FinMap as finite_map
 use Rattle.std.specs.FinSet as finite_set
-use Rattle.std.proofs.Math.Bool.{or-false}
-use Rattle.rga_ops.specs.Identifier.{Identifier}
-use Rattle.rga_ops.specs.Content.{Element, element, Content, join, single, known_ids, clock_of, Holds, IsWithin}
-use Rattle.rga_ops.specs.Answer.{answer, after_answer}
-use Rattle.rga_ops.proofs.IdentifierLaws.{ids_total, is, is_itself, same_id}
-use Rattle.rga_ops.proofs.ContentLaws.{same_content, within_join}
-use Rattle.rga_ops.proofs.AnswerLaws.{contains-known, new_insertion, new_deletion}
-use Rattle.rga_ops.proofs.TakenLaws.{taken_is}
-use Rattle.rga_ops.specs.declared.op.Op.{Op}
-use Rattle.rga_ops.specs.declared.op.Op.TheVariants.{Insert, Delete}
-use Rattle.rga_ops.specs.declared.refusal.Taken.TheVariants.{New}
-use Rattle.rga_store.specs.Without.{without_insertion, without_deletion, without_operation}
-use Rattle.rga_store.specs.Counted.{IsCounted}
-use Rattle.rga_ops.proofs.ListSteps.{get-insertion, get-deletion}
 use Rattle.rga_store.proofs.StepLaws.{deleted_then, deleted_now, more_known, more_inserted, sound_within}
 
 -- ---- what is left, joined again

@@ -1,6 +1,5 @@
-use Rattle.std.proofs.Common.{◌≡◌, map}
+use Rattle.rga_brief.proofs.Prelude.{◌≡◌, map, entry_claim}
 use Rattle.std.specs.Map.Iter.{deref_pair}
-use Rattle.rga_brief.specs.Summaries.{entry_claim}
 use Rattle.rga_brief.proofs.claims.claims_of.Given as goal
 
 -- the claims so far

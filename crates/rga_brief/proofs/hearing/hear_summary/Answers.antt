@@ -1,7 +1,4 @@
-use Rattle.std.proofs.Common.{◌≡◌, ◌∙◌, ◌++◌, ap, take, arith, refl}
-use Rattle.std.proofs.lemmas.List.{length-take}
-use Rattle.rga_lines.specs.Stream.{Splitting, splitting_with}
-use Rattle.rga_lines.proofs.SplitterLemmas.{fed_holds}
+use Rattle.rga_brief.proofs.Prelude.{◌≡◌, ◌∙◌, ◌++◌, ap, take, arith, refl, length-take, Splitting, splitting_with, fed_holds}
 use Rattle.rga_brief.proofs.HearingLaws.{heard_nothing, heard_lines, heard_piece, heard_to_end}
 use Rattle.rga_brief.proofs.hearing.hear_summary.Goals as goal
 

@@ -1,5 +1,4 @@
-use Rattle.std.proofs.Common.{◌≡◌, false}
-use Rattle.rga_brief.specs.Heard.{HasHeard}
+use Rattle.rga_brief.proofs.Prelude.{◌≡◌, false, HasHeard}
 use Rattle.rga_brief.proofs.hearing.hear_summary.Given as goal
 
 abbrev pub invariant-reads : goal.invariant-reads

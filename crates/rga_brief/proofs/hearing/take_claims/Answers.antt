@@ -1,14 +1,7 @@
-use Rattle.std.proofs.Common.{◌≡◌, ◌∙◌, ◌+◌, ◌++◌, ℕ, List, Option, Some, None, Result, Ok, Err, drop, refl, sym, ap}
+use Rattle.rga_brief.proofs.Prelude.{◌≡◌, ◌∙◌, ◌+◌, ◌++◌, ℕ, List, Option, Some, None, Result, Ok, Err, drop, refl, sym, ap, Splitting, lines_of, rest_of, splitting_with, GivesLine, passes_line, gives_up, ReceiveFault, Summary, Claim, ended, bytes_heard, One, Last}
 use Rattle.std.proofs.lemmas.Result.{err_from_is_err_and}
-use Rattle.rga_lines.specs.Stream.{Splitting, lines_of, rest_of, splitting_with}
 use Rattle.rga_lines.specs.declared.fault.LineFault.TheVariants as line_fault
-use Rattle.rga_lines.proofs.SplitterLemmas.{GivesLine, passes_line, gives_up}
-use Rattle.rga_exchange.specs.declared.fault.ReceiveFault.{ReceiveFault}
 use Rattle.rga_exchange.specs.declared.fault.ReceiveFault.TheVariants as fault
-use Rattle.rga_brief.specs.Summary.{Summary}
-use Rattle.rga_brief.specs.declared.claim.Claim.{Claim}
-use Rattle.rga_brief.specs.Told.{ended, bytes_heard}
-use Rattle.rga_brief.specs.declared.claim_line.ClaimLine.TheVariants.{One, Last}
 use Rattle.rga_brief.proofs.HearingLaws.{begins_long, next_heard}
 use Rattle.rga_brief.proofs.hearing.take_claims.Goals as goal
 

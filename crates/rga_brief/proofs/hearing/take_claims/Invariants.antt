@@ -1,5 +1,4 @@
-use Rattle.std.proofs.Common.{◌≡◌, ℕ, List, ◌++◌, length, false}
-use Rattle.rga_brief.specs.Told.{bytes_heard}
+use Rattle.rga_brief.proofs.Prelude.{◌≡◌, ℕ, List, ◌++◌, length, false, bytes_heard}
 use Rattle.rga_brief.proofs.hearing.take_claims.Given as goal
 
 abbrev pub invariant-lines : goal.invariant-lines

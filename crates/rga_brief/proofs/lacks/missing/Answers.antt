@@ -1,5 +1,4 @@
-use Rattle.std.proofs.Common.{ap, ◌∙◌}
-use Rattle.rga_brief.specs.Lacking.{Lacking, lacks_on}
+use Rattle.rga_brief.proofs.Prelude.{ap, ◌∙◌, Lacking, lacks_on}
 use Rattle.rga_brief.proofs.MissingLaws.{missing_kept}
 use Rattle.rga_brief.proofs.lacks.missing.Goals as goal
 

@@ -1,6 +1,4 @@
-use Rattle.rga_ops.specs.Content.{content_of}
-use Rattle.rga_ops.proofs.ContentLaws.{within_join}
-use Rattle.rga_brief.specs.Summary.{missing}
+use Rattle.rga_brief.proofs.Prelude.{content_of, within_join, missing}
 use Rattle.rga_brief.proofs.MissingLaws.{sent_holds, joined_within}
 use Rattle.rga_brief.proofs.laws.what_is_sent_is_held.Goals as goal
 

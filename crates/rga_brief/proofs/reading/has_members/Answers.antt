@@ -1,5 +1,4 @@
-use Rattle.std.proofs.Common.{◌==◌, false, sym, ap, ◌∙◌}
-use Rattle.std.specs.Option.{option_map_or}
+use Rattle.rga_brief.proofs.Prelude.{◌==◌, false, sym, ap, ◌∙◌, option_map_or}
 use Rattle.serde_json.specs.Events.{members_len}
 use Rattle.serde_json.proofs.Views.{members_len-members_view}
 use Rattle.rga_brief.proofs.reading.has_members.Goals as goal

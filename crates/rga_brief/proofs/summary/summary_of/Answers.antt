@@ -1,6 +1,4 @@
-use Rattle.std.proofs.Common.{[], ◌∙◌}
-use Rattle.rga_ops.specs.Operations.{insertions, deletions}
-use Rattle.rga_brief.specs.Hearing.{hears_on}
+use Rattle.rga_brief.proofs.Prelude.{[], ◌∙◌, insertions, deletions, hears_on}
 use Rattle.rga_brief.proofs.summary.summary_of.Goals as goal
 
 pub returns-clause-ok : goal.returns-clause-ok

@@ -1,7 +1,4 @@
-use Rattle.std.proofs.Common.{◌≡◌, ◌++◌, map, drop}
-use Rattle.std.specs.List.{AllByRecursion}
-use Rattle.rga_lines.specs.Stream.{bytes_of_lines}
-use Rattle.rga_brief.specs.Claims.{IsInRange, claim_line}
+use Rattle.rga_brief.proofs.Prelude.{◌≡◌, ◌++◌, map, drop, AllByRecursion, bytes_of_lines, IsInRange, claim_line}
 use Rattle.rga_brief.proofs.telling.push_claims.Given as goal
 
 -- what was written and what is still to come are all; and all are in range, if those to come are

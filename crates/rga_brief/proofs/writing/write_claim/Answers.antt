@@ -1,10 +1,4 @@
-use Rattle.std.proofs.Common.{ℕ, ◌≢◌, List, ◌≤◌, sym, ap, ◌∙◌, subst}
-use Rattle.std.specs.Prelude.{option_and_then}
-use Rattle.std.specs.List.{All}
-use Rattle.serde_json.specs.Data.{Data, depth}
-use Rattle.serde_json.specs.Read.{max_depth}
-use Rattle.rga_brief.specs.Claims.{claim_of}
-use Rattle.serde_json.specs.Written.{has_float, compact_text}
+use Rattle.rga_brief.proofs.Prelude.{ℕ, ◌≢◌, List, ◌≤◌, sym, ap, ◌∙◌, subst, option_and_then, All, Data, depth, max_depth, claim_of, has_float, compact_text}
 use Rattle.rga_brief.proofs.TellingLaws.{no_float, line_of, one_line, claim_back, not_deep}
 use Rattle.rga_brief.proofs.writing.write_claim.Goals as goal
 

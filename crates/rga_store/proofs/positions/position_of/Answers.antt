@@ -1,5 +1,4 @@
-use Rattle.std.proofs.Common.{rules, ◌≡◌, None, sym, ◌∙◌}
-use Rattle.rga_ops.specs.Content.{Content}
+use Rattle.rga_store.proofs.Prelude.{rules, ◌≡◌, None, sym, ◌∙◌, Content}
 use Rattle.rga_store.proofs.PositionLaws.{uninserted_position, deleted_position, placeless_position, placed_position}
 use Rattle.rga_store.proofs.positions.position_of.Goals as goal
 

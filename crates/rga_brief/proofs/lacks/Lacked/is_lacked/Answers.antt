@@ -1,9 +1,4 @@
-use Rattle.std.proofs.Common.{◌≡◌, sym, ap, ◌∙◌}
-use Rattle.rga_ops.specs.Operation.{id_of}
-use Rattle.rga_ops.specs.declared.op.Op.{Op}
-use Rattle.rga_brief.specs.Digest.{block_of}
-use Rattle.rga_brief.specs.Summary.{digests_at, lacks_by}
-use Rattle.rga_brief.specs.Lacking.{lacks_between}
+use Rattle.rga_brief.proofs.Prelude.{◌≡◌, sym, ap, ◌∙◌, id_of, Op, block_of, digests_at, lacks_by, lacks_between}
 use Rattle.rga_brief.proofs.MissingLaws.{same_block}
 use Rattle.rga_brief.proofs.lacks.Lacked.is_lacked.Goals as goal
 

@@ -1,5 +1,4 @@
-use Rattle.std.proofs.Common.{◌∙◌}
-use Rattle.rga_brief.specs.Hearing.{digests_told}
+use Rattle.rga_brief.proofs.Prelude.{◌∙◌, digests_told}
 use Rattle.rga_brief.proofs.told_digests.ToldDigests.whole.Goals as goal
 
 pub returns-clause-ok : goal.returns-clause-ok

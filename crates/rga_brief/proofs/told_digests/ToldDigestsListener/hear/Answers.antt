@@ -1,10 +1,4 @@
-use Rattle.std.proofs.Common.{cond, sym, ap, ◌∙◌}
-use Rattle.std.specs.Prelude.{Option, Some}
-use Rattle.rga_ops.specs.Operation.{id_of}
-use Rattle.rga_ops.specs.declared.op.Op.{Op}
-use Rattle.rga_brief.specs.declared.digests.Digests.{Digests}
-use Rattle.rga_brief.specs.Digest.{block_of, is_block, with_operation}
-use Rattle.rga_brief.specs.Hearing.{digests_told}
+use Rattle.rga_brief.proofs.Prelude.{cond, sym, ap, ◌∙◌, Option, Some, id_of, Op, Digests, block_of, is_block, with_operation, digests_told}
 use Rattle.rga_brief.proofs.MissingLaws.{operation_mixed}
 use Rattle.rga_brief.proofs.told_digests.ToldDigestsListener.hear.Goals as goal
 

@@ -1,5 +1,4 @@
-use Rattle.std.proofs.Common.{◌≡◌, drop}
-use Rattle.rga_ops.specs.ListAnswer.{all_checked}
+use Rattle.rga_store.proofs.Prelude.{◌≡◌, drop, all_checked}
 use Rattle.rga_store.proofs.answers.early_answer.check_each.Given as goal
 
 -- what is left is answered as the whole list

@@ -1,8 +1,4 @@
-use Rattle.std.proofs.Common.{◌≡◌, Some, sym, ap, ◌∙◌}
-use Rattle.rga_ops.specs.Content.{Content, join, content_of}
-use Rattle.rga_ops.specs.ListAnswer.{and_check, union_answer, first_conflict}
-use Rattle.rga_ops.proofs.EarlyLaws.{early_is_first}
-use Rattle.rga_ops.proofs.ListAnswerLaws.{first_conflict-iff}
+use Rattle.rga_store.proofs.Prelude.{◌≡◌, Some, sym, ap, ◌∙◌, Content, join, content_of, and_check, union_answer, first_conflict, early_is_first, first_conflict-iff}
 use Rattle.rga_store.proofs.answers.early_answer.early_answer_at.Goals as goal
 
 pub returns-in-Some-clause-refused : goal.returns-in-Some-clause-refused

@@ -1,18 +1,5 @@
-use Rattle.std.proofs.Common.{◌≡◌, ◌+◌, true, false, not, is_some, take, sym, ap, ◌∙◌}
-use Rattle.std.specs.Prelude.{Some}
-use Rattle.std.specs.Option.{option_map_or}
-use Rattle.std.specs.List.{take_while}
+use Rattle.rga_store.proofs.Prelude.{◌≡◌, ◌+◌, true, false, not, is_some, take, sym, ap, ◌∙◌, Some, option_map_or, take_while, not-false, id_of, Element, element, Content, join, single, content_of, is_element, has_another, first_conflict, inserts_anew, is_element-is, join_nothing, get-deletion, held_adds_nothing, Insert}
 use Rattle.std.specs.FinMap as finite_map
-use Rattle.std.proofs.lemmas.Bool.{not-false}
-use Rattle.rga_ops.specs.Operation.{id_of}
-use Rattle.rga_ops.specs.Content.{Element, element, Content, join, single, content_of}
-use Rattle.rga_ops.specs.Answer.{is_element}
-use Rattle.rga_ops.specs.ListAnswer.{has_another, first_conflict, inserts_anew}
-use Rattle.rga_ops.proofs.AnswerLaws.{is_element-is}
-use Rattle.rga_ops.proofs.ContentLaws.{join_nothing}
-use Rattle.rga_ops.proofs.ListSteps.{get-deletion}
-use Rattle.rga_ops.proofs.TakenLaws.{held_adds_nothing}
-use Rattle.rga_ops.specs.declared.op.Op.TheVariants.{Insert}
 use Rattle.rga_store.proofs.ElementSteps.{found_element}
 use Rattle.rga_store.proofs.EarlySteps.{joined, conflicting, passed}
 use Rattle.rga_store.proofs.answers.early_answer.early_conflict_at.Goals as goal

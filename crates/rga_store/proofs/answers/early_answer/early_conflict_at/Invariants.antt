@@ -1,9 +1,5 @@
-use Rattle.std.proofs.Common.{◌≡◌, not, take, drop}
-use Rattle.std.specs.List.{take_while}
+use Rattle.rga_store.proofs.Prelude.{◌≡◌, not, take, drop, take_while, Identifier, join, content_of, first_conflict, inserts_anew, early_conflict}
 use Rattle.std.specs.FinMap as finite_map
-use Rattle.rga_ops.specs.Identifier.{Identifier}
-use Rattle.rga_ops.specs.Content.{join, content_of}
-use Rattle.rga_ops.specs.ListAnswer.{first_conflict, inserts_anew, early_conflict}
 use Rattle.rga_store.proofs.answers.early_answer.early_conflict_at.Given as goal
 
 -- the operations so far insert nothing, and what is left in front of all that is inserted anew has the conflict

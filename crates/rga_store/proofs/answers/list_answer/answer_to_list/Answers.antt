@@ -1,8 +1,5 @@
-use Rattle.std.proofs.Common.{sym, ap, ◌∙◌}
+use Rattle.rga_store.proofs.Prelude.{sym, ap, ◌∙◌, bad, no_early_if_none, checked_without_memory}
 use Rattle.std.proofs.lemmas.Result.{err_from_is_err_and}
-use Rattle.rga_ops.proofs.AnswerLaws.{bad}
-use Rattle.rga_ops.proofs.EarlyLaws.{no_early_if_none}
-use Rattle.rga_ops.proofs.ListSteps.{checked_without_memory}
 use Rattle.rga_store.proofs.answers.list_answer.answer_to_list.Goals as goal
 
 pub returns-in_err-check_each-clause-memory : goal.returns-in_err-check_each-clause-memory

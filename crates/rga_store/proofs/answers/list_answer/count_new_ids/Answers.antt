@@ -1,17 +1,6 @@
-use Rattle.std.proofs.Common.{◌≡◌, ℕ, ◌+◌, ◌<◌, Bool, true, false, cond, not, ◌||◌, List, [], ◌∷◌, ◌++◌, take, length, get_or, refl, sym, ap, ◌∙◌, arith}
-use Rattle.std.specs.List.{list_any}
+use Rattle.rga_store.proofs.Prelude.{◌≡◌, ℕ, ◌+◌, ◌<◌, Bool, true, false, cond, not, ◌||◌, List, [], ◌∷◌, ◌++◌, take, length, get_or, refl, sym, ap, ◌∙◌, arith, list_any, or-false, take_more, contains, btree_set_len, Identifier, id_cmp, id_of, Content, known_ids, join, content_of, ids_total, ids_exact, is, same_id, is_swap, join_nothing, known_more, Op}
 use Rattle.std.specs.FinSet as finite_set
 use Rattle.std.specs.FinSet.{FinSet}
-use Rattle.std.proofs.Math.Bool.{or-false}
-use Rattle.std.proofs.lemmas.List.{take_more}
-use Rattle.std.specs.BTreeSet.{contains, btree_set_len}
-use Rattle.rga_ops.specs.Identifier.{Identifier, id_cmp}
-use Rattle.rga_ops.specs.Operation.{id_of}
-use Rattle.rga_ops.specs.Content.{Content, known_ids, join, content_of}
-use Rattle.rga_ops.proofs.IdentifierLaws.{ids_total, ids_exact, is, same_id, is_swap}
-use Rattle.rga_ops.proofs.ContentLaws.{join_nothing}
-use Rattle.rga_ops.proofs.ListSteps.{known_more}
-use Rattle.rga_ops.specs.declared.op.Op.{Op}
 use Rattle.rga_store.proofs.answers.list_answer.count_new_ids.Goals.{then-not-knows_of+in_ok-_is_new, else-not-knows_of}
 use Rattle.rga_store.proofs.answers.list_answer.count_new_ids.Goals as goal
 

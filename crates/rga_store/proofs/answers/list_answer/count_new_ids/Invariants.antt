@@ -1,8 +1,5 @@
-use Rattle.std.proofs.Common.{◌≡◌, ◌+◌, ◌||◌, take}
+use Rattle.rga_store.proofs.Prelude.{◌≡◌, ◌+◌, ◌||◌, take, contains, btree_set_len, Identifier, id_cmp, known_ids, join, content_of}
 use Rattle.std.specs.FinSet as finite_set
-use Rattle.std.specs.BTreeSet.{contains, btree_set_len}
-use Rattle.rga_ops.specs.Identifier.{Identifier, id_cmp}
-use Rattle.rga_ops.specs.Content.{known_ids, join, content_of}
 use Rattle.rga_store.proofs.answers.list_answer.count_new_ids.Given as goal
 
 -- of the operations so far, the records and the set know the identifiers, each of them once

@@ -1,25 +1,5 @@
-use Rattle.std.proofs.Common.{◌≡◌, ℕ, ◌+◌, ◌<◌, true, false, cond, not, List, [], ◌∷◌, ◌++◌, take, drop, length, get_or, refl, sym, ap, ◌∙◌}
-use Rattle.std.specs.Prelude.{Some, None}
-use Rattle.std.specs.Option.{option_map_or, option_or}
-use Rattle.std.specs.Map.{lookup}
+use Rattle.rga_store.proofs.Prelude.{◌≡◌, ℕ, ◌+◌, ◌<◌, true, false, cond, not, List, [], ◌∷◌, ◌++◌, take, drop, length, get_or, refl, sym, ap, ◌∙◌, Some, None, option_map_or, option_or, lookup, take_more, take-append-drop, get, id_cmp, id_of, element, Content, join, single, content_of, is_element, has_another, first_conflict, early_conflict, on_err_always, is, same_id, is_swap, join_nothing, or_none, is_element-is, first_conflict_found, first_none, no_early_behind_new, held_adds_nothing, from, get-insertion, get-deletion, free_more, Op, Insert}
 use Rattle.std.specs.FinMap as finite_map
-use Rattle.std.proofs.lemmas.List.{take_more, take-append-drop}
-use Rattle.std.specs.BTreeMap.{get}
-use Rattle.rga_ops.specs.Identifier.{id_cmp}
-use Rattle.rga_ops.specs.Operation.{id_of}
-use Rattle.rga_ops.specs.Content.{element, Content, join, single, content_of}
-use Rattle.rga_ops.specs.Answer.{is_element}
-use Rattle.rga_ops.specs.ListAnswer.{has_another, first_conflict, early_conflict}
-use Rattle.rga_ops.proofs.CaseSteps.{on_err_always}
-use Rattle.rga_ops.proofs.IdentifierLaws.{is, same_id, is_swap}
-use Rattle.rga_ops.proofs.ContentLaws.{join_nothing, or_none}
-use Rattle.rga_ops.proofs.AnswerLaws.{is_element-is}
-use Rattle.rga_ops.proofs.ListAnswerLaws.{first_conflict_found}
-use Rattle.rga_ops.proofs.EarlyLaws.{first_none, no_early_behind_new}
-use Rattle.rga_ops.proofs.TakenLaws.{held_adds_nothing}
-use Rattle.rga_ops.proofs.ListSteps.{from, get-insertion, get-deletion, free_more}
-use Rattle.rga_ops.specs.declared.op.Op.{Op}
-use Rattle.rga_ops.specs.declared.op.Op.TheVariants.{Insert}
 use Rattle.rga_store.proofs.EarlySteps as early
 use Rattle.rga_store.proofs.ElementSteps.{pair_of, found_element, found_none, looked_up, added_element}
 use Rattle.rga_store.proofs.answers.list_answer.first_conflict.Goals.{in-Insert+in-Some, in-Insert+in-None+in_ok-_none-in-None, in_default}

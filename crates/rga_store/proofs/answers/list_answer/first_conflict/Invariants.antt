@@ -1,11 +1,5 @@
-use Rattle.std.proofs.Common.{◌≡◌, take}
-use Rattle.std.specs.Prelude.{None}
-use Rattle.std.specs.Option.{option_map, option_or}
+use Rattle.rga_store.proofs.Prelude.{◌≡◌, take, None, option_map, option_or, get, Identifier, id_cmp, Element, join, content_of, first_conflict}
 use Rattle.std.specs.FinMap as finite_map
-use Rattle.std.specs.BTreeMap.{get}
-use Rattle.rga_ops.specs.Identifier.{Identifier, id_cmp}
-use Rattle.rga_ops.specs.Content.{Element, join, content_of}
-use Rattle.rga_ops.specs.ListAnswer.{first_conflict}
 use Rattle.rga_store.proofs.answers.list_answer.first_conflict.Given as goal
 
 -- the records and the map have the elements of the records and of the operations so far, none of which conflicts

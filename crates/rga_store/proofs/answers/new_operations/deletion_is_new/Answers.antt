@@ -1,11 +1,6 @@
-use Rattle.std.proofs.Common.{◌≡◌, Bool, true, false, cond, ◌||◌, refl, sym, ap, ◌∙◌}
+use Rattle.rga_store.proofs.Prelude.{◌≡◌, Bool, true, false, cond, ◌||◌, refl, sym, ap, ◌∙◌, is_id, Content, is, is_id-same, held_adds_nothing, Delete}
 use Rattle.std.specs.FinSet as finite_set
 use Rattle.indexmap.specs.IndexSet.{contains}
-use Rattle.rga_ops.specs.Identifier.{is_id}
-use Rattle.rga_ops.specs.Content.{Content}
-use Rattle.rga_ops.proofs.IdentifierLaws.{is, is_id-same}
-use Rattle.rga_ops.proofs.TakenLaws.{held_adds_nothing}
-use Rattle.rga_ops.specs.declared.op.Op.TheVariants.{Delete}
 use Rattle.rga_store.proofs.StepLaws.{deleted_now}
 use Rattle.rga_store.proofs.answers.new_operations.deletion_is_new.Goals as goal
 

@@ -1,16 +1,6 @@
-use Rattle.std.proofs.Common.{◌≡◌, ℕ, Bool, true, false, cond, refl, sym, ap, ◌∙◌}
-use Rattle.std.specs.Prelude.{Option, Some, None}
-use Rattle.std.specs.Option.{option_or}
+use Rattle.rga_store.proofs.Prelude.{◌≡◌, ℕ, Bool, true, false, cond, refl, sym, ap, ◌∙◌, Option, Some, None, option_or, Identifier, is_id, Element, element, Content, join, single, is, same_id, is_id-same, get-join, or_none, get-single, first_none, get-insertion, Insert}
 use Rattle.std.specs.FinMap as finite_map
 use Rattle.indexmap.specs.IndexMap.{get}
-use Rattle.rga_ops.specs.Identifier.{Identifier, is_id}
-use Rattle.rga_ops.specs.Content.{Element, element, Content, join, single}
-use Rattle.rga_ops.proofs.IdentifierLaws.{is, same_id, is_id-same}
-use Rattle.rga_ops.proofs.ContentLaws.{get-join, or_none}
-use Rattle.rga_ops.proofs.OperationLaws.{get-single}
-use Rattle.rga_ops.proofs.EarlyLaws.{first_none}
-use Rattle.rga_ops.proofs.ListSteps.{get-insertion}
-use Rattle.rga_ops.specs.declared.op.Op.TheVariants.{Insert}
 use Rattle.rga_store.proofs.ElementSteps.{pair_of, found_element, found_none, looked_up, added_element}
 use Rattle.rga_store.proofs.answers.new_operations.insertion_is_new.Goals as goal
 

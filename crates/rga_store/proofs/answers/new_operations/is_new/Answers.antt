@@ -1,10 +1,6 @@
-use Rattle.std.proofs.Common.{sym, ap, ◌∙◌, subst}
-use Rattle.rga_ops.specs.Content.{join, single}
-use Rattle.rga_ops.proofs.ListSteps.{get-deletion}
-use Rattle.rga_ops.proofs.CaseSteps.{on_ok_map}
+use Rattle.rga_store.proofs.Prelude.{sym, ap, ◌∙◌, subst, join, single, get-deletion, on_ok_map, Reaches}
 use Rattle.rga_store.proofs.ElementSteps.{pair_of}
 use Rattle.rga_store.proofs.StepLaws.{deleted_then}
-use Rattle.rga_store.specs.Reached.{Reaches}
 use Rattle.rga_store.proofs.answers.new_operations.is_new.Goals as goal
 
 pub returns-in-Insert-clause-added : goal.returns-in-Insert-clause-added

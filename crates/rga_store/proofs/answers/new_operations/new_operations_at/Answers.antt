@@ -1,13 +1,6 @@
-use Rattle.std.proofs.Common.{◌||◌, ap, ◌∙◌}
-use Rattle.std.specs.Option.{option_or}
-use Rattle.std.specs.List.{list_any}
-use Rattle.std.specs.Map.{lookup}
+use Rattle.rga_store.proofs.Prelude.{◌||◌, ap, ◌∙◌, option_or, list_any, lookup, or-false, is_id, Content, or_none}
 use Rattle.std.specs.FinMap as finite_map
 use Rattle.std.specs.FinSet as finite_set
-use Rattle.std.proofs.Math.Bool.{or-false}
-use Rattle.rga_ops.specs.Identifier.{is_id}
-use Rattle.rga_ops.specs.Content.{Content}
-use Rattle.rga_ops.proofs.ContentLaws.{or_none}
 use Rattle.rga_store.proofs.ElementSteps.{pair_of}
 use Rattle.rga_store.proofs.answers.new_operations.new_operations_at.Goals as goal
 

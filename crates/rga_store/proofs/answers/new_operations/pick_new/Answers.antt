@@ -1,13 +1,5 @@
-use Rattle.std.proofs.Common.{◌≡◌, ℕ, true, false, cond, List, [], ◌∷◌, ◌++◌, ◌+◌, ◌<◌, get_or, length, take, take_all, sym, ap, ◌∙◌, subst}
-use Rattle.std.proofs.lemmas.Bool.{not-true, not-false}
-use Rattle.std.proofs.lemmas.List.{take_more, append-nil}
-use Rattle.rga_ops.specs.Content.{Content, join, content_of}
-use Rattle.rga_ops.specs.NewOperations.{holds, new_operations}
-use Rattle.rga_ops.proofs.ContentLaws.{join_nothing}
+use Rattle.rga_store.proofs.Prelude.{◌≡◌, ℕ, true, false, cond, List, [], ◌∷◌, ◌++◌, ◌+◌, ◌<◌, get_or, length, take, take_all, sym, ap, ◌∙◌, subst, not-true, not-false, take_more, append-nil, Content, join, content_of, holds, new_operations, join_nothing, join_more, Op, Reaches}
 use Rattle.rga_ops.proofs.NewLaws.{new_in_parts}
-use Rattle.rga_ops.proofs.ListSteps.{join_more}
-use Rattle.rga_ops.specs.declared.op.Op.{Op}
-use Rattle.rga_store.specs.Reached.{Reaches}
 use Rattle.rga_store.proofs.answers.new_operations.pick_new.Goals as goal
 
 one_more : (ops : List Op) (i : ℕ) (op : Op) → i < length ops → op ≡ get_or ops i op → take (i + 1) ops ≡ take i ops ++ op ∷ []

@@ -1,7 +1,4 @@
-use Rattle.std.proofs.Common.{◌≡◌, take}
-use Rattle.rga_ops.specs.Content.{join, content_of}
-use Rattle.rga_ops.specs.NewOperations.{new_operations}
-use Rattle.rga_store.specs.Reached.{Reaches}
+use Rattle.rga_store.proofs.Prelude.{◌≡◌, take, join, content_of, new_operations, Reaches}
 use Rattle.rga_store.proofs.answers.new_operations.pick_new.Given as goal
 
 -- the store and what was added have what the store and the operations so far have, and those of them that are new were picked

@@ -1,9 +1,0 @@
-use Rattle.std.proofs.Common.{sym, arith}
-use Rattle.mg_events.proofs.PlaceLemmas.{too_few, too_many}
-use Rattle.mg_events.proofs.values.two_numbers.Goals as goal
-
-pub returns-in_default : goal.returns-in_default
-returns-in_default c = sym (too_few c.args.numbers.now.items (omega (arith, c.as_slice.ensures.len)))
-
-pub returns-in_default-2 : goal.returns-in_default-2
-returns-in_default-2 c = sym (too_many c.args.numbers.now.items (omega arith))
