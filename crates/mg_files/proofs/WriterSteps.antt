@@ -315,8 +315,7 @@ reached_sites ws r =
 -- ---- what is within a content does not conflict with what it holds
 
 no_other : (c all : Content) (op : Op) → IsWithin c all → Holds all op → HasAnother c op → ⊥
-no_other c all (Insert id parent ch) w holds (x, found, differs) = differs (same_Some x (element parent ch) (sym (w.inserted id x found) ∙ holds))
-no_other c all (Delete id) w holds another = another
+no_other c all op w holds another = grind arith
 
 all_joinable : (c all : Content) (ops : List Op) → IsWithin c all → ((op : Op) → Contains ops op → Holds all op) → IsJoinable c ops
 all_joinable c all ops w holds = record {
