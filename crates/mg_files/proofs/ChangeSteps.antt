@@ -1,10 +1,10 @@
 -- A buffer and its log, through changes.
-use Rattle.std.proofs.Common.{◌≡◌, ℕ, ◌≤◌, zero, suc, true, List, [], ◌++◌, length, Option, Some, Ok, Err, refl, sym, ap, subst, ◌∙◌, append-nil, inl, inr, Bool, false, cond, Result, ◌∷◌, ◌+◌, map, filter, take, drop, arith}
+use Rattle.std.proofs.Common.{◌≡◌, ℕ, ◌≤◌, true, List, [], ◌++◌, length, Option, Some, Ok, Err, refl, sym, ap, subst, ◌∙◌, append-nil, inl, inr, Bool, Result, ◌∷◌, ◌+◌, map, filter, take, drop, arith}
 use Rattle.std.specs.Prelude.{Contains}
 use Rattle.std.proofs.lemmas.Bool.{cond_both}
-use Rattle.std.proofs.lemmas.Option.{get_or_from_slice_get, same_Some, none-some}
+use Rattle.std.proofs.lemmas.Option.{get_or_from_slice_get, same_Some}
 use Rattle.std.specs.List.{slice_get}
-use Rattle.std.specs.Option.{option_map, unwrap_or}
+use Rattle.std.specs.Option.{unwrap_or}
 use Rattle.rga_ops.specs.Content.{Content, join, content_of, known_ids, IsSound, IsAgreed, IsWithin, clock_of}
 use Rattle.rga_ops.specs.ListAnswer.{Verdict, IsJoinable, AreWellFormed, list_answer}
 use Rattle.rga_ops.specs.NewOperations.{new_operations}

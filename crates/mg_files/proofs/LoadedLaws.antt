@@ -1,5 +1,5 @@
 -- What is loaded, by what was taken of a log and of a text.
-use Rattle.std.proofs.Common.{◌≡◌, ℕ, ◌+◌, ◌≤◌, List, [], length, Bool, true, false, Some, Result, Ok, Err, refl, sym, ap, subst, ◌∙◌, arith, Bor, nat_lt, nat_le, nat_eq, cond, chars, map, filter_map, append-nil}
+use Rattle.std.proofs.Common.{◌≡◌, ℕ, ◌+◌, ◌≤◌, List, [], length, Bool, true, false, Some, Result, Ok, Err, refl, sym, ap, subst, ◌∙◌, arith, Bor, nat_lt, nat_le, cond, chars, map, filter_map, append-nil}
 use Rattle.std.specs.declared.cmp.Ordering.{Ordering}
 use Rattle.std.proofs.lemmas.List.{nil_from_length}
 use Rattle.std.specs.FinMap as finite_map
@@ -13,7 +13,7 @@ use Rattle.rga_ops.specs.Order.{placed, shown, text}
 use Rattle.rga_ops.specs.Splice.{spliced}
 use Rattle.rga_ops.specs.ListAnswer.{Verdict, and_check}
 use Rattle.rga_ops.specs.declared.id.TheConstants.Id.{MAX_COUNTER}
-use Rattle.rga_ops.specs.declared.refusal.Refusal.TheVariants.{BadId, Full, Range, Clock}
+use Rattle.rga_ops.specs.declared.refusal.Refusal.TheVariants.{Full, Clock}
 use Rattle.rga_store.specs.Limit.{is_limit}
 use Rattle.rga_store.specs.Counted.{IsCounted}
 use Rattle.rga_store.proofs.CountedLaws.{within_limits, counted_nothing}
@@ -29,9 +29,8 @@ use Rattle.rga_exchange.specs.declared.log.LogEnd.TheVariants.{Whole}
 use Rattle.rga_exchange.specs.Taking.{intake}
 use Rattle.rga_exchange.specs.Log.{log_end, TakesLog}
 use Rattle.mg_files.specs.declared.fault.LoadFault.{LoadFault}
-use Rattle.mg_files.specs.declared.fault.LoadFault.TheVariants.{NotText, Store}
 use Rattle.mg_files.specs.Faults.{store_fault}
-use Rattle.mg_files.specs.Loading.{Loaded, loaded, of_log, log_loaded, text_insertions, characters_loaded, text_loaded, opening_answer}
+use Rattle.mg_files.specs.Loading.{Loaded, loaded, of_log, log_loaded, text_insertions, text_loaded, opening_answer}
 
 -- no answer is both a value and a fault
 pub not_both : {A E : Type 0} {a : A} {e : E} {r : Result A E} → r ≡ Ok a → r ≡ Err e → ⊥

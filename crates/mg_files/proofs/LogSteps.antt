@@ -1,5 +1,5 @@
 -- What a log stands for, through saves and loads.
-use Rattle.std.proofs.Common.{◌≡◌, ℕ, ◌≤◌, List, take, drop, sym, ap, subst, ◌∙◌, ◌&&◌, Bool, true, false, cond, nat_lt, lit≤, [], ◌++◌, length, Option, Some, None, Ok, refl, le_trans, inl, inr, true≢false, ◌||◌, ◌∷◌, Result, arith}
+use Rattle.std.proofs.Common.{◌≡◌, ℕ, ◌≤◌, List, take, drop, sym, ap, subst, ◌∙◌, ◌&&◌, Bool, true, false, cond, nat_lt, lit≤, [], ◌++◌, length, Option, Some, None, Ok, refl, le_trans, inl, inr, true≢false, ◌||◌, ◌∷◌, arith}
 use Rattle.std.specs.Prelude.{Contains, ◌⊎◌}
 use Rattle.std.proofs.lemmas.List.{take-append-drop}
 use Rattle.std.proofs.lemmas.Option.{same_Some, none-some}
@@ -37,7 +37,6 @@ use Rattle.mg_files.specs.declared.port.PortFault.TheVariants.{File, Memory}
 use Rattle.mg_files.specs.Calls.{call, refused, refusals, found_call}
 use Rattle.mg_files.specs.Files.{Files, text_bytes}
 use Rattle.std.specs.Result.{result_and}
-use Rattle.mg_files.specs.declared.fault.LoadFault.{LoadFault}
 use Rattle.std.specs.FinSet as finite_set
 
 -- ---- lists of operations within contents

@@ -1,5 +1,5 @@
 -- What an exchange leaves, and what two that meet hold.
-use Rattle.std.proofs.Common.{◌≡◌, ℕ, Bool, true, false, List, [], ◌∷◌, ◌++◌, Option, Some, None, Result, Ok, Err, MatchResult, if◌then◌else◌, refl, sym, ap, ◌∙◌, subst, append_assoc, inl, inr, length, IfSome, arith, true≢false}
+use Rattle.std.proofs.Common.{◌≡◌, ℕ, Bool, true, false, List, [], ◌∷◌, ◌++◌, Option, Some, None, Result, Ok, Err, MatchResult, if◌then◌else◌, refl, sym, ap, ◌∙◌, subst, append_assoc, length, IfSome, arith}
 use Rattle.rga_ops.specs.Content.{Content, IsWithin, content_of, IsSound, Agree, nothing, join, known_count}
 use Rattle.rga_ops.proofs.ContentLaws.{within_itself, within_chain, within_join, join_assoc, join_same, join_swap, nothing_join}
 use Rattle.rga_exchange.specs.Counting.{Calls, Writes}
@@ -15,13 +15,13 @@ use Rattle.mg_files.specs.declared.port.PortFault.{PortFault}
 use Rattle.mg_files.specs.Calls.{Call, Adds, link_call}
 use Rattle.mg_files.specs.Links.{KeepsBytes}
 use Rattle.mg_buffer.specs.OpenState.{OpenState, has_unsaved}
-use Rattle.mg_files.specs.Saving.{saved, written, AtLog, AtText, IsSaved, SavesTo}
+use Rattle.mg_files.specs.Saving.{saved, written, IsSaved, SavesTo}
 use Rattle.mg_files.specs.declared.fault.ExchangeFault.{ExchangeFault}
-use Rattle.mg_files.specs.declared.fault.ExchangeFault.TheVariants.{Save, Link, Send, Receive}
+use Rattle.mg_files.specs.declared.fault.ExchangeFault.TheVariants.{Save, Link}
 use Rattle.mg_files.specs.declared.talking.Exchanged.{Exchanged}
 use Rattle.mg_files.specs.Asking.{Role, Connects, Waits, Asks, Wire, LearnsOver}
 use Rattle.mg_files.specs.Talking.{SendsOver, HearsOver, told_to, told_content}
-use Rattle.mg_files.specs.Meeting.{Ending, Unasked, Met, answer_of, whole_answer, peer_answer, opening, is_talk, EndsBehind, Meets, Came, Unsaved, Unopened, Unsent, Unended}
+use Rattle.mg_files.specs.Meeting.{Ending, Unasked, Met, answer_of, whole_answer, peer_answer, opening, is_talk, EndsBehind, Meets, Came}
 use Rattle.mg_files.specs.Linking.{counted, Account, BeginsOver, SendsFirst, ThenHears, HearsFirst, ThenSends, PassesOver, ExchangesOver, Whole, Tells, Meet, HaveMetBriefly}
 use Rattle.std.specs.Io.KnownBytes.{Keeps, Appends}
 use Rattle.std.proofs.lemmas.Bool.{cond_both}
@@ -33,11 +33,10 @@ use Rattle.rga_ops.proofs.AgreeLaws.{agree_swap, agree_nothing}
 use Rattle.rga_ops.proofs.OperationLaws.{content_inserted}
 use Rattle.rga_ops.proofs.SoundLaws.{join_holds}
 use Rattle.rga_ops.proofs.TakenLaws.{AreTaken, held_stays, taken_list_is}
-use Rattle.rga_exchange.specs.Receiving.{number_received, receive_fault, exchange_outcome}
+use Rattle.rga_exchange.specs.Receiving.{number_received, exchange_outcome}
 use Rattle.rga_exchange.specs.Sending.{exchange_text}
 use Rattle.rga_exchange.specs.Taking.{Stop, AllTaken, AtEnd, AtFault, progress, stream_taken}
 use Rattle.rga_exchange.specs.declared.taking.Form.TheVariants.{Exchange}
-use Rattle.rga_exchange.specs.declared.fault.ReceiveFault.TheVariants.{Cut, Read, Memory}
 use Rattle.rga_exchange.proofs.OperationLaws.{stream_is_taken}
 use Rattle.rga_brief.proofs.MissingLaws.{sent_within, missing_agrees, missing_suffices}
 use Rattle.rga_brief.specs.Told.{TellsSummary, summary_heard, summary_text}

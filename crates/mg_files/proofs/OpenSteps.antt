@@ -18,7 +18,7 @@ use Rattle.rga_ops.proofs.ContentLaws.{nothing_join, join_nothing}
 use Rattle.rga_ops.proofs.AgreeLaws.{joinable_nothing}
 use Rattle.rga_lines.specs.Runs.{stretch_operations, run_deletions}
 use Rattle.rga_lines.specs.Table.{AnyReading, any_line_at}
-use Rattle.rga_lines.specs.declared.line.Line.TheVariants.{One, Run, Deletions, Head, Last}
+use Rattle.rga_lines.specs.declared.line.Line.TheVariants.{One, Run, Deletions}
 use Rattle.rga_lines.specs.Stream.{rest_of}
 use Rattle.rga_lines.specs.Log.{log_operations}
 use Rattle.rga_exchange.specs.declared.log.LogEnd.{LogEnd}

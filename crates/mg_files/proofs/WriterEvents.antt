@@ -1,6 +1,6 @@
 -- What a writer does, as events at its site.
-use Rattle.std.proofs.Common.{◌≡◌, ◌<◌, ◌≤◌, ◌^◌, ℕ, List, [], ◌∷◌, ◌++◌, length, Some, Vec, slice_get, refl, sym, ap, subst, ◌∙◌, arith, le_refl, le_trans, lt_of_le_of_lt, le-add_left, add-zero, lit≤, ◌+◌, ◌&&◌, Bool, true, false, cond, nat_le, nat_lt, le-leb, map, take, drop, not, filter, true≢false, inl, inr, chars, Option, None}
-use Rattle.std.specs.Prelude.{Ok, Err, Contains, Result, ◌⊎◌}
+use Rattle.std.proofs.Common.{◌≡◌, ◌<◌, ◌≤◌, ◌^◌, ℕ, List, [], ◌∷◌, ◌++◌, length, Some, Vec, slice_get, refl, sym, ap, subst, ◌∙◌, arith, le_refl, le_trans, lt_of_le_of_lt, le-add_left, add-zero, lit≤, ◌+◌, ◌&&◌, Bool, true, false, cond, nat_le, map, take, drop, not, filter, true≢false, inl, inr, Option, None}
+use Rattle.std.specs.Prelude.{Ok, Contains, ◌⊎◌}
 use Rattle.std.specs.List.{AllByRecursion, list_any}
 use Rattle.std.specs.declared.alloc.Global.{Global}
 use denote.RawPtr.{null_ptr}
@@ -19,18 +19,16 @@ use Rattle.rga_world.proofs.StoredLaws.{reached_storable}
 use Rattle.mg_files.specs.Kept.{IsLogged, IsWritableWhole, IsLoggedBy}
 use Rattle.mg_files.specs.Writers.{Writer, own_files, own_limit, own_content, own_replica, IsOpenedAnew, IsSiteOf}
 use Rattle.std.specs.Char.{IsScalar}
-use Rattle.std.proofs.lemmas.Bool.{le-ltb}
 use Rattle.std.proofs.lemmas.Bool.Decides.{nat_tests}
 use Rattle.std.proofs.lemmas.List.Elements.{Contains-append_left, Contains-append_right}
 use Rattle.rga_ops.specs.Identifier.{Identifier, identifier, is_id}
-use Rattle.rga_ops.specs.ListAnswer.{and_check, IsJoinable}
+use Rattle.rga_ops.specs.ListAnswer.{IsJoinable}
 use Rattle.rga_ops.specs.Order.{text, order}
 use Rattle.rga_ops.specs.Places.{visible, is_visible}
 use Rattle.rga_ops.specs.Splice.{Splice, are_falling, new_characters}
 use Rattle.rga_ops.specs.declared.id.TheConstants.Id.{MAX_COUNTER}
 use Rattle.rga_ops.specs.declared.op.Op.{Op}
 use Rattle.rga_ops.specs.declared.op.Op.TheVariants.{Insert, Delete}
-use Rattle.rga_ops.specs.declared.refusal.Refusal.TheVariants.{Full, Range, Clock}
 use Rattle.rga_ops.proofs.ContentLaws.{join_assoc, join_nothing, nothing_join}
 use Rattle.rga_ops.proofs.OperationLaws.{Contains-first, Contains-later, content_of-append}
 use Rattle.rga_ops.proofs.VisibleLaws.{text_long}
@@ -54,21 +52,16 @@ use Rattle.rga_ops.specs.declared.refusal.Taken.{Taken}
 use Rattle.rga_ops.proofs.OperationsLaws.{content_of-operations, operations_hold}
 use Rattle.rga_world.proofs.ProgramLaws.{held_can_be_saved, held_place, set_twice, take_ok}
 use Rattle.mg_files.proofs.LogSteps.{join_within, writable_all}
-use Rattle.std.specs.Str.{is_utf8}
 use Rattle.rga_ops.proofs.ListAnswerLaws.{list_taken-iff}
 use Rattle.rga_store.specs.Limit.{is_limit}
 use Rattle.rga_lines.specs.Log.{log_operations}
-use Rattle.rga_exchange.specs.Log.{log_end, log_outcome}
-use Rattle.rga_exchange.specs.declared.fault.ReceiveFault.{ReceiveFault}
-use Rattle.rga_exchange.specs.declared.log.LogEnd.{LogEnd}
 use Rattle.rga_exchange.specs.declared.log.LogEnd.TheVariants.{Whole}
 use Rattle.mg_buffer.specs.OpenState.{OpenState, with_brief, with_runs}
 use Rattle.mg_files.specs.Files.{Files}
-use Rattle.mg_files.specs.Loading.{Loaded, loaded, of_log, log_loaded, text_insertions, text_loaded, either_loaded, files_loaded}
-use Rattle.mg_files.specs.declared.fault.LoadFault.TheVariants.{Log, NotText, Store}
-use Rattle.mg_files.proofs.LoadedLaws.{splice_of_nothing, limit_of}
+use Rattle.mg_files.specs.Loading.{Loaded, loaded, log_loaded, text_insertions, either_loaded, files_loaded}
+use Rattle.mg_files.proofs.LoadedLaws.{limit_of}
 use Rattle.mg_files.specs.Held.{log_bytes}
-use Rattle.mg_files.proofs.OpenSteps.{IsInserted, IsOpenedBy, opened_by, good, bad, same_loaded, text_content, opened_kept}
+use Rattle.mg_files.proofs.OpenSteps.{IsInserted, IsOpenedBy, opened_by, good, same_loaded, text_content, opened_kept}
 use Rattle.std.specs.FinSet as finite_set
 use Rattle.rga_world.proofs.StepLaws.{same_Ok}
 

@@ -1,11 +1,10 @@
 //! How a buffer is loaded.
-ghost use Rattle.std.specs.Prelude.{◌≡◌, ◌≢◌, [], true, false, None, Ok, Err, MatchResult, IfOk, IfSome, ◌⊎◌, chars};
+ghost use Rattle.std.specs.Prelude.{◌≡◌, ◌≢◌, true, false, None, Ok, Err, MatchResult, IfOk, IfSome, ◌⊎◌, chars};
 ghost use Rattle.rga_ops.specs.Prelude.{nothing};
 ghost use Rattle.rga_doc.specs.Document.{document};
 ghost use Rattle.mg_files.specs.Files.{Files, text_bytes};
-ghost use Rattle.mg_files.specs.Loading.{load_outcome, opened_and_end, opening_answer, MayWantMemory, ends_open, log_loaded, text_loaded, loaded};
+ghost use Rattle.mg_files.specs.Loading.{load_outcome, opened_and_end, opening_answer, MayWantMemory, log_loaded, text_loaded};
 ghost use Rattle.std.specs.Str.{is_utf8};
-ghost use Rattle.rga_exchange.specs.declared.log.LogEnd.TheVariants.{Whole};
 ghost use Rattle.mg_files.specs.declared.fault.LoadFault.TheVariants.{Memory, NotText};
 
 use crate::fault::LoadFault;
