@@ -1,9 +1,10 @@
 -- A buffer and its log, through changes.
-use Rattle.std.proofs.Common.{◌≡◌, ℕ, ◌≤◌, zero, suc, true, List, [], ◌++◌, length, Option, Some, Ok, Err, refl, sym, ap, subst, ◌∙◌, append-nil, inl, inr, Bool, false, cond, Result, ◌∷◌, ◌+◌, map, filter, take, drop, arith}
+use Rattle.std.proofs.Common.{◌≡◌, ℕ, ◌≤◌, true, List, [], ◌++◌, length, Option, Some, Ok, Err, refl, sym, ap, subst, ◌∙◌, append-nil, inl, inr, Bool, Result, ◌∷◌, ◌+◌, map, filter, take, drop, arith}
 use Rattle.std.specs.Prelude.{Contains}
-use Rattle.std.proofs.lemmas.Option.{get_or_from_slice_get, same_Some, none-some}
+use Rattle.std.proofs.lemmas.Bool.{cond_both}
+use Rattle.std.proofs.lemmas.Option.{get_or_from_slice_get, same_Some}
 use Rattle.std.specs.List.{slice_get}
-use Rattle.std.specs.Option.{option_map, unwrap_or}
+use Rattle.std.specs.Option.{unwrap_or}
 use Rattle.rga_ops.specs.Content.{Content, join, content_of, known_ids, IsSound, IsAgreed, IsWithin, clock_of}
 use Rattle.rga_ops.specs.ListAnswer.{Verdict, IsJoinable, AreWellFormed, list_answer}
 use Rattle.rga_ops.specs.NewOperations.{new_operations}
@@ -57,10 +58,7 @@ pub record Joins (b d : State) (ops : List Op) : Type 0 where
 -- ---- what is sound stays so
 
 sound_joined : (c : Content) (ops : List Op) → IsSound c → AreWellFormed ops → IsSound (join c (content_of ops))
-sound_joined c ops sound well op h = elim (join_holds c (content_of ops) op h) [
-  | inl here ↦ sound op here
-  | inr there ↦ well op (held_listed ops op there)
-]
+sound_joined c ops sound well op h = grind (arith, join_holds, held_listed)
 
 -- ---- a change between saves
 
@@ -84,14 +82,8 @@ ran_joins call b old d new r =
 
 -- ---- an undo
 
-found_at : (i index : ℕ) (group : Past) (o : Option Past) → option_map {U = ℕ × Past} (λ g. (i, g)) o ≡ Some (index, group) → (i ≡ index) × (o ≡ Some group)
-found_at i index group o h = grind arith
-
 last_at : (groups : List Past) (count index : ℕ) (group : Past) → last_group groups count ≡ Some (index, group) → slice_get groups index ≡ Some group
-last_at groups zero index group h = absurd (none-some _ h)
-last_at groups (suc i) index group h =
-    let at = found_at i index group (slice_get groups i) h in
-    subst (λ k. slice_get groups k ≡ Some group) at.0 at.1
+last_at groups count index group h = grind arith
 
 stored_well : (v : Verdict) → stored v ≡ Ok tt → v ≡ Ok tt
 stored_well v h = grind arith
@@ -156,12 +148,8 @@ none_joined b d same = same ∙ sym (join_nothing b.buffer.content)
 -- ---- a save
 
 -- what a save changes is only what is unsaved
-saved_part : {A : Type 0} (f : State → A) → ((b : OpenState) → f (written b).buffer ≡ f b.buffer) → (b : OpenState) → f (logged b).buffer ≡ f b.buffer
-saved_part {A} f same b = by (has_unsaved b)
-  where
-    by : (u : Bool) → f (cond u (written b) b).buffer ≡ f b.buffer
-    by true = same b
-    by false = refl
+pub saved_part : {A : Type 0} (f : State → A) → ((b : OpenState) → f (written b).buffer ≡ f b.buffer) → (b : OpenState) → f (logged b).buffer ≡ f b.buffer
+saved_part {A} f same b = cond_both (has_unsaved b) (written b) b (λ (x : OpenState). f x.buffer ≡ f b.buffer) (λ _. same b) (λ _. refl)
 
 pub save_keeps : {A : Type 0} (f : State → A) → ((b : OpenState) → f (written b).buffer ≡ f b.buffer) → (answer : Result Bool PortFault) (b d : OpenState) (s t : Held) → SavesOnce answer b d s t → f d.buffer ≡ f b.buffer
 save_keeps {A} f same (Ok changed) b d s t m = ap (λ (x : OpenState). f x.buffer) m.saves.left ∙ saved_part f same b
@@ -192,15 +180,8 @@ step_replica Rests b d s t (alone, kept) = kept.replica
 named : (now held : Content) (name : List ℕ) (d : OpenState) (t : Held) → d.buffer.name ≡ name → IsWithin held now → IsLogged now d (t name).log → HoldsMore held d t
 named now held name d t same grown h = record { now = now; logged = subst (λ n. IsLogged now d (t n).log) (sym same) h; grown = grown }
 
-saved_name : (b : OpenState) → (saved b).buffer.name ≡ b.buffer.name
-saved_name b = by (has_unsaved b)
-  where
-    by : (u : Bool) → (cond u (written b) b).buffer.name ≡ b.buffer.name
-    by true = refl
-    by false = refl
-
 logged_name : (b : OpenState) → (logged b).buffer.name ≡ b.buffer.name
-logged_name b = saved_name b
+logged_name b = saved_part (λ (x : State). x.name) (λ x. refl) b
 
 -- ---- a save, by the calls that it told
 
@@ -211,7 +192,7 @@ pub after_save : (held : Content) (answer : Result Bool PortFault) (b d : OpenSt
 after_save held (Ok changed) b d s t h m =
     let leads : MayLead (save_calls b) s t = subst (λ calls. MayLead calls s t) (made_are m.before m.made (save_calls b) m.saves.calls) m.leads in
     subst (λ x. HoldsMore held x t) (sym m.saves.left)
-    (named b.buffer.content held b.buffer.name (saved b) t (saved_name b) (held_within held b (s b.buffer.name).log h) (save_answered held b s t h leads))
+    (named b.buffer.content held b.buffer.name (saved b) t (logged_name b) (held_within held b (s b.buffer.name).log h) (save_answered held b s t h leads))
 after_save held (Err fault) b d s t h m = by m.saves.0 m.saves.1
   where
     by : (step : SaveStep) → SaveFailed step fault (Some m.before) (Some (m.before ++ m.made)) b d → HoldsMore held d t
@@ -266,10 +247,7 @@ module _ (replica : ℕ) (taken : List Op) where
   none_made op m = absurd (Contains-nil op m)
 
   one_more : (first : Op) (ops : List Op) → IsMadeOrTaken replica taken first → AreMadeOrTaken replica taken ops → AreMadeOrTaken replica taken (first ∷ ops)
-  one_more first ops own rest op m = elim (Contains-cases first op ops m) [
-    | inl here ↦ subst (IsMadeOrTaken replica taken) here own
-    | inr later ↦ rest op later
-  ]
+  one_more first ops own rest op m = grind (arith, Contains-cases)
 
   both_made : (xs ys : List Op) → AreMadeOrTaken replica taken xs → AreMadeOrTaken replica taken ys → AreMadeOrTaken replica taken (xs ++ ys)
   both_made xs ys first second op m = elim (Contains-append xs ys op m) [

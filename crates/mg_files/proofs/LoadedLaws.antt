@@ -1,5 +1,5 @@
 -- What is loaded, by what was taken of a log and of a text.
-use Rattle.std.proofs.Common.{◌≡◌, ℕ, ◌+◌, ◌≤◌, List, [], length, Bool, true, false, Some, Result, Ok, Err, refl, sym, ap, subst, ◌∙◌, arith, Bor, nat_lt, nat_le, nat_eq, cond, chars, map, filter_map, append-nil}
+use Rattle.std.proofs.Common.{◌≡◌, ℕ, ◌+◌, ◌≤◌, List, [], length, Bool, true, false, Some, Result, Ok, Err, refl, sym, ap, subst, ◌∙◌, arith, Bor, nat_lt, nat_le, cond, chars, map, filter_map, append-nil}
 use Rattle.std.specs.declared.cmp.Ordering.{Ordering}
 use Rattle.std.proofs.lemmas.List.{nil_from_length}
 use Rattle.std.specs.FinMap as finite_map
@@ -13,7 +13,7 @@ use Rattle.rga_ops.specs.Order.{placed, shown, text}
 use Rattle.rga_ops.specs.Splice.{spliced}
 use Rattle.rga_ops.specs.ListAnswer.{Verdict, and_check}
 use Rattle.rga_ops.specs.declared.id.TheConstants.Id.{MAX_COUNTER}
-use Rattle.rga_ops.specs.declared.refusal.Refusal.TheVariants.{BadId, Full, Range, Clock}
+use Rattle.rga_ops.specs.declared.refusal.Refusal.TheVariants.{Full, Clock}
 use Rattle.rga_store.specs.Limit.{is_limit}
 use Rattle.rga_store.specs.Counted.{IsCounted}
 use Rattle.rga_store.proofs.CountedLaws.{within_limits, counted_nothing}
@@ -29,12 +29,11 @@ use Rattle.rga_exchange.specs.declared.log.LogEnd.TheVariants.{Whole}
 use Rattle.rga_exchange.specs.Taking.{intake}
 use Rattle.rga_exchange.specs.Log.{log_end, TakesLog}
 use Rattle.mg_files.specs.declared.fault.LoadFault.{LoadFault}
-use Rattle.mg_files.specs.declared.fault.LoadFault.TheVariants.{NotText, Store}
 use Rattle.mg_files.specs.Faults.{store_fault}
-use Rattle.mg_files.specs.Loading.{Loaded, loaded, of_log, log_loaded, text_insertions, characters_loaded, text_loaded, opening_answer}
+use Rattle.mg_files.specs.Loading.{Loaded, loaded, of_log, log_loaded, text_insertions, text_loaded, opening_answer}
 
 -- no answer is both a value and a fault
-not_both : {A E : Type 0} {a : A} {e : E} {r : Result A E} → r ≡ Ok a → r ≡ Err e → ⊥
+pub not_both : {A E : Type 0} {a : A} {e : E} {r : Result A E} → r ≡ Ok a → r ≡ Err e → ⊥
 not_both ok err = cc
 
 -- ---- a log
@@ -100,12 +99,7 @@ splice_of_nothing limit put limited =
 
 -- where there are such buffers, the limit is one
 pub limit_of : (replica limit : ℕ) → opening_answer replica limit ≡ Ok tt → is_limit limit ≡ true
-limit_of replica limit h = by (nat_eq replica 0) (is_limit limit) h
-  where
-    by : (a b : Bool) → cond a (Err (Store BadId)) (cond b (Ok (tt {0})) (Err (Store Range))) ≡ Ok tt → b ≡ true
-    by true b h = absurd (not_both h refl)
-    by false true h = refl
-    by false false h = absurd (not_both h refl)
+limit_of replica limit h = grind arith
 
 -- what is loaded of these characters, by what an empty document answers to them
 abbrev pub of_verdict : ℕ → List ℕ → Verdict → Result Loaded LoadFault
@@ -114,10 +108,4 @@ of_verdict replica put (Err e) = Err (store_fault e)
 
 pub text_is_loaded : (replica limit : ℕ) (bytes put : List ℕ) (doc : Document) → is_limit limit ≡ true → is_utf8 bytes ≡ true → doc ≡ document nothing limit replica false → put ≡ chars bytes
     → text_loaded replica limit bytes ≡ of_verdict replica (chars bytes) (splice_answer doc.limit doc.content 0 0 put)
-text_is_loaded replica limit bytes put doc limited utf8 made same =
-    ap (λ b. cond b (characters_loaded replica limit (chars bytes)) (Err NotText)) utf8 ∙ by (nat_lt limit (length (chars bytes)))
-    ∙ ap (of_verdict replica (chars bytes)) (sym (splice_of_nothing limit (chars bytes) limited) ∙ (λ k. splice_answer (sym made k).limit (sym made k).content 0 0 (sym same k)))
-  where
-    by : (b : Bool) → cond b (Err (Store Full)) (of_verdict replica (chars bytes) (Ok tt)) ≡ of_verdict replica (chars bytes) (cond b (Err Full) (Ok tt))
-    by true = refl
-    by false = refl
+text_is_loaded replica limit bytes put doc limited utf8 made same = grind (arith, splice_of_nothing limit (chars bytes) limited)

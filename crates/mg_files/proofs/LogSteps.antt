@@ -1,5 +1,5 @@
 -- What a log stands for, through saves and loads.
-use Rattle.std.proofs.Common.{◌≡◌, ℕ, ◌≤◌, List, take, drop, sym, ap, subst, ◌∙◌, ◌&&◌, Bool, true, false, cond, nat_lt, lit≤, [], ◌++◌, length, Option, Some, None, Ok, refl, le_trans, inl, inr, true≢false, ◌||◌, ◌∷◌, Result, arith}
+use Rattle.std.proofs.Common.{◌≡◌, ℕ, ◌≤◌, List, take, drop, sym, ap, subst, ◌∙◌, ◌&&◌, Bool, true, false, cond, nat_lt, lit≤, [], ◌++◌, length, Option, Some, None, Ok, refl, le_trans, inl, inr, true≢false, ◌||◌, ◌∷◌, arith}
 use Rattle.std.specs.Prelude.{Contains, ◌⊎◌}
 use Rattle.std.proofs.lemmas.List.{take-append-drop}
 use Rattle.std.proofs.lemmas.Option.{same_Some, none-some}
@@ -37,7 +37,6 @@ use Rattle.mg_files.specs.declared.port.PortFault.TheVariants.{File, Memory}
 use Rattle.mg_files.specs.Calls.{call, refused, refusals, found_call}
 use Rattle.mg_files.specs.Files.{Files, text_bytes}
 use Rattle.std.specs.Result.{result_and}
-use Rattle.mg_files.specs.declared.fault.LoadFault.{LoadFault}
 use Rattle.std.specs.FinSet as finite_set
 
 -- ---- lists of operations within contents
@@ -64,9 +63,7 @@ fewer_known c d w =
 -- the first operations of a list are within all
 pub first_within : (n : ℕ) (ops : List Op) → IsWithin (content_of (take n ops)) (content_of ops)
 first_within n ops =
-    subst (λ c. IsWithin (content_of (take n ops)) c)
-    (sym (content_of-append (take n ops) (drop n ops)) ∙ ap content_of (take-append-drop n ops))
-    (within_join (content_of (take n ops)) (content_of (drop n ops)))
+    grind (arith, content_of-append (take n ops) (drop n ops), take-append-drop n ops, within_join (content_of (take n ops)) (content_of (drop n ops)))
 
 -- ---- operations that a content is joined with
 
@@ -374,23 +371,9 @@ save_failed_at_text fault held b s t h m = by (has_unsaved b) fault refl m
 
 -- the text of the buffer is put where anything was changed
 pub text_is_put : (b : OpenState) (s t : Held) → is_changed b ≡ true → MayLead (save_calls b) s t → (t b.buffer.name).text ≡ Some (text_bytes b.buffer.content)
-text_is_put b s t changed m = by (has_unsaved b) b.text_waits changed m
-  where
-    last_text : (r v : Held) → MayLeave (text_call b) r v → MayLead [] v t → (t b.buffer.name).text ≡ Some (text_bytes b.buffer.content)
-    last_text r v m last = ap (λ (f : Files). f.text) (last b.buffer.name ∙ m.here)
-
-    by : (u w : Bool) → (u || w) ≡ true → MayLead (cond (u || w) (cond u (log_call b ∷ []) [] ++ text_call b ∷ []) []) s t → (t b.buffer.name).text ≡ Some (text_bytes b.buffer.content)
-    by true w c (r, first, (v, second, last)) = last_text r v second last
-    by false true c (v, second, last) = last_text s v second last
-    by false false c m = absurd (true≢false (sym c))
+text_is_put b s t changed m = grind arith
 
 -- ---- what is loaded of what is held
-
-abbrev Opening : Type 0
-Opening = Result (Unit {0}) LoadFault
-
-abbrev opens : Opening
-opens = Ok tt
 
 -- files with a log open a buffer with the content that it stands for, nothing of it unsaved
 pub opened_again : (held : Content) (b : OpenState) (f found : Files) → IsLogged held b f.log → IsThere f.log → AnswersLoad f found → opening_answer b.buffer.replica b.buffer.limit ≡ Ok tt

@@ -1,5 +1,5 @@
 -- What an exchange leaves, and what two that meet hold.
-use Rattle.std.proofs.Common.{◌≡◌, ℕ, Bool, true, false, List, [], ◌∷◌, ◌++◌, Option, Some, None, Result, Ok, Err, MatchResult, if◌then◌else◌, refl, sym, ap, ◌∙◌, subst, append_assoc, inl, inr, length, IfSome, arith, true≢false}
+use Rattle.std.proofs.Common.{◌≡◌, ℕ, Bool, true, false, List, [], ◌∷◌, ◌++◌, Option, Some, None, Result, Ok, Err, MatchResult, if◌then◌else◌, refl, sym, ap, ◌∙◌, subst, append_assoc, length, IfSome, arith}
 use Rattle.rga_ops.specs.Content.{Content, IsWithin, content_of, IsSound, Agree, nothing, join, known_count}
 use Rattle.rga_ops.proofs.ContentLaws.{within_itself, within_chain, within_join, join_assoc, join_same, join_swap, nothing_join}
 use Rattle.rga_exchange.specs.Counting.{Calls, Writes}
@@ -8,20 +8,23 @@ use Rattle.rga_exchange.specs.declared.fault.ReceiveFault.{ReceiveFault}
 use Rattle.rga_exchange.specs.declared.fault.SendFault.{SendFault}
 use Rattle.rga_brief.specs.Summary.{Summary, IsSummary, DigestsTellApart}
 use Rattle.mg_buffer.specs.State.{State}
+use Rattle.mg_files.proofs.ChangeSteps.{saved_part}
+use Rattle.mg_files.proofs.LoadedLaws.{not_both}
 use Rattle.mg_files.specs.declared.port.CallKind.TheVariants.{Connect, Accept, Finish}
 use Rattle.mg_files.specs.declared.port.PortFault.{PortFault}
 use Rattle.mg_files.specs.Calls.{Call, Adds, link_call}
 use Rattle.mg_files.specs.Links.{KeepsBytes}
 use Rattle.mg_buffer.specs.OpenState.{OpenState, has_unsaved}
-use Rattle.mg_files.specs.Saving.{saved, written, AtLog, AtText, IsSaved, SavesTo}
+use Rattle.mg_files.specs.Saving.{saved, written, IsSaved, SavesTo}
 use Rattle.mg_files.specs.declared.fault.ExchangeFault.{ExchangeFault}
-use Rattle.mg_files.specs.declared.fault.ExchangeFault.TheVariants.{Save, Link, Send, Receive}
+use Rattle.mg_files.specs.declared.fault.ExchangeFault.TheVariants.{Save, Link}
 use Rattle.mg_files.specs.declared.talking.Exchanged.{Exchanged}
 use Rattle.mg_files.specs.Asking.{Role, Connects, Waits, Asks, Wire, LearnsOver}
 use Rattle.mg_files.specs.Talking.{SendsOver, HearsOver, told_to, told_content}
-use Rattle.mg_files.specs.Meeting.{Ending, Unasked, Met, answer_of, whole_answer, peer_answer, opening, is_talk, EndsBehind, Meets, Came, Unsaved, Unopened, Unsent, Unended}
+use Rattle.mg_files.specs.Meeting.{Ending, Unasked, Met, answer_of, whole_answer, peer_answer, opening, is_talk, EndsBehind, Meets, Came}
 use Rattle.mg_files.specs.Linking.{counted, Account, BeginsOver, SendsFirst, ThenHears, HearsFirst, ThenSends, PassesOver, ExchangesOver, Whole, Tells, Meet, HaveMetBriefly}
 use Rattle.std.specs.Io.KnownBytes.{Keeps, Appends}
+use Rattle.std.proofs.lemmas.Bool.{cond_both}
 use Rattle.std.proofs.lemmas.List.{append_cancel_left}
 use Rattle.std.proofs.lemmas.Option.{same_Some}
 use Rattle.rga_ops.specs.declared.op.Op.{Op}
@@ -30,11 +33,10 @@ use Rattle.rga_ops.proofs.AgreeLaws.{agree_swap, agree_nothing}
 use Rattle.rga_ops.proofs.OperationLaws.{content_inserted}
 use Rattle.rga_ops.proofs.SoundLaws.{join_holds}
 use Rattle.rga_ops.proofs.TakenLaws.{AreTaken, held_stays, taken_list_is}
-use Rattle.rga_exchange.specs.Receiving.{number_received, receive_fault, exchange_outcome}
+use Rattle.rga_exchange.specs.Receiving.{number_received, exchange_outcome}
 use Rattle.rga_exchange.specs.Sending.{exchange_text}
 use Rattle.rga_exchange.specs.Taking.{Stop, AllTaken, AtEnd, AtFault, progress, stream_taken}
 use Rattle.rga_exchange.specs.declared.taking.Form.TheVariants.{Exchange}
-use Rattle.rga_exchange.specs.declared.fault.ReceiveFault.TheVariants.{Cut, Read, Memory}
 use Rattle.rga_exchange.proofs.OperationLaws.{stream_is_taken}
 use Rattle.rga_brief.proofs.MissingLaws.{sent_within, missing_agrees, missing_suffices}
 use Rattle.rga_brief.specs.Told.{TellsSummary, summary_heard, summary_text}
@@ -50,15 +52,11 @@ adds_then (Some told) mid new xs ys h k = subst (λ m. Adds m new ys) h k ∙ ap
 
 -- ---- what a save leaves
 
--- of what the writing of a log leaves
-if_written : {A : Type 0} (f : OpenState → A) (x : Bool) (b : OpenState) → f (written b) ≡ f b → f (if x then written b else b) ≡ f b
-if_written f x b same = grind arith
-
 pub saved_content : (b : OpenState) → (saved b).buffer.content ≡ b.buffer.content
-saved_content b = if_written (λ o. o.buffer.content) (has_unsaved b) b refl
+saved_content b = saved_part (λ (x : State). x.content) (λ x. refl) b
 
 pub saved_brief : (b : OpenState) → (saved b).brief ≡ b.brief
-saved_brief b = if_written (λ o. o.brief) (has_unsaved b) b refl
+saved_brief b = cond_both (has_unsaved b) (written b) b (λ (x : OpenState). x.brief ≡ b.brief) (λ _. refl) (λ _. refl)
 
 -- ---- what is gained
 
@@ -72,9 +70,7 @@ if_gains true b = record { within = within_itself b.buffer.content; rest = refl 
 if_gains false b = record { within = within_itself b.buffer.content; rest = refl }
 
 pub saves_gain : (r : Result Bool PortFault) (old new : Option (List Call)) (b d : OpenState) → SavesTo r old new b d → Gains b.buffer d.buffer
-saves_gain (Ok changed) old new b d s = subst (λ (e : OpenState). Gains b.buffer e.buffer) (sym s.left) (if_gains (has_unsaved b) b)
-saves_gain (Err fault) old new b d (AtLog, s) = subst (λ (e : OpenState). Gains b.buffer e.buffer) (sym s.left) (if_gains false b)
-saves_gain (Err fault) old new b d (AtText, s) = subst (λ (e : OpenState). Gains b.buffer e.buffer) (sym s.left) (if_gains (has_unsaved b) b)
+saves_gain r old new b d s = grind (arith, if_gains)
 
 gains_on : (b d e : State) → Gains b d → Gains d e → Gains b e
 gains_on b d e f g = record {
@@ -145,12 +141,10 @@ module _ {L : Type 0} (a : Account L) {b s : OpenState} {changed : Bool} {calls 
 
   -- only what is brief is asked, and only talk fails there
   talk : (role : Role) (fault : ExchangeFault) (old new : Calls L) → Asks a.wire (Err fault) role s old new → (b.brief ≡ true) × (is_talk fault ≡ true)
-  talk Connects (Send fault) old new asks = (first_brief asks.0, refl)
-  talk Waits (Send fault) old new asks = (first_brief asks.0, refl)
-  talk Connects (Receive fault) old new asks = (first_brief asks.0, refl)
-  talk Waits (Receive fault) old new asks = (first_brief asks.0, refl)
   talk role (Save fault) old new asks = elim asks [ ]
   talk role (Link fault) old new asks = elim asks [ ]
+  talk Connects fault old new asks = (first_brief asks.0, refl)
+  talk Waits fault old new asks = (first_brief asks.0, refl)
 
   pub unasked : (role : Role) (fault : ExchangeFault) {answer : Result Exchanged ExchangeFault} → answer ≡ Err fault → Adds calls a.made (opening role ∷ []) → BeginsOver a s role (Err fault) → ExchangesOver a b s role answer
   unasked role fault is adds begun =
@@ -186,10 +180,6 @@ module _ {L : Type 0} (a : Account L) {b s : OpenState} {changed : Bool} {calls 
 
 -- ---- what links that tell their bytes leave of contents
 
--- no answer is both a value and a fault
-not_both : {A E : Type 0} (a : A) (e : E) (r : Result A E) → r ≡ Ok a → r ≡ Err e → ⊥
-not_both a e r ok err = cc
-
 one_value : {A E : Type 0} (a b : A) (r : Result A E) → r ≡ Ok a → r ≡ Ok b → a ≡ b
 one_value a b r first second = cc
 
@@ -202,20 +192,15 @@ module _ {L : Type 0} (a : Account L) (b d : OpenState) (role : Role) (e : Excha
       by : (ending : Ending) → Ok e ≡ answer_of ending → (came : Came a.calls a.made b d role ending) → PassesOver a b d role ending came → Whole a b d role e
       by (Met (Ok n) (Ok m) (Ok changed)) is came passes =
           subst (λ (x : Exchanged). Whole a b d role x) (one_value (record { sent = n; received = m }) e _ refl (sym is)) (record { changed = changed; came = came; passes = passes })
-      by (Met (Err fault) (Ok m) (Ok changed)) is came passes = absurd (not_both e (Send fault) _ refl is)
-      by (Met sent (Ok m) (Err fault)) is came passes = absurd (not_both e (Save fault) _ refl is)
-      by (Met sent (Err fault) kept) is came passes = absurd (not_both e (Receive fault) _ refl is)
-      by (Unsaved fault) is came passes = absurd (not_both e (Save fault) _ refl is)
-      by (Unopened fault) is came passes = absurd (not_both e (Link fault) _ refl is)
-      by (Unasked fault) is came passes = absurd (not_both e fault _ refl is)
-      by (Unsent fault) is came passes = absurd (not_both e (Send fault) _ refl is)
-      by (Unended fault) is came passes = absurd (not_both e (Link fault) _ refl is)
+      by (Met (Err fault) (Ok m) (Ok changed)) is came passes = absurd (not_both {a = e} refl is)
+      by (Met sent (Ok m) (Err fault)) is came passes = absurd (not_both {a = e} refl is)
+      by (Met sent (Err fault) kept) is came passes = absurd (not_both {a = e} refl is)
+      by other is came passes = absurd (not_both {a = e} refl is)
 
 -- ---- what it tells is joined
 
 known_kept : (bytes : List ℕ) (kept : Option (List ℕ)) → Keeps (Some bytes) kept → kept ≡ Some bytes
-known_kept bytes None keeps = elim keeps [ ]
-known_kept bytes (Some others) keeps = ap Some keeps
+known_kept bytes kept keeps = grind arith
 
 module _ {L : Type 0} (a : Account L) (b d : OpenState) (e : Exchanged) (bytes : List ℕ) where
   -- what was heard to its end, and saved
@@ -239,11 +224,11 @@ outcome_taken : (limit n : ℕ) (c d : Content) (bytes : List ℕ) → exchange_
 outcome_taken limit n c d bytes h = by (stream_taken Exchange limit c bytes).stop refl (ap (λ (o : Content × Result ℕ ReceiveFault). o.1) h)
   where
     by : (stop : Stop) → (stream_taken Exchange limit c bytes).stop ≡ stop → number_received (length (stream_operations bytes)) stop ≡ Ok n → AreTaken c (stream_operations bytes) d
-    by AllTaken is told = absurd (not_both n Cut _ told refl)
+    by AllTaken is told = absurd (not_both told refl)
     by (AtEnd number) is told =
         let lines : ℕ = (stream_taken Exchange limit c bytes).lines in
         taken_list_is limit c (stream_operations bytes) d (stream_is_taken limit lines c d number bytes (λ k. progress lines (h k).0 (is k)))
-    by (AtFault e) is told = absurd (not_both n (receive_fault e) _ told refl)
+    by (AtFault e) is told = absurd (not_both told refl)
 
 -- and so it agrees with what was held
 taken_agrees : (c d : Content) (ops : List Op) → AreTaken c ops d → Agree c (content_of ops)
@@ -274,10 +259,7 @@ told_within (Some peer) c = sent_within c peer
 
 -- with a part of what is sound
 sound_joined : (c x d : Content) → IsSound c → IsSound d → IsWithin x d → IsSound (join c x)
-sound_joined c x d first second within op h = elim (join_holds c x op h) [
-  | inl held ↦ first op held
-  | inr held ↦ second op (held_stays x d op within held)
-]
+sound_joined c x d first second within op h = grind (arith, join_holds, held_stays)
 
 module _ {L M : Type 0} (a : Account L) (b d : OpenState) (their : Account M) (their_b their_d : OpenState) (m : Meet a b d their their_b their_d) (sound : IsSound b.buffer.content)
     (their_sound : IsSound their_b.buffer.content) where
@@ -294,7 +276,7 @@ module _ {L M : Type 0} (a : Account L) (b d : OpenState) (their : Account M) (t
       let hears = m.waits.passes.0.hears in
       let c : Content = (saved their_b).buffer.content in
       let took = subst (λ k. IfSome k (λ bytes. exchange_outcome (saved their_b).buffer.limit c bytes ≡ (m.waits.came.met.buffer.content, Ok m.their_answer.received))) m.there.told
-      (hears.outcome (not_both m.their_answer.received Read _ refl) (not_both m.their_answer.received Memory _ refl)) in
+      (hears.outcome (not_both refl) (not_both refl)) in
       let agree : Agree c (content_of (stream_operations m.there.bytes)) =
       taken_agrees c m.waits.came.met.buffer.content (stream_operations m.there.bytes) (outcome_taken (saved their_b).buffer.limit m.their_answer.received c m.waits.came.met.buffer.content m.there.bytes took) in
       subst (λ x. Agree x (told_content m.connects.passes.first.peer b.buffer.content)) (saved_content their_b) (subst (Agree c) there_is agree)
@@ -331,16 +313,14 @@ module _ {L M : Type 0} (a : Account L) (b d : OpenState) (their : Account M) (t
 -- ---- none asked
 
 no_peer : {L : Type 0} (wire : Wire L) (role : Role) (b : OpenState) (old new : Calls L) (peer : Option Summary) → b.brief ≡ false → Asks wire (Ok peer) role (saved b) old new → peer ≡ None
-no_peer wire role b old new None is asks = refl
-no_peer wire Connects b old new (Some peer) is asks = absurd (true≢false (sym asks.0 ∙ saved_brief b ∙ is))
-no_peer wire Waits b old new (Some peer) is asks = absurd (true≢false (sym asks.0 ∙ saved_brief b ∙ is))
+no_peer wire role b old new peer is asks = grind (arith, saved_brief)
 
 -- ---- a summary that is heard as it was told
 
 heard_as_told : {L M : Type 0} (remaining : L → Option (List ℕ)) (contents : M → Option (List ℕ)) (link new : Calls L) (old next : Calls M) (c : Content) (peer : Summary)
     → Tells remaining contents link.inner old.inner next.inner → TellsSummary contents old next c → LearnsOver remaining link new (Ok peer) → IsSummary c peer
 heard_as_told remaining contents link new old next c peer t told learns =
-    let heard : summary_heard t.bytes ≡ Ok peer = subst (λ k. IfSome k (λ bytes. summary_heard bytes ≡ Ok peer)) t.told (learns.outcome (not_both peer Read _ refl) (not_both peer Memory _ refl)) in
+    let heard : summary_heard t.bytes ≡ Ok peer = subst (λ k. IfSome k (λ bytes. summary_heard bytes ≡ Ok peer)) t.told (learns.outcome (not_both refl) (not_both refl)) in
     let same : summary_heard t.bytes ≡ Ok told.own = ap summary_heard (tells_all remaining contents link.inner old next (summary_text told.own) t told.written) ∙ told.heard in
     subst (IsSummary c) (one_value told.own peer _ same heard) told.is
 

@@ -18,7 +18,7 @@ use Rattle.rga_ops.proofs.ContentLaws.{nothing_join, join_nothing}
 use Rattle.rga_ops.proofs.AgreeLaws.{joinable_nothing}
 use Rattle.rga_lines.specs.Runs.{stretch_operations, run_deletions}
 use Rattle.rga_lines.specs.Table.{AnyReading, any_line_at}
-use Rattle.rga_lines.specs.declared.line.Line.TheVariants.{One, Run, Deletions, Head, Last}
+use Rattle.rga_lines.specs.declared.line.Line.TheVariants.{One, Run, Deletions}
 use Rattle.rga_lines.specs.Stream.{rest_of}
 use Rattle.rga_lines.specs.Log.{log_operations}
 use Rattle.rga_exchange.specs.declared.log.LogEnd.{LogEnd}
@@ -41,31 +41,22 @@ use Rattle.mg_files.proofs.LoadedLaws.{splice_of_nothing, limit_of}
 use Rattle.mg_files.specs.Kept.{IsWritableWhole, IsBuffer, IsLogged, IsLoggedBy}
 use Rattle.mg_files.proofs.LogSteps.{empty_stands}
 
+no_open : (n : ℕ) (x d : Content) (end : LogEnd) (read : LogRead) → ends_open end ≡ true → ends_open read.end ≡ false → end_outcome n x end ≡ (d, Ok read) → ⊥
+no_open n x d end read is e g = grind arith
+
 ends_whole : (limit n : ℕ) (c d : Content) (read : LogRead) (rest : List ℕ) → after_rest limit n c rest ≡ (d, Ok read) → ends_open read.end ≡ false → rest ≡ []
 ends_whole limit n c d read [] h e = refl
 ends_whole limit n c d read (b ∷ bytes) h e = by_reading (any_line_at (b ∷ bytes)) h
   where
-    no_open : (x : Content) (end : LogEnd) → ends_open end ≡ true → end_outcome n x end ≡ (d, Ok read) → (b ∷ bytes) ≡ []
-    no_open x end is g = absurd (true≢false (sym is ∙ ap ends_open (same x end g) ∙ e))
-      where
-        end_of : LogOutcome → LogEnd
-        end_of (y, Ok r) = r.end
-        end_of (y, Err f) = Whole
-
-        same : (x : Content) (end : LogEnd) → end_outcome n x end ≡ (d, Ok read) → end ≡ read.end
-        same x end g = ap end_of g
-
     by_taken : (r : Result Content Refusal) → after_bare_operation n c r ≡ (d, Ok read) → (b ∷ bytes) ≡ []
-    by_taken (Ok x) g = no_open x Bare refl g
+    by_taken (Ok x) g = absurd (no_open n x d Bare read refl e g)
     by_taken (Err x) g = absurd (no_fault (fault.Refused (n + 1) x) read g)
 
     by_reading : (r : AnyReading) → after_bare_line limit n c (length (b ∷ bytes)) r ≡ (d, Ok read) → (b ∷ bytes) ≡ []
     by_reading (Ok (One op)) g = by_taken (taken limit c op) g
     by_reading (Ok (Run r)) g = by_taken (taken_whole limit c (stretch_operations r)) g
     by_reading (Ok (Deletions r)) g = by_taken (taken_whole limit c (run_deletions r)) g
-    by_reading (Ok Head) g = no_open c (Torn (length (b ∷ bytes))) refl g
-    by_reading (Ok (Last number)) g = no_open c (Torn (length (b ∷ bytes))) refl g
-    by_reading (Err x) g = no_open c (Torn (length (b ∷ bytes))) refl g
+    by_reading other g = absurd (no_open n c d (Torn (length (b ∷ bytes))) read refl e g)
 
 -- what is opened by a log is kept beside it
 pub log_opened : (name : List ℕ) (replica limit : ℕ) (d : Content) (read : LogRead) (bytes : List ℕ) → log_outcome limit nothing bytes ≡ (d, Ok read)
@@ -169,27 +160,38 @@ log_read name replica limit bytes l h is = by (log_outcome limit nothing bytes) 
         (record { held = d; logged = log_opened name replica limit d read bytes p none_known here.sound here.writable here.fits })
     by (d, Err e) p g = absurd (let clash : bad (Log (receive_fault e)) ≡ good l = g in cc)
 
-abbrev pub full : Verdict
+abbrev full : Verdict
 full = Err Full
 
-abbrev pub fine : Verdict
+abbrev fine : Verdict
 fine = Ok tt
 
--- a text that was read
-text_read : (name : List ℕ) (replica limit : ℕ) (bytes : List ℕ) (l : Loaded) → is_limit limit ≡ true → text_loaded replica limit bytes ≡ good l → Buffered name replica limit l → IsLoggedBy (opened name replica limit l) None
-text_read name replica limit bytes l limited h is = by (is_utf8 bytes) (nat_lt limit (length (chars bytes))) refl h
+-- what a text says: its characters, inserted into nothing
+pub record IsInserted (replica limit : ℕ) (l : Loaded) : Type 0 where
+  pub put : List ℕ
+  pub is : l ≡ loaded (content_of (text_insertions replica put)) (text_insertions replica put) Whole
+  pub allowed : splice_answer limit nothing 0 0 put ≡ Ok tt
+
+pub text_content : (replica limit : ℕ) (bytes : List ℕ) (l : Loaded) → is_limit limit ≡ true → text_loaded replica limit bytes ≡ good l → IsInserted replica limit l
+text_content replica limit bytes l limited h = by (is_utf8 bytes) (nat_lt limit (length (chars bytes))) refl h
   where
-    by : (u w : Bool) → nat_lt limit (length (chars bytes)) ≡ w → cond u (cond w (bad (Store Full)) (good (loaded (content_of (text_insertions replica (chars bytes))) (text_insertions replica (chars bytes)) Whole))) (bad NotText) ≡ good l → IsLoggedBy (opened name replica limit l) None
+    by : (u w : Bool) → nat_lt limit (length (chars bytes)) ≡ w → cond u (cond w (bad (Store Full)) (good (loaded (content_of (text_insertions replica (chars bytes))) (text_insertions replica (chars bytes)) Whole))) (bad NotText) ≡ good l → IsInserted replica limit l
     by true true p g = absurd (let clash : bad (Store Full) ≡ good l = g in cc)
-    by true false p g =
-        let ops : List Op = text_insertions replica (chars bytes) in
-        let fits : splice_answer limit nothing 0 0 (chars bytes) ≡ Ok tt = splice_of_nothing limit (chars bytes) limited ∙ ap (λ w. cond w full fine) p in
-        let taken = (list_taken-iff limit nothing ops).0 (splice_taken limit replica 0 0 nothing (chars bytes) fits) in
-        let whole : loaded (content_of ops) ops Whole ≡ l = same_loaded (loaded (content_of ops) ops Whole) l g in
-        let here : Buffered name replica limit (loaded (content_of ops) ops Whole) = subst (Buffered name replica limit) (sym whole) is in
-        subst (λ x. IsLoggedBy (opened name replica limit x) None) whole
-        (record { held = nothing; logged = text_opened name replica limit ops taken.1 here.sound here.writable here.fits })
+    by true false p g = record {
+      put = chars bytes;
+      is = sym (same_loaded (loaded (content_of (text_insertions replica (chars bytes))) (text_insertions replica (chars bytes)) Whole) l g);
+      allowed = splice_of_nothing limit (chars bytes) limited ∙ ap (λ w. cond w full fine) p;
+    }
     by false w p g = absurd (let clash : bad NotText ≡ good l = g in cc)
+
+-- a text that was read
+text_read : (name : List ℕ) (replica limit : ℕ) (l : Loaded) → IsInserted replica limit l → Buffered name replica limit l → IsLoggedBy (opened name replica limit l) None
+text_read name replica limit l i is =
+    let ops : List Op = text_insertions replica i.put in
+    let taken = (list_taken-iff limit nothing ops).0 (splice_taken limit replica 0 0 nothing i.put i.allowed) in
+    let here : Buffered name replica limit (loaded (content_of ops) ops Whole) = subst (Buffered name replica limit) i.is is in
+    subst (λ x. IsLoggedBy (opened name replica limit x) None) (sym i.is)
+    (record { held = nothing; logged = text_opened name replica limit ops taken.1 here.sound here.writable here.fits })
 
 -- neither was there
 none_read : (name : List ℕ) (replica limit : ℕ) (l : Loaded) → good (loaded nothing [] Whole) ≡ good l → Buffered name replica limit l → IsLoggedBy (opened name replica limit l) None
@@ -201,7 +203,7 @@ none_read name replica limit l h is =
 
 files_read : (name : List ℕ) (replica limit : ℕ) (log text : Option (List ℕ)) (l : Loaded) → is_limit limit ≡ true → either_loaded replica limit log text ≡ good l → Buffered name replica limit l → IsLoggedBy (opened name replica limit l) log
 files_read name replica limit (Some bytes) text l limited h is = log_read name replica limit bytes l h is
-files_read name replica limit None (Some bytes) l limited h is = text_read name replica limit bytes l limited h is
+files_read name replica limit None (Some bytes) l limited h is = text_read name replica limit l (text_content replica limit bytes l limited h) is
 files_read name replica limit None None l limited h is = none_read name replica limit l h is
 
 opened_logged : (name : List ℕ) (replica limit : ℕ) (found : Files) (b : OpenState) (end : LogEnd) → load_outcome name replica limit found ≡ Ok (b, end) → IsBuffer b → IsLoggedBy b found.log

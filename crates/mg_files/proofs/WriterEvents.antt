@@ -1,6 +1,6 @@
 -- What a writer does, as events at its site.
-use Rattle.std.proofs.Common.{◌≡◌, ◌<◌, ◌≤◌, ◌^◌, ℕ, List, [], ◌∷◌, ◌++◌, length, Some, Vec, slice_get, refl, sym, ap, subst, ◌∙◌, arith, lit≤, ◌+◌, ◌&&◌, Bool, true, false, cond, nat_le, nat_lt, le-leb, map, take, drop, not, filter, true≢false, inl, inr, chars, Option, None}
-use Rattle.std.specs.Prelude.{Ok, Err, Contains, Result, ◌⊎◌}
+use Rattle.std.proofs.Common.{◌≡◌, ◌<◌, ◌≤◌, ◌^◌, ℕ, List, [], ◌∷◌, ◌++◌, length, Some, Vec, slice_get, refl, sym, ap, subst, ◌∙◌, arith, le_refl, le_trans, lt_of_le_of_lt, le-add_left, add-zero, lit≤, ◌+◌, ◌&&◌, Bool, true, false, cond, nat_le, map, take, drop, not, filter, true≢false, inl, inr, Option, None}
+use Rattle.std.specs.Prelude.{Ok, Contains, ◌⊎◌}
 use Rattle.std.specs.List.{AllByRecursion, list_any}
 use Rattle.std.specs.declared.alloc.Global.{Global}
 use denote.RawPtr.{null_ptr}
@@ -19,18 +19,16 @@ use Rattle.rga_world.proofs.StoredLaws.{reached_storable}
 use Rattle.mg_files.specs.Kept.{IsLogged, IsWritableWhole, IsLoggedBy}
 use Rattle.mg_files.specs.Writers.{Writer, own_files, own_limit, own_content, own_replica, IsOpenedAnew, IsSiteOf}
 use Rattle.std.specs.Char.{IsScalar}
-use Rattle.std.proofs.lemmas.Bool.{le-ltb}
 use Rattle.std.proofs.lemmas.Bool.Decides.{nat_tests}
 use Rattle.std.proofs.lemmas.List.Elements.{Contains-append_left, Contains-append_right}
 use Rattle.rga_ops.specs.Identifier.{Identifier, identifier, is_id}
-use Rattle.rga_ops.specs.ListAnswer.{and_check, IsJoinable}
+use Rattle.rga_ops.specs.ListAnswer.{IsJoinable}
 use Rattle.rga_ops.specs.Order.{text, order}
 use Rattle.rga_ops.specs.Places.{visible, is_visible}
 use Rattle.rga_ops.specs.Splice.{Splice, are_falling, new_characters}
 use Rattle.rga_ops.specs.declared.id.TheConstants.Id.{MAX_COUNTER}
 use Rattle.rga_ops.specs.declared.op.Op.{Op}
 use Rattle.rga_ops.specs.declared.op.Op.TheVariants.{Insert, Delete}
-use Rattle.rga_ops.specs.declared.refusal.Refusal.TheVariants.{Full, Range, Clock}
 use Rattle.rga_ops.proofs.ContentLaws.{join_assoc, join_nothing, nothing_join}
 use Rattle.rga_ops.proofs.OperationLaws.{Contains-first, Contains-later, content_of-append}
 use Rattle.rga_ops.proofs.VisibleLaws.{text_long}
@@ -54,21 +52,16 @@ use Rattle.rga_ops.specs.declared.refusal.Taken.{Taken}
 use Rattle.rga_ops.proofs.OperationsLaws.{content_of-operations, operations_hold}
 use Rattle.rga_world.proofs.ProgramLaws.{held_can_be_saved, held_place, set_twice, take_ok}
 use Rattle.mg_files.proofs.LogSteps.{join_within, writable_all}
-use Rattle.std.specs.Str.{is_utf8}
 use Rattle.rga_ops.proofs.ListAnswerLaws.{list_taken-iff}
 use Rattle.rga_store.specs.Limit.{is_limit}
 use Rattle.rga_lines.specs.Log.{log_operations}
-use Rattle.rga_exchange.specs.Log.{log_end, log_outcome}
-use Rattle.rga_exchange.specs.declared.fault.ReceiveFault.{ReceiveFault}
-use Rattle.rga_exchange.specs.declared.log.LogEnd.{LogEnd}
 use Rattle.rga_exchange.specs.declared.log.LogEnd.TheVariants.{Whole}
 use Rattle.mg_buffer.specs.OpenState.{OpenState, with_brief, with_runs}
 use Rattle.mg_files.specs.Files.{Files}
-use Rattle.mg_files.specs.Loading.{Loaded, loaded, of_log, log_loaded, text_insertions, text_loaded, either_loaded, files_loaded}
-use Rattle.mg_files.specs.declared.fault.LoadFault.TheVariants.{Log, NotText, Store}
-use Rattle.mg_files.proofs.LoadedLaws.{splice_of_nothing, limit_of}
+use Rattle.mg_files.specs.Loading.{Loaded, loaded, log_loaded, text_insertions, either_loaded, files_loaded}
+use Rattle.mg_files.proofs.LoadedLaws.{limit_of}
 use Rattle.mg_files.specs.Held.{log_bytes}
-use Rattle.mg_files.proofs.OpenSteps.{IsOpenedBy, opened_by, good, bad, same_loaded, full, fine, opened_kept}
+use Rattle.mg_files.proofs.OpenSteps.{IsInserted, IsOpenedBy, opened_by, good, same_loaded, text_content, opened_kept}
 use Rattle.std.specs.FinSet as finite_set
 use Rattle.rga_world.proofs.StepLaws.{same_Ok}
 
@@ -76,12 +69,9 @@ use Rattle.rga_world.proofs.StepLaws.{same_Ok}
 
 -- ---- lists that events have
 
-pub no_longer : (n : ℕ) → n ≤ n
-no_longer n = omega arith
-
 -- a list as one of a program
 abbrev pub list_of : {A : Type 0} (xs : List A) → length xs < 2 ^ 63 → Vec A Global
-list_of xs short = record { ptr = null_ptr; len = length xs; cap = length xs; alloc = record { memory = record { seal = tt } }; items = xs; ok = (refl, no_longer (length xs)); small = short }
+list_of xs short = record { ptr = null_ptr; len = length xs; cap = length xs; alloc = record { memory = record { seal = tt } }; items = xs; ok = (refl, le_refl (length xs)); small = short }
 
 -- ---- events in a row
 
@@ -131,10 +121,7 @@ makes_same w number t u same made = subst (Makes w number) same made
 
 -- a limit is no longer than a list of a program may be
 pub limit_is_short : (w : World) → IsReached w → w.limit < 2 ^ 63
-limit_is_short w reached = below w.limit 1000000 (2 ^ 63) (within_limits w.limit (reached_storable w reached).limited) (lit≤ tt)
-  where
-    below : (n most bound : ℕ) → n ≤ most → most < bound → n < bound
-    below n most bound within more = omega (arith, within, more)
+limit_is_short w reached = lt_of_le_of_lt (within_limits w.limit (reached_storable w reached).limited) (lit≤ tt)
 
 -- ---- the site of a writer
 
@@ -149,25 +136,11 @@ pub record Follows (w : World) (number : ℕ) (x y : Writer) : Type 0 where
 
 -- ---- what an edit is answered
 
--- there are counters for what is new
-counted : (most now new : ℕ) → (0 < new → now + new ≤ most) → (nat_lt 0 new && nat_lt most (now + new)) ≡ false
-counted most now new h = by (nat_lt 0 new) refl
-  where
-    by : (b : Bool) → nat_lt 0 new ≡ b → (b && nat_lt most (now + new)) ≡ false
-    by true some = let more : 0 < new = grind (arith, nat_tests) in le-ltb most (now + new) (h more)
-    by false none = refl
-
 pub edit_allowed : (limit : ℕ) (c : Content) (in_range : Bool) (new : ℕ) → in_range ≡ true → known_count c + new ≤ limit → (0 < new → clock_of c + new ≤ MAX_COUNTER) → edit_answer limit c in_range new ≡ Ok tt
-edit_allowed limit c in_range new ranged fits clocked =
-    let room : nat_lt limit (known_count c + new) ≡ false = le-ltb limit (known_count c + new) fits in
-    let counters : (nat_lt 0 new && nat_lt MAX_COUNTER (clock_of c + new)) ≡ false = counted MAX_COUNTER (clock_of c) new clocked in
-    λ k. and_check (cond (room k) (Err Full) (Ok tt)) (and_check (cond (ranged k) (Ok tt) (Err Range)) (cond (counters k) (Err Clock) (Ok tt)))
+edit_allowed limit c in_range new ranged fits clocked = grind (arith, nat_tests)
 
 splice_allowed : (limit lo hi : ℕ) (c : Content) (put : List ℕ) → lo ≤ hi → hi ≤ length (visible c) → known_count c + length put ≤ limit → (0 < length put → clock_of c + length put ≤ MAX_COUNTER) → splice_answer limit c lo hi put ≡ Ok tt
-splice_allowed limit lo hi c put up within fits clocked =
-    let reaches : hi ≤ length (text c) = subst (λ n. hi ≤ n) (sym (text_long c)) within in
-    let ranged : (nat_le lo hi && nat_le hi (length (text c))) ≡ true = λ k. le-leb lo hi up k && le-leb hi (length (text c)) reaches k in
-    edit_allowed limit c (nat_le lo hi && nat_le hi (length (text c))) (length put) ranged fits clocked
+splice_allowed limit lo hi c put up within fits clocked = grind (arith, nat_tests, text_long)
 
 -- ---- what is put can be written, so it is characters
 
@@ -192,13 +165,10 @@ pub edit_makes : (w : World) (number lo hi : ℕ) (put : List ℕ) (s : Site) �
     → Makes w number (site (join s.content (content_of (splice_operations (replica_of number) s.content lo hi put))) s.saved)
 edit_makes w number lo hi put s at small answered characters =
     let fits : known_count s.content + length put ≤ w.limit = (allowed w.limit s.content (nat_le lo hi && nat_le hi (length (text s.content))) (length put) answered).0 in
-    let short : length put < 2 ^ 63 = fewer (length put) (known_count s.content) w.limit (2 ^ 63) fits small in
+    let short : length put < 2 ^ 63 = lt_of_le_of_lt (le_trans (le-add_left (length put) (known_count s.content)) fits) small in
     let t : Site = site (join s.content (content_of (splice_operations (replica_of number) s.content lo hi put))) s.saved in
     one_event w (with_site w number t) (Edit number lo hi (list_of put short))
     ((edited-iff w (with_site w number t) number lo hi (list_of put short)).1 (record { before = s; at = at; allowed = answered; is = refl })) characters
-  where
-    fewer : (a b limit most : ℕ) → b + a ≤ limit → limit < most → a < most
-    fewer a b limit most fits small = omega (arith, fits, small)
 
 -- ---- several splices
 
@@ -306,10 +276,7 @@ same_known : (c : Content) (id : Identifier) → is_complete c id ≡ true → k
 same_known c id complete =
     let r = removes (id ∷ []) c (complete, tt) in
     let is : r.outcome ≡ join c (single (Delete id)) = r.leads.joined ∙ ap (join c) (join_nothing (single (Delete id))) in
-    ap (λ d. known_count d) (sym is) ∙ r.leads.size ∙ none (known_count c)
-  where
-    none : (n : ℕ) → n + 0 ≡ n
-    none n = omega arith
+    ap (λ d. known_count d) (sym is) ∙ r.leads.size ∙ add-zero (known_count c)
 
 -- and what was complete is so
 still_complete : (c : Content) (id : Identifier) (ids : List Identifier) → AreComplete c ids → AreComplete (join c (single (Delete id))) ids
@@ -367,7 +334,7 @@ undo_makes w number s gone back at small answered writable =
     (λ some. subst (λ n. n + length back ≤ MAX_COUNTER) (sym clock) (counters some)) in
     let put : List Op = restorations (replica_of number) (clock_of c) back in
     let characters : AreScalars back = restored_scalars back (replica_of number) (clock_of c) (λ op m. writable op (Contains-append_right (map Delete ids) put op m)) in
-    let short : length back < 2 ^ 63 = fewer (length back) (known_count c) w.limit (2 ^ 63) room small in
+    let short : length back < 2 ^ 63 = lt_of_le_of_lt (le_trans (le-add_left (length back) (known_count c)) room) small in
     let first : Makes w number t = deletions_make ids w number s at complete (omega (arith, room)) in
     let second : Makes (with_site w number t) number (site (join d (content_of (restorations (replica_of number) (clock_of d) back))) s.saved) =
     revert_makes (with_site w number t) number t [] back (made_there w number s t at) (lit≤ tt) short again characters in
@@ -375,9 +342,6 @@ undo_makes w number s gone back at small answered writable =
     (ap (λ n. site (join d (content_of (restorations (replica_of number) n back))) s.saved) clock
     ∙ ap (λ e. site e s.saved) (join_assoc c (content_of (map Delete ids)) (content_of put) ∙ ap (join c) (sym (content_of-append (map Delete ids) put))))
     (then_makes w number t (site (join d (content_of (restorations (replica_of number) (clock_of d) back))) s.saved) first second)
-  where
-    fewer : (a b limit most : ℕ) → b + a ≤ limit → limit < most → a < most
-    fewer a b limit most fits small = omega (arith, fits, small)
 
 -- ---- operations of others that a buffer takes, as deliveries to its site; and a save, operation by operation
 
@@ -449,31 +413,7 @@ save_makes w number c held now reached at grown within =
 
 -- of a log, the content of its operations
 log_content : (limit : ℕ) (bytes : List ℕ) (l : Loaded) → log_loaded limit bytes ≡ good l → l.content ≡ content_of (log_operations bytes)
-log_content limit bytes l h = by (log_end (log_outcome limit nothing bytes).1) h
-  where
-    by : (r : Result LogEnd ReceiveFault) → of_log bytes r ≡ good l → l.content ≡ content_of (log_operations bytes)
-    by (Ok end) g = ap (λ (x : Loaded). x.content) (sym (same_loaded (loaded (content_of (log_operations bytes)) [] end) l g))
-    by (Err e) g = absurd (let clash : bad (Log e) ≡ good l = g in cc)
-
--- of a text, characters that are inserted into nothing
-record IsInserted (replica limit : ℕ) (l : Loaded) : Type 0 where
-  put : List ℕ
-  content : l.content ≡ content_of (text_insertions replica put)
-  allowed : splice_answer limit nothing 0 0 put ≡ Ok tt
-
-text_content : (replica limit : ℕ) (bytes : List ℕ) (l : Loaded) → is_limit limit ≡ true → text_loaded replica limit bytes ≡ good l → IsInserted replica limit l
-text_content replica limit bytes l limited h = by (is_utf8 bytes) (nat_lt limit (length (chars bytes))) refl h
-  where
-    by : (u w : Bool) → nat_lt limit (length (chars bytes)) ≡ w → cond u (cond w (bad (Store Full)) (good (loaded (content_of (text_insertions replica (chars bytes))) (text_insertions replica (chars bytes)) Whole))) (bad NotText) ≡ good l → IsInserted replica limit l
-    by true true p g = absurd (let clash : bad (Store Full) ≡ good l = g in cc)
-    by true false p g = record {
-      put = chars bytes;
-      content =
-          ap (λ (x : Loaded). x.content)
-          (sym (same_loaded (loaded (content_of (text_insertions replica (chars bytes))) (text_insertions replica (chars bytes)) Whole) l g));
-      allowed = splice_of_nothing limit (chars bytes) limited ∙ ap (λ w. cond w full fine) p;
-    }
-    by false w p g = absurd (let clash : bad NotText ≡ good l = g in cc)
+log_content limit bytes l h = grind arith
 
 -- of neither, nothing
 no_log_content : (replica limit : ℕ) (text : Option (List ℕ)) (l : Loaded) → is_limit limit ≡ true → either_loaded replica limit None text ≡ good l → (l.content ≡ nothing) ⊎ IsInserted replica limit l
@@ -485,7 +425,7 @@ inserted_writable : (replica limit : ℕ) (l : Loaded) (i : IsInserted replica l
 inserted_writable replica limit l i writable =
     let ops : List Op = text_insertions replica i.put in
     let joinable : IsJoinable nothing ops = ((list_taken-iff limit nothing ops).0 (splice_taken limit replica 0 0 nothing i.put i.allowed)).1 in
-    writable_all nothing l.content ops (i.content ∙ sym (nothing_join (content_of ops))) joinable writable
+    writable_all nothing l.content ops (ap (λ (x : Loaded). x.content) i.is ∙ sym (nothing_join (content_of ops))) joinable writable
 
 -- ---- the site of what is opened anew
 
@@ -506,7 +446,7 @@ insertion_makes w number replica s l reached at none numbered i writable =
     let second : Makes (with_site w number t) number (site (join nothing (content_of made)) nothing) =
     edit_makes (with_site w number t) number 0 0 put t (made_there w number s t at) (limit_is_short w reached) i.allowed characters in
     makes_same w number (site (join nothing (content_of made)) nothing) (site l.content nothing)
-    (ap (λ c. site c nothing) (nothing_join (content_of made) ∙ ap (λ r. content_of (splice_operations r nothing 0 0 put)) (sym numbered) ∙ sym i.content))
+    (ap (λ c. site c nothing) (nothing_join (content_of made) ∙ ap (λ r. content_of (splice_operations r nothing 0 0 put)) (sym numbered) ∙ sym (ap (λ (x : Loaded). x.content) i.is)))
     (then_makes w number t (site (join nothing (content_of made)) nothing) first second)
 
 -- what bytes of a log stand for

@@ -1,7 +1,7 @@
 -- Writers, and the world in which they are sites.
 use Rattle.std.proofs.Common.{◌≡◌, ◌<◌, ℕ, Bool, List, length, Some, Result, Ok, slice_get, refl, sym, ap, subst, ◌∙◌, ◌≤◌, zero, suc, [], ◌∷◌, slice_set, inl, inr, arith, ◌+◌, ◌-◌, true, replicate, true≢false, map, ◌++◌}
 use Rattle.std.specs.Prelude.{Contains, ◌⊎◌, Err}
-use Rattle.rga_ops.specs.Content.{Content, join, content_of, Holds, IsWithin, nothing, known_ids, IsSound, element, HasAnother, Agree}
+use Rattle.rga_ops.specs.Content.{Content, join, content_of, Holds, IsWithin, nothing, known_ids, IsSound, HasAnother, Agree}
 use Rattle.rga_ops.specs.NewOperations.{new_operations}
 use Rattle.rga_ops.specs.ListAnswer.{list_answer, IsJoinable}
 use Rattle.rga_ops.specs.Order.{text}
@@ -34,7 +34,7 @@ use Rattle.rga_world.specs.Words.{with_site}
 use Rattle.rga_world.specs.declared.event.Event.{Event}
 use Rattle.rga_world.proofs.ListPlaces.{contains_at, contains_place, set_old, mapped_place, place_mapped}
 use Rattle.rga_ops.specs.Identifier.{Identifier}
-use Rattle.rga_ops.specs.declared.op.Op.TheVariants.{Insert, Delete}
+use Rattle.rga_ops.specs.declared.op.Op.TheVariants.{Insert}
 use Rattle.rga_ops.proofs.AgreeLaws.{joinable_nothing, held_agree, agree_within}
 use Rattle.rga_ops.proofs.ContentLaws.{nothing_join, within_itself, within_chain}
 use Rattle.rga_ops.proofs.KnownLaws.{known_nothing}
@@ -315,8 +315,7 @@ reached_sites ws r =
 -- ---- what is within a content does not conflict with what it holds
 
 no_other : (c all : Content) (op : Op) → IsWithin c all → Holds all op → HasAnother c op → ⊥
-no_other c all (Insert id parent ch) w holds (x, found, differs) = differs (same_Some x (element parent ch) (sym (w.inserted id x found) ∙ holds))
-no_other c all (Delete id) w holds another = another
+no_other c all op w holds another = grind arith
 
 all_joinable : (c all : Content) (ops : List Op) → IsWithin c all → ((op : Op) → Contains ops op → Holds all op) → IsJoinable c ops
 all_joinable c all ops w holds = record {

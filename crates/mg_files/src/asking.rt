@@ -2,12 +2,12 @@
 ghost use Rattle.std.specs.Prelude.{IfOk};
 ghost use Rattle.rga_ops.specs.Content.{Content};
 ghost use Rattle.rga_brief.specs.Told.{IsTold};
-ghost use Rattle.mg_files.specs.Asking.{Asks, Connects, LearnsOver, SaysOver, Waits};
+ghost use Rattle.mg_files.specs.Asking.{Asks, Connects, SaysOver, Waits};
 
 use crate::fault::ExchangeFault;
 use mg_buffer::VisitedBuffer;
 use rga_brief::{Summary, hear_summary, send_lines, summary_lines};
-use rga_exchange::{Counted, ReceiveFault, SendFault};
+use rga_exchange::{Counted, SendFault};
 use rga_ops::Refusal;
 use rga_store::Teller;
 use std::alloc::Global;
@@ -27,7 +27,7 @@ pub(crate) fn ask<S: Teller, L: Read + Write>(
         return Ok(None);
     }
     say(own_lines(alloc, opened), link)?;
-    let peer = learn(alloc, link)?;
+    let peer = hear_summary(alloc, link)?;
     Ok(Some(peer))
 }
 
@@ -47,7 +47,7 @@ pub(crate) fn answer<S: Teller, L: Read + Write>(
     }
     // They are made while the peer still makes its own.
     let lines = own_lines(alloc, opened);
-    let peer = learn(alloc, link)?;
+    let peer = hear_summary(alloc, link)?;
     say(lines, link)?;
     Ok(Some(peer))
 }
@@ -68,11 +68,4 @@ fn say<L: Write>(lines: Result<Vec<u8>, Refusal>, writer: &mut Counted<L>) -> Re
         return Err(SendFault::Memory);
     };
     send_lines(&lines, writer)
-}
-
-/// Hears what a peer knows.
-fn learn<L: Read>(alloc: Global, reader: &mut Counted<L>) -> Result<Summary, ReceiveFault>
-    ensures { LearnsOver L.remaining reader.old reader.new result }
-{
-    hear_summary(alloc, reader)
 }

@@ -2,6 +2,7 @@
 ghost use Rattle.std.specs.Prelude.{◌≡◌};
 ghost use Rattle.mg_files.specs.Faults.{load_fault, store_fault};
 ghost use Rattle.mg_files.specs.declared.fault.LoadFault.TheVariants.{Memory};
+ghost use Rattle.mg_files.specs.declared.fault.ExchangeFault.TheVariants.{Link, Receive, Save, Send};
 
 use crate::port::{LinkFault, PortFault};
 use rga_exchange::{ReceiveFault, SendFault};
@@ -66,9 +67,6 @@ pub enum ExchangeFault {
 }
 
 impl From<PortFault> for ExchangeFault {
-    ghost use Rattle.std.specs.Prelude.{◌≡◌};
-    ghost use Rattle.mg_files.specs.declared.fault.ExchangeFault.TheVariants.{Save};
-
     ghost from_gives = { λ e fault. fault ≡ Save e };
 
     fn from(e: PortFault) -> ExchangeFault {
@@ -77,9 +75,6 @@ impl From<PortFault> for ExchangeFault {
 }
 
 impl From<LinkFault> for ExchangeFault {
-    ghost use Rattle.std.specs.Prelude.{◌≡◌};
-    ghost use Rattle.mg_files.specs.declared.fault.ExchangeFault.TheVariants.{Link};
-
     ghost from_gives = { λ e fault. fault ≡ Link e };
 
     fn from(e: LinkFault) -> ExchangeFault {
@@ -88,9 +83,6 @@ impl From<LinkFault> for ExchangeFault {
 }
 
 impl From<SendFault> for ExchangeFault {
-    ghost use Rattle.std.specs.Prelude.{◌≡◌};
-    ghost use Rattle.mg_files.specs.declared.fault.ExchangeFault.TheVariants.{Send};
-
     ghost from_gives = { λ e fault. fault ≡ Send e };
 
     fn from(e: SendFault) -> ExchangeFault {
@@ -99,9 +91,6 @@ impl From<SendFault> for ExchangeFault {
 }
 
 impl From<ReceiveFault> for ExchangeFault {
-    ghost use Rattle.std.specs.Prelude.{◌≡◌};
-    ghost use Rattle.mg_files.specs.declared.fault.ExchangeFault.TheVariants.{Receive};
-
     ghost from_gives = { λ e fault. fault ≡ Receive e };
 
     fn from(e: ReceiveFault) -> ExchangeFault {

@@ -1,5 +1,5 @@
 //! What is written to a log.
-ghost use Rattle.std.specs.Prelude.{◌≡◌, Err, IfOk, IfErr, OnOk};
+ghost use Rattle.std.specs.Prelude.{◌≡◌, Err, IfOk, OnOk};
 ghost use Rattle.rga_exchange.specs.Counting.{CountsAs, Writes, WritesFront, WritesNothing};
 ghost use Rattle.rga_exchange.specs.RunLines.{runs_text};
 ghost use Rattle.mg_files.specs.Saving.{appended_text};
@@ -80,21 +80,12 @@ fn write_runs<W: Write>(alloc: Global, ops: &[Op], writer: &mut Counted<W>) -> R
     ensures memory { result ≡ Err Memory → WritesNothing W.contents writer.old writer.new }
     ensures device { CountsAs PortFault.File result writer.old writer.new }
 {
-    let lines = runs_of(alloc, ops)?;
-    let Ok(()) = writer.write_all(&lines) else {
+    let mut lines = Counted::new(Vec::new(alloc));
+    let Ok(_) = append_runs(alloc, ops, &mut lines) else {
+        return Err(PortFault::Memory);
+    };
+    let Ok(()) = writer.write_all(&lines.into_inner()) else {
         return Err(PortFault::File);
     };
     Ok(())
-}
-
-/// The lines of operations in runs.
-fn runs_of(alloc: Global, ops: &[Op]) -> Result<Vec<u8>, PortFault>
-    ensures ok { IfOk result (λ bytes. bytes.items ≡ runs_text ops.now) }
-    ensures memory { IfErr result (λ e. e ≡ Memory) }
-{
-    let mut writer = Counted::new(Vec::new(alloc));
-    let Ok(_) = append_runs(alloc, ops, &mut writer) else {
-        return Err(PortFault::Memory);
-    };
-    Ok(writer.into_inner())
 }

@@ -1,11 +1,10 @@
 //! How a buffer is loaded.
-ghost use Rattle.std.specs.Prelude.{◌≡◌, ◌≢◌, [], true, false, None, Ok, Err, MatchResult, IfOk, IfSome, ◌⊎◌, chars};
+ghost use Rattle.std.specs.Prelude.{◌≡◌, ◌≢◌, true, false, None, Ok, Err, MatchResult, IfOk, IfSome, ◌⊎◌, chars};
 ghost use Rattle.rga_ops.specs.Prelude.{nothing};
 ghost use Rattle.rga_doc.specs.Document.{document};
 ghost use Rattle.mg_files.specs.Files.{Files, text_bytes};
-ghost use Rattle.mg_files.specs.Loading.{load_outcome, opened_and_end, opening_answer, MayWantMemory, ends_open, log_loaded, text_loaded, loaded};
+ghost use Rattle.mg_files.specs.Loading.{load_outcome, opened_and_end, opening_answer, MayWantMemory, log_loaded, text_loaded};
 ghost use Rattle.std.specs.Str.{is_utf8};
-ghost use Rattle.rga_exchange.specs.declared.log.LogEnd.TheVariants.{Whole};
 ghost use Rattle.mg_files.specs.declared.fault.LoadFault.TheVariants.{Memory, NotText};
 
 use crate::fault::LoadFault;
@@ -50,7 +49,10 @@ pub fn load<S: TextStore>(
     if let Some(text) = text {
         return load_text(alloc, name, replica, limit, &text);
     }
-    load_nothing(alloc, name, replica, limit)
+    let doc = empty_doc(alloc, replica, limit)?;
+    let name = String::from_str(alloc, name)?;
+    let buffer = Buffer::new(alloc, doc, name, Vec::new(alloc));
+    Ok((VisitedBuffer::new(buffer, false), LogEnd::Whole))
 }
 
 /// Whether there are buffers of such a replica with such a limit. Takes no memory.
@@ -76,13 +78,6 @@ fn empty_doc<S: TextStore>(alloc: Global, replica: u16, limit: usize) -> Result<
     Ok(Doc::new(alloc, store, replica)?)
 }
 
-/// Whether a log ends in no newline.
-fn is_open(end: LogEnd) -> bool
-    ensures { result ≡ ends_open end }
-{
-    end != LogEnd::Whole
-}
-
 /// The buffer of a log.
 fn load_log<S: TextStore>(
     alloc: Global,
@@ -100,7 +95,7 @@ fn load_log<S: TextStore>(
     let end = read_log(alloc, &mut doc, &mut reader)?;
     let name = String::from_str(alloc, name)?;
     let buffer = Buffer::new(alloc, doc, name, Vec::new(alloc));
-    Ok((VisitedBuffer::new(buffer, is_open(end)), end))
+    Ok((VisitedBuffer::new(buffer, end != LogEnd::Whole), end))
 }
 
 /// The buffer of a text. What is no text is found before memory is asked for.
@@ -136,21 +131,4 @@ fn characters_of(alloc: Global, bytes: &[u8]) -> Result<Vec<char>, LoadFault>
         return Err(LoadFault::NotText);
     };
     Ok(text.chars().collect(alloc)?)
-}
-
-/// The buffer of neither.
-fn load_nothing<S: TextStore>(
-    alloc: Global,
-    name: &str,
-    replica: u16,
-    limit: usize,
-) -> Result<(VisitedBuffer<S>, LogEnd), LoadFault>
-    requires { opening_answer replica limit ≡ Ok tt }
-    ensures { result ≢ Err Memory → result
-        ≡ opened_and_end name.now replica limit (Ok (loaded nothing [] Whole)) }
-{
-    let doc = empty_doc(alloc, replica, limit)?;
-    let name = String::from_str(alloc, name)?;
-    let buffer = Buffer::new(alloc, doc, name, Vec::new(alloc));
-    Ok((VisitedBuffer::new(buffer, false), LogEnd::Whole))
 }

@@ -79,18 +79,6 @@ impl<S: TextStore> Doc<S> {
         Ok(ops)
     }
 
-    /// Takes operations that the store takes, and gives up what is listed. Whether there was memory;
-    /// else nothing else changes.
-    fn take_unlisted(&mut self, ops: &[Op]) -> bool
-        requires { list_answer self.old.limit self.old.content ops.now ≡ Ok tt }
-        ensures content { result ≡ true → self.new ≡ record self.old
-            { content = join self.old.content (content_of ops.now); listed = false } }
-        ensures same { result ≡ false → self.new ≡ record self.old { listed = false } }
-    {
-        self.listing.forget(self.alloc);
-        take_all(&mut self.store, ops)
-    }
-
     /// Takes what was drafted and answers it, and gives up what is listed where that alone wants
     /// memory. `Memory` alone; then nothing changes, but that the document may not be listed.
     pub(crate) fn take_or_forget(
@@ -108,10 +96,14 @@ impl<S: TextStore> Doc<S> {
         ensures memory { IfErr result (λ e. e ≡ Refusal.Memory) }
         ensures same { OnErr result (self.new ≡ record self.old { listed = self.new.listed }) }
     {
-        if self.take(splices, &ops).is_err() && !self.take_unlisted(&ops) {
-            return Err(Refusal::Memory);
+        if self.take(splices, &ops).is_ok() {
+            return Ok(ops);
         }
-        Ok(ops)
+        self.listing.forget(self.alloc);
+        if take_all(&mut self.store, &ops) {
+            return Ok(ops);
+        }
+        Err(Refusal::Memory)
     }
 }
 
