@@ -186,7 +186,7 @@ impl TextStore for FlatStore {
             &mut copy.waiting,
             &ops,
         );
-        if taken.is_err() {
+        if let Err(_) = taken {
             return Err(Refusal::Memory);
         }
         Ok(copy)

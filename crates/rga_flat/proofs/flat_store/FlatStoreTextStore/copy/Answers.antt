@@ -5,7 +5,6 @@ use Rattle.rga_ops.specs.Answer.{taken_one_by_one}
 use Rattle.rga_ops.proofs.OperationsLaws.{operations_taken}
 use Rattle.rga_ops.proofs.TakenLaws.{took}
 use Rattle.rga_store.specs.Kept.{Kept}
-use Rattle.rga_flat.proofs.PlacingLaws.{from_ok}
 use Rattle.rga_flat.proofs.flat_store.FlatStoreTextStore.copy.Goals as goal
 
 pub returns-clause-ok : goal.returns-clause-ok
@@ -18,6 +17,6 @@ returns-clause-ok c =
     let taken : taken_one_by_one c.copy.inside.records.limit c.copy.inside.records.content c.deref.result.now ≡ took c.self.inside.records.content =
     (λ i. taken_one_by_one (limits i) (contents i) (all i)) ∙ operations_taken c.self.inside.records.limit c.self.inside.records.content c.known-known.ensures.sound fits in
     let same : took c.take_whole-taken.new.records.content ≡ took c.self.inside.records.content =
-    sym (from_ok c.take_whole-taken.result (sym c.is_err.ensures.value ∙ c.if-is_err.false) c.take_whole-taken.ensures.ok) ∙ taken in
+    sym c.in_default.ensures.ok ∙ taken in
     let there : c.take_whole-taken.new.records.content ≡ c.self.inside.records.content = cc in
     (there ∙ ap (λ (v : Kept). v.content) c.self.view_is, c.take_whole-taken.ensures.limit ∙ limits ∙ ap (λ (v : Kept). v.limit) c.self.view_is)
