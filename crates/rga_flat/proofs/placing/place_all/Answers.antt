@@ -1,4 +1,4 @@
-use Rattle.std.proofs.Common.{◌≡◌, ◌-◌, take, [], ◌++◌, refl, sym, ap, ◌∙◌}
+use Rattle.std.proofs.Common.{◌≡◌, ◌-◌, take, [], ◌++◌, refl, ap, ◌∙◌}
 use Rattle.rga_sequence.specs.Entries.{put_entry, without_entry}
 use Rattle.rga_flat.specs.Flat.{entry_for}
 use Rattle.rga_flat.specs.Waiting.{is_listed}
