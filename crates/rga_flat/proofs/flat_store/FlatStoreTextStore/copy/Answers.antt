@@ -1,4 +1,4 @@
-use Rattle.std.proofs.Common.{◌≡◌, ◌≢◌, ◌≤◌, List, Result, refl, sym, ap, ◌∙◌, subst}
+use Rattle.std.proofs.Common.{◌≡◌, ◌≢◌, ◌≤◌, List, Result, refl, sym, ap, ◌∙◌, subst, arith}
 use Rattle.std.proofs.lemmas.Result.{err_from_is_err_and}
 use Rattle.std.specs.FinSet as finite_set
 use Rattle.rga_ops.specs.Content.{Content, known_ids, nothing}
@@ -6,7 +6,7 @@ use Rattle.rga_ops.specs.Prelude.{operations, IsSound}
 use Rattle.rga_ops.specs.declared.op.Op.{Op}
 use Rattle.rga_ops.specs.Answer.{taken_one_by_one}
 use Rattle.rga_ops.specs.declared.refusal.Refusal.{Refusal}
-use Rattle.rga_ops.specs.declared.refusal.Refusal.TheVariants.{BadId, BadOrder, Clock, Conflict, Full, Memory, Range}
+use Rattle.rga_ops.specs.declared.refusal.Refusal.TheVariants.{Memory}
 use Rattle.rga_ops.proofs.OperationsLaws.{operations_taken}
 use Rattle.rga_ops.proofs.TakenLaws.{took, refused}
 use Rattle.rga_store.specs.Kept.{Kept}
@@ -23,13 +23,8 @@ module _ (t : Result Content Refusal) (d : Content) (all : t ≡ took d) where
   never e fails = let clash : refused e ≡ took d = sym fails ∙ all in cc
 
   memory_alone : (e : Refusal) → (e ≢ Memory → t ≡ refused e) → e ≡ Memory
-  memory_alone BadId h = absurd (never BadId (h (λ (m : BadId ≡ Memory). cc)))
-  memory_alone BadOrder h = absurd (never BadOrder (h (λ (m : BadOrder ≡ Memory). cc)))
-  memory_alone (Conflict id) h = absurd (never (Conflict id) (h (λ (m : Conflict id ≡ Memory). cc)))
-  memory_alone Full h = absurd (never Full (h (λ (m : Full ≡ Memory). cc)))
-  memory_alone Range h = absurd (never Range (h (λ (m : Range ≡ Memory). cc)))
-  memory_alone Clock h = absurd (never Clock (h (λ (m : Clock ≡ Memory). cc)))
   memory_alone Memory h = refl
+  memory_alone e h = grind (arith, never e)
 
 pub returns-in_err-take_whole-clause-memory : goal.returns-in_err-take_whole-clause-memory
 returns-in_err-take_whole-clause-memory c =
