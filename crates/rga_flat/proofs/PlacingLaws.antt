@@ -1,6 +1,6 @@
 -- Elements that are placed in turn, the last one that is to be placed first: so at the end the entries are those of the order.
 use Rattle.std.proofs.Common.{◌≡◌, ◌≤◌, ◌<◌, Bool, true, false, not, ◌&&◌, ◌||◌, ℕ, List, [], ◌∷◌, ◌++◌, length, filter, refl, sym, ap, ◌∙◌, subst, arith, true≢false, cond, inl, inr}
-use Rattle.std.specs.Prelude.{Some, None, Result, Ok, OnOk, OnErr, is_err, ◌⊎◌}
+use Rattle.std.specs.Prelude.{Some, None, Ok, ◌⊎◌}
 use Rattle.std.specs.List.{list_any, AllByRecursion, IsDistinct}
 use Rattle.std.specs.FinMap as finite_map
 use Rattle.std.specs.FinMap.{find}
@@ -472,11 +472,3 @@ module _ (c : Content) (sound : IsSound c) (id parent : Identifier) (ch : ℕ) (
 
   pub order_stays : order c ≡ order more
   order_stays = order-finished c more (within_join c (single (Insert id parent ch))) as_complete
-
--- ---- results
-
-pub from_err : {A E P : Type 0} (r : Result A E) → is_err r ≡ true → OnErr r P → P
-from_err r h p = grind arith
-
-pub from_ok : {A E P : Type 0} (r : Result A E) → is_err r ≡ false → OnOk r P → P
-from_ok r h p = grind arith

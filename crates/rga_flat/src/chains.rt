@@ -68,13 +68,13 @@ pub(crate) fn take_chain<'a>(
         steps,
         &mut entries,
     );
-    if gathered.is_err() {
+    if let Err(refusal) = gathered {
         records.remove_steps(steps, before);
-        return Err(Refusal::Memory);
+        return Err(refusal);
     }
-    if put_chain(records, sequence, parent, near, entries.as_slice()).is_err() {
+    if let Err(refusal) = put_chain(records, sequence, parent, near, entries.as_slice()) {
         records.remove_steps(steps, before);
-        return Err(Refusal::Memory);
+        return Err(refusal);
     }
     Ok(entries.as_slice().len())
 }

@@ -179,16 +179,13 @@ impl TextStore for FlatStore {
         let _known = self.records.known();
         let ops = self.records.ops(self.alloc)?;
         let mut copy = FlatStore::new(self.alloc, self.records.limit())?;
-        let taken = take_whole(
+        take_whole(
             copy.alloc,
             &mut copy.records,
             &mut copy.sequence,
             &mut copy.waiting,
             &ops,
-        );
-        if taken.is_err() {
-            return Err(Refusal::Memory);
-        }
+        )?;
         Ok(copy)
     }
 

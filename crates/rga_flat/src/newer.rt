@@ -55,10 +55,10 @@ pub(crate) fn gather_newer<'a>(
     let before = steps.as_slice().len();
     scan(records, waiting, parent, ops, steps, entries);
     let chain = entries.as_slice();
-    if records.insert_chain(alloc, parent, near, chain).is_err() {
+    if let Err(refusal) = records.insert_chain(alloc, parent, near, chain) {
         entries.truncate(0);
         steps.truncate(before);
-        return Err(Refusal::Memory);
+        return Err(refusal);
     }
     Ok(())
 }

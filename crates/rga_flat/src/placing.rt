@@ -51,9 +51,9 @@ pub(crate) fn place_all(
             &mut placed,
             top,
         );
-        if noted.is_err() {
+        if let Err(refusal) = noted {
             go_back(records, sequence, placed);
-            return Err(Refusal::Memory);
+            return Err(refusal);
         }
     }
     Ok(())

@@ -118,14 +118,14 @@ fn insert(
     let settled = settle(
         alloc, records, sequence, waiting, done, parent, near, above, entry,
     );
-    if settled.is_err() {
+    if let Err(refusal) = settled {
         let op = Op::Insert {
             id: entry.id,
             parent,
             ch: entry.ch,
         };
         records.remove(&op, clock);
-        return Err(Refusal::Memory);
+        return Err(refusal);
     }
     Ok(())
 }

@@ -49,14 +49,10 @@ pub(crate) fn put_behind(
         put_own(alloc, blocks, groups, 0, name, entries)?;
         return Ok(Place { block: 0, index: 0 });
     }
-    match behind_parent(blocks, hints, parent) {
-        Some(from) => {
-            let first = &entries[0];
-            let at = skip(blocks, &mut groups.bounds, from, first, entries.len());
-            put_at(alloc, blocks, groups, at, name, entries)
-        }
-        None => Err(Refusal::Memory),
-    }
+    let from = behind_parent(blocks, hints, parent);
+    let first = &entries[0];
+    let at = skip(blocks, &mut groups.bounds, from, first, entries.len());
+    put_at(alloc, blocks, groups, at, name, entries)
 }
 
 /// Entries come in at a place. A block without room is cut in two first, at the place if that leaves

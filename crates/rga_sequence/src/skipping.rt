@@ -1,5 +1,5 @@
 //! Where a new entry goes: behind its parent, past the larger ones.
-ghost use Rattle.std.specs.Prelude.{◌≡◌, ◌≢◌, ◌<◌, ◌+◌, ◌++◌, ◌∷◌, ◌||◌, List, vec_len, true, false, None, IfSome};
+ghost use Rattle.std.specs.Prelude.{◌≡◌, ◌<◌, ◌+◌, ◌++◌, ◌∷◌, ◌||◌, List, vec_len, true, false};
 ghost use Rattle.rga_ops.specs.Identifier.{is_root};
 ghost use Rattle.rga_sequence.specs.declared.entry.Entry.{Entry};
 ghost use Rattle.rga_sequence.specs.Entries.{has, change_behind_entry, put_entry_past_larger};
@@ -13,25 +13,26 @@ use crate::place::Place;
 use rga_ops::Id;
 
 /// The place directly behind a parent.
-pub(crate) fn behind_parent(blocks: &Vec<Block>, hints: Hints, parent: Id) -> Option<Place>
+pub(crate) fn behind_parent(blocks: &Vec<Block>, hints: Hints, parent: Id) -> Place
     requires some { 0 < vec_len blocks.now }
     requires kept { IsSequence blocks.now.items }
     requires parent { is_root parent || has parent (flat blocks.now.items) ≡ true }
-    ensures found { result ≢ None }
-    ensures block { IfSome result (λ p. p.block < vec_len blocks.now) }
-    ensures place { IfSome result (λ p. IsPlace blocks.now.items p.block p.index) }
-    ensures behind { IfSome result (λ p. (f : List Entry → List Entry) →
-        change_behind_entry parent f (flat blocks.now.items)
-        ≡ before blocks.now.items p.block p.index ++ f (behind blocks.now.items p.block p.index)) }
+    ensures block { result.block < vec_len blocks.now }
+    ensures place { IsPlace blocks.now.items result.block result.index }
+    ensures behind { (f : List Entry → List Entry) → let bs = blocks.now.items in
+        change_behind_entry parent f (flat bs)
+        ≡ before bs result.block result.index ++ f (behind bs result.block result.index) }
 {
     if parent == Id::ROOT {
-        return Some(Place { block: 0, index: 0 });
+        return Place { block: 0, index: 0 };
     }
-    let Place { block, index } = find(blocks, hints, parent)?;
-    Some(Place {
+    let Some(Place { block, index }) = find(blocks, hints, parent) else {
+        unreachable!();
+    };
+    Place {
         block,
         index: index + 1,
-    })
+    }
 }
 
 /// The index in the same block behind the identifiers larger than an entry's.

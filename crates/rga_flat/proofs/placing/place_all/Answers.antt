@@ -1,11 +1,11 @@
-use Rattle.std.proofs.Common.{◌≡◌, ◌-◌, take, [], ◌++◌, refl, sym, ap, ◌∙◌}
+use Rattle.std.proofs.Common.{◌≡◌, ◌-◌, take, [], ◌++◌, refl, ap, ◌∙◌}
 use Rattle.rga_sequence.specs.Entries.{put_entry, without_entry}
 use Rattle.rga_flat.specs.Flat.{entry_for}
 use Rattle.rga_flat.specs.Waiting.{is_listed}
 use Rattle.rga_flat.specs.Placing.{taken_out}
 use Rattle.rga_flat.proofs.EntryLaws.{taken_out-push, put_gone}
 use Rattle.rga_flat.proofs.WaitingLaws.{settles_on, inserted_on}
-use Rattle.rga_flat.proofs.PlacingLaws.{place_step, place_smaller, place_named, place_absent, place_parent, from_ok}
+use Rattle.rga_flat.proofs.PlacingLaws.{place_step, place_smaller, place_named, place_absent, place_parent}
 use Rattle.rga_flat.proofs.placing.place_all.Goals as goal
 
 pub place_noted-noted-requires-clause-element : goal.place_noted-noted-requires-clause-element
@@ -22,20 +22,20 @@ loop-top-smaller c =
     let named = place_named _ _ _ _ _ _ _ c.in-Some.ensures.items c.loop-top.invariant.placing in
     rw c.place_noted-noted.ensures.records
     (place_smaller _ _ _ (is_listed c.args.waiting.now c.place_noted-noted.new.done) _ _ _ _ c.in-Some.ensures.items c.loop-top.invariant.placing
-    (from_ok c.place_noted-noted.result (sym c.is_err.ensures.value ∙ c.if-is_err.false) c.place_noted-noted.ensures.gone) c.place_noted-noted.ensures.others _ named.0 named.1 (from_ok c.place_noted-noted.result (sym c.is_err.ensures.value ∙ c.if-is_err.false) c.place_noted-noted.ensures.put named.0 named.1))
+    c.in_default-noted.ensures.gone c.place_noted-noted.ensures.others _ named.0 named.1 (c.in_default-noted.ensures.put named.0 named.1))
 
 pub loop-top-preserved : goal.loop-top-preserved
 loop-top-preserved c =
     let named = place_named _ _ _ _ _ _ _ c.in-Some.ensures.items c.loop-top.invariant.placing in
     let put : c.place_noted-noted.new.sequence ≡ put_entry named.0.parent (entry_for c.loop-top.records.content c.in-Some.top named.0) c.loop-top.sequence =
-    from_ok c.place_noted-noted.result (sym c.is_err.ensures.value ∙ c.if-is_err.false) c.place_noted-noted.ensures.put named.0 named.1 in
+    c.in_default-noted.ensures.put named.0 named.1 in
     record {
       kept = c.place_noted-noted.ensures.records ∙ c.loop-top.invariant.kept;
       placing = rw c.place_noted-noted.ensures.records
-          (place_step _ _ _ _ _ _ _ _ c.in-Some.ensures.items c.loop-top.invariant.placing (from_ok c.place_noted-noted.result (sym c.is_err.ensures.value ∙ c.if-is_err.false) c.place_noted-noted.ensures.gone) c.place_noted-noted.ensures.others
-          _ _ named.0 named.1 (from_ok c.place_noted-noted.result (sym c.is_err.ensures.value ∙ c.if-is_err.false) c.place_noted-noted.ensures.work) put);
+          (place_step _ _ _ _ _ _ _ _ c.in-Some.ensures.items c.loop-top.invariant.placing c.in_default-noted.ensures.gone c.place_noted-noted.ensures.others
+          _ _ named.0 named.1 c.in_default-noted.ensures.work put);
       back =
-          ap (λ ks. taken_out ks c.place_noted-noted.new.sequence) (from_ok c.place_noted-noted.result (sym c.is_err.ensures.value ∙ c.if-is_err.false) c.place_noted-noted.ensures.noted)
+          ap (λ ks. taken_out ks c.place_noted-noted.new.sequence) c.in_default-noted.ensures.noted
           ∙ taken_out-push c.loop-top.placed.items c.in-Some.top c.place_noted-noted.new.sequence
           ∙ ap (taken_out c.loop-top.placed.items) (ap (without_entry c.in-Some.top) put ∙ put_gone named.0.parent c.in-Some.top _ refl c.loop-top.sequence (place_absent _ _ _ _ _ _ _ c.in-Some.ensures.items c.loop-top.invariant.placing))
           ∙ c.loop-top.invariant.back;

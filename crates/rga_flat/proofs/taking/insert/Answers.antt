@@ -7,7 +7,6 @@ use Rattle.rga_store.specs.Kept.{Kept}
 use Rattle.rga_store.specs.Without.{without_insertion}
 use Rattle.rga_store.proofs.WithoutLaws.{new_held}
 use Rattle.rga_flat.specs.Flat.{is_above}
-use Rattle.rga_flat.proofs.PlacingLaws.{from_err, from_ok}
 use Rattle.rga_store.proofs.BackLaws.{without_taken}
 use Rattle.rga_flat.proofs.taking.insert.Goals as goal
 
@@ -32,22 +31,22 @@ remove-requires-clause-held c = rw (c.settle-settled.ensures.records, c.in_ok-in
 pub remove-requires-clause-clock : goal.remove-requires-clause-clock
 remove-requires-clause-clock c = c.clock-clock.ensures ∙ sym (ap clock_of (ap (λ (r : Kept). without_insertion c.args.entry.now.id r.content) c.settle-settled.ensures.records ∙ without_taken _ _ _ (Insert c.args.entry.now.id c.args.parent c.args.entry.now.ch) c.requires.new c.in_ok-insert.ensures.ok))
 
-pub returns-then-is_err-clause-same : goal.returns-then-is_err-clause-same
-returns-then-is_err-clause-same c = c.remove.ensures.content ∙ ap (λ (r : Kept). without_insertion c.args.entry.now.id r.content) c.settle-settled.ensures.records ∙ without_taken _ _ _ (Insert c.args.entry.now.id c.args.parent c.args.entry.now.ch) c.requires.new c.in_ok-insert.ensures.ok
+pub returns-in-Err-clause-same : goal.returns-in-Err-clause-same
+returns-in-Err-clause-same c = c.remove.ensures.content ∙ ap (λ (r : Kept). without_insertion c.args.entry.now.id r.content) c.settle-settled.ensures.records ∙ without_taken _ _ _ (Insert c.args.entry.now.id c.args.parent c.args.entry.now.ch) c.requires.new c.in_ok-insert.ensures.ok
 
-pub returns-then-is_err-clause-back : goal.returns-then-is_err-clause-back
-returns-then-is_err-clause-back c = rw (c.remove.ensures.content, c.settle-settled.ensures.records) (from_err c.settle-settled.result (sym c.is_err.ensures.value ∙ c.if-is_err.true) c.settle-settled.ensures.same)
+pub returns-in-Err-clause-back : goal.returns-in-Err-clause-back
+returns-in-Err-clause-back c = rw (c.remove.ensures.content, c.settle-settled.ensures.records) c.in-Err.ensures.same
 
-pub returns-then-is_err-clause-based : goal.returns-then-is_err-clause-based
-returns-then-is_err-clause-based c = λ base b.
-    rw (c.remove.ensures.content, c.settle-settled.ensures.records) (from_err c.settle-settled.result (sym c.is_err.ensures.value ∙ c.if-is_err.true) (c.settle-settled.ensures.left base (rw (without_taken _ _ _ (Insert c.args.entry.now.id c.args.parent c.args.entry.now.ch) c.requires.new c.in_ok-insert.ensures.ok) b)))
+pub returns-in-Err-clause-based : goal.returns-in-Err-clause-based
+returns-in-Err-clause-based c = λ base b.
+    rw (c.remove.ensures.content, c.settle-settled.ensures.records) (c.in-Err.ensures.left base (rw (without_taken _ _ _ (Insert c.args.entry.now.id c.args.parent c.args.entry.now.ch) c.requires.new c.in_ok-insert.ensures.ok) b))
 
 pub returns-clause-flat : goal.returns-clause-flat
-returns-clause-flat c = rw c.settle-settled.ensures.records (from_ok c.settle-settled.result (sym c.is_err.ensures.value ∙ c.if-is_err.false) c.settle-settled.ensures.ok)
+returns-clause-flat c = rw c.settle-settled.ensures.records c.in_default.ensures.ok
 
 pub returns-clause-inserted : goal.returns-clause-inserted
 returns-clause-inserted c = rw c.settle-settled.ensures.records c.settle-settled.ensures.inserted
 
 pub returns-clause-based : goal.returns-clause-based
 returns-clause-based c = λ base b.
-    rw c.settle-settled.ensures.records (from_ok c.settle-settled.result (sym c.is_err.ensures.value ∙ c.if-is_err.false) (c.settle-settled.ensures.based base (rw (without_taken _ _ _ (Insert c.args.entry.now.id c.args.parent c.args.entry.now.ch) c.requires.new c.in_ok-insert.ensures.ok) b)))
+    rw c.settle-settled.ensures.records (c.in_default.ensures.based base (rw (without_taken _ _ _ (Insert c.args.entry.now.id c.args.parent c.args.entry.now.ch) c.requires.new c.in_ok-insert.ensures.ok) b))

@@ -44,7 +44,7 @@ module _ (c : goal.After-put_at) where
   back = behind c.args.blocks.now.items c.skip-at.result.block c.skip-at.result.index
 
   placed : put_entry c.args.parent first (flat c.args.blocks.now.items) ≡ front ++ first ∷ back
-  placed = c.in-Some.ensures.behind (put_entry_past_larger first) ∙ c.skip-at.ensures.skipped
+  placed = c.behind_parent-from.ensures.behind (put_entry_past_larger first) ∙ c.skip-at.ensures.skipped
 
   there : put_chain c.args.parent c.args.entries.now (flat c.args.blocks.now.items) ≡ front ++ (c.args.entries.now ++ back)
   there =
@@ -58,11 +58,11 @@ module _ (c : goal.After-put_at) where
       (λ h. apart_there c.args.blocks.now.items c.skip-at.result.block c.skip-at.result.index first c.skip-at.ensures.place h c.requires.kept.apart)
       c.skip-at.ensures.stops placed c.args.entries.now c.requires.some c.index-entries-0.is c.requires.chain
 
-pub returns-in-Some-clause-ok : goal.returns-in-Some-clause-ok
-returns-in-Some-clause-ok c = on_ok_map c.put_at.result (λ e. e ∙ sym (there c)) c.put_at.ensures.ok
+pub returns-clause-ok : goal.returns-clause-ok
+returns-clause-ok c = on_ok_map c.put_at.result (λ e. e ∙ sym (there c)) c.put_at.ensures.ok
 
-pub returns-in-Some-clause-kept : goal.returns-in-Some-clause-kept
-returns-in-Some-clause-kept c = record {
+pub returns-clause-kept : goal.returns-clause-kept
+returns-clause-kept c = record {
   apart = either_way AreApart c.put_at.result (flat c.put_at.new.blocks.items) _ _ c.put_at.ensures.ok c.put_at.ensures.err (apart c) c.requires.kept.apart;
   filled = c.put_at.ensures.filled;
 }

@@ -10,7 +10,7 @@ pub returns-then-eq-clause-behind : goal.returns-then-eq-clause-behind
 returns-then-eq-clause-behind c = λ f. change_at_front c.args.parent f c.args.blocks.now.items (sym c.eq.ensures ∙ c.if-eq.true) (subst (λ n. 0 < n) c.args.blocks.now.ok.0 c.requires.some)
 
 pub returns-clause-place : goal.returns-clause-place
-returns-clause-place c = place_behind c.args.blocks.now.items c.in_ok-block.field-0.block c.in_ok-block.field-0.index c.args.parent c.in_ok-block.ensures.some
+returns-clause-place c = place_behind c.args.blocks.now.items c.in-Some.field-0.block c.in-Some.field-0.index c.args.parent c.in-Some.ensures.some
 
 pub returns-clause-behind : goal.returns-clause-behind
-returns-clause-behind c = λ f. change_there c.args.parent f c.args.blocks.now.items c.in_ok-block.field-0.block c.in_ok-block.field-0.index (sym c.eq.ensures ∙ c.if-eq.false) c.requires.kept.apart c.in_ok-block.ensures.some
+returns-clause-behind c = λ f. change_there c.args.parent f c.args.blocks.now.items c.in-Some.field-0.block c.in-Some.field-0.index (sym c.eq.ensures ∙ c.if-eq.false) c.requires.kept.apart c.in-Some.ensures.some
