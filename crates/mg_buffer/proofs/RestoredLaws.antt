@@ -147,12 +147,6 @@ others_settled rs (b ∷ deleted) none =
 
 -- ---- groups
 
--- a group that is found at an index
-pub past_found : (f : Identifier → Identifier) (groups : List Past) (i : ℕ) (g : Past) → i < length groups → g ≡ get_or groups i g → substituted f g ≡ past_at (all_substituted f groups) i
-past_found f [] i g within is = absurd (omega (arith, within))
-past_found f (x ∷ groups) zero g within is = ap (substituted f) is
-past_found f (x ∷ groups) (suc i) g within is = past_found f groups i g (omega (arith, within)) is
-
 pub none_restored : (groups : List Past) → all_substituted (latest []) groups ≡ groups
 none_restored [] = refl
 none_restored (g ∷ groups) = λ k. record { inserted = map-id g.inserted k; deleted = map-id g.deleted k } ∷ none_restored groups k

@@ -15,12 +15,9 @@ use Rattle.mg_files.specs.Held.{Held, AnswersLoad, log_bytes}
 use Rattle.mg_files.specs.Kept.{IsBuffer, IsWritableWhole}
 use Rattle.mg_files.specs.Run.{BufferStep, Takes, Rests, ChangesAlone, HoldsMore, KeepsOperations, MayGo, MayStep, TakesOnly}
 use Rattle.mg_files.specs.Writers.{Writer, Act, Steps, Opens, own_files, own_limit, own_replica, AreReached, Becomes, IsInALog, IsOpenedAnew, IsSiteOf, MayAct, TakesLogged, all_logged}
-use Rattle.mg_files.proofs.WriterSteps.{reached_sites}
-use Rattle.mg_files.proofs.WriterSteps.{all_logged_grows, reached_further}
-use Rattle.mg_files.proofs.ChangeSteps.{step_replica}
+use Rattle.mg_files.proofs.WriterSteps.{reached_sites, all_logged_grows, reached_further, step_follows}
+use Rattle.mg_files.proofs.ChangeSteps.{step_replica, after_step}
 use Rattle.mg_files.proofs.WriterEvents.{opening_follows, opening_replica}
-use Rattle.mg_files.proofs.ChangeSteps.{after_step}
-use Rattle.mg_files.proofs.WriterSteps.{step_follows}
 use Rattle.mg_workspace.specs.Workspaces.{Workspace}
 use Rattle.mg_editor.specs.Holding.{IsOpenedBy}
 use Rattle.mg_live.proofs.StageLaws.{opened_as}

@@ -12,7 +12,7 @@ use Rattle.mg_plain.specs.declared.cases.Casing.TheVariants.{Capital, Lower, Upp
 use Rattle.mg_plain.specs.declared.command.Command.{Command}
 use Rattle.mg_plain.specs.declared.command.Command.TheVariants.{BackwardChar, BackwardWord, BeginningOfLine, CapitalizeWord, CopyRegionAsKill, DeleteBackwardChar, DeleteChar, DowncaseWord, EndOfLine, ExchangePointAndMark, FillParagraph, ForwardChar, ForwardWord, Insert, InsertText, KillLine, KillRegion, KillWord, MarkWholeBuffer, Newline, NewlineAndIndent, NextLine, OpenLine, PreviousLine, ReplaceAll, ReplaceOne, ReplaceRange, ScrollDown, ScrollUp, SearchBackward, SearchForward, SetMarkCommand, TransposeChars, UpcaseWord, Yank}
 use Rattle.mg_plain.specs.declared.outcome.Notice.{Notice}
-use Rattle.mg_plain.specs.declared.outcome.Notice.TheVariants.{NoMark, SearchFailed}
+use Rattle.mg_plain.specs.declared.outcome.Notice.TheVariants.{NoMark, SearchFailed, BeginningOfBuffer as AtBeginning, EndOfBuffer}
 use Rattle.mg_plain.specs.declared.steps.Direction.{Direction}
 use Rattle.mg_plain.specs.declared.steps.Direction.TheVariants.{Backward, Forward}
 use Rattle.mg_plain.specs.declared.steps.Piece.TheVariants.{Line, Word}
@@ -40,7 +40,6 @@ use Rattle.mg_plain.proofs.RangeLaws.{FindsWithin, span_chain-rising, greatest_u
 use Rattle.mg_plain.proofs.StepLaws.{StaysWithin, steps-within, steps_up_to-within}
 use Rattle.mg_plain.proofs.WordLaws.{finds_words}
 use Rattle.mg_plain.specs.declared.command.Command.TheVariants.{BeginningOfBuffer, EndOfBuffer as ToEndOfBuffer}
-use Rattle.mg_plain.specs.declared.outcome.Notice.TheVariants.{BeginningOfBuffer as AtBeginning, EndOfBuffer}
 
 err_ok : {x : Effect} {n : Notice} → ◌≡◌ {A = Result Effect Notice} (Err n) (Ok x) → ⊥
 err_ok h = cc

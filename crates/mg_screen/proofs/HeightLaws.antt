@@ -1,9 +1,8 @@
 -- Windows as they are kept: their heights, and beside these what they show.
-use Rattle.std.proofs.Common.{◌≡◌, ℕ, ◌+◌, ◌-◌, ◌/◌, ◌≤◌, ◌<◌, List, [], ◌∷◌, length, take, drop, map, arith, refl, sym, ◌∙◌, ap, subst, suc, zero, get_or, set, insert, remove, sum_by}
+use Rattle.std.proofs.Common.{◌≡◌, ℕ, ◌+◌, ◌-◌, ◌/◌, ◌≤◌, ◌<◌, List, [], ◌∷◌, length, take, drop, map, arith, refl, sym, ◌∙◌, ap, subst, suc, zero, get_or, set, insert, remove, sum_by, length-set}
 use Rattle.std.proofs.lemmas.List.Sums.{sum_by-cons, sum_by-remove, get_or-le-sum_by}
 use Rattle.std.proofs.lemmas.Bool.Decides.{nat_tests}
 use Rattle.std.proofs.lemmas.List.Edits.{length-remove, length-insert}
-use Rattle.std.proofs.Common.{length-set}
 use Rattle.mg_screen.specs.Size.{most_rows}
 use Rattle.mg_screen.specs.Layout.{Layout, window, layout, heights, all_shown, windows_of, rows_of, upper_half, lower_half, split_at, remove_at, only_at, shows_at, of_height, IsTall, FillsRows, KeepsRows, other_layout, only_layout, current_height}
 use Rattle.mg_screen.specs.Inside.{AreKeptWindows}

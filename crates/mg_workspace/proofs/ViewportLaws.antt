@@ -60,11 +60,6 @@ show_remove n zero (v ∷ w ∷ ws) all = (all.1.0, all.1.1)
 show_remove n (suc zero) (v ∷ w ∷ ws) all = (all.0, all.1.1)
 show_remove n (suc (suc i)) (v ∷ w ∷ ws) all = (all.0, show_remove n (suc i) (w ∷ ws) all.1)
 
-show_drop : (n i : ℕ) (ws : List (Window Viewport)) → ShowThese n ws → ShowThese n (drop i ws)
-show_drop n zero ws all = all
-show_drop n (suc i) [] all = tt
-show_drop n (suc i) (w ∷ ws) all = show_drop n i ws all.1
-
 show_take : (n k : ℕ) (ws : List (Window Viewport)) → ShowThese n ws → ShowThese n (take k ws)
 show_take n zero ws all = tt
 show_take n (suc k) [] all = tt
@@ -74,9 +69,6 @@ pub show_map : (n m : ℕ) (f : Window Viewport → Window Viewport) (ws : List 
     → ((w : Window Viewport) → w.shown.buffer < n → (f w).shown.buffer < m) → ShowThese n ws → ShowThese m (map f ws)
 show_map n m f [] step all = tt
 show_map n m f (w ∷ ws) step all = (step w all.0, show_map n m f ws step all.1)
-
-pub show_only : (n i : ℕ) (ws : List (Window Viewport)) → ShowThese n ws → ShowThese n (only_at i ws)
-show_only n i ws all = show_map n n (of_height (rows_of ws - 1)) (take 1 (drop i ws)) (λ w here. here) (show_take n 1 (drop i ws) (show_drop n i ws all))
 
 show_as_tall : (n : ℕ) (hs : List ℕ) (ws : List (Window Viewport)) → ShowThese n ws → ShowThese n (windows_of hs (all_shown ws))
 show_as_tall n [] ws all = tt

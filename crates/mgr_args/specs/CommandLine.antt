@@ -1,6 +1,5 @@
 -- What a command line asks for.
-use Rattle.std.specs.Prelude.{◌||◌, ℕ, Bool, true, List, [], ◌∷◌, ◌++◌, codes, drop, nat_eq}
-use Rattle.std.specs.Prelude.{if◌then◌else◌}
+use Rattle.std.specs.Prelude.{◌||◌, ℕ, Bool, true, List, [], ◌∷◌, ◌++◌, codes, drop, nat_eq, if◌then◌else◌}
 use Rattle.std.specs.List.{starts_with}
 use Rattle.std.specs.Str.{bytes_eq}
 use Rattle.clap.specs.Simple.{App, Shape, new_app, on_top}

@@ -6,8 +6,7 @@ use Rattle.clap.specs.Simple.{subcommand_of, subcommand_rows_of}
 use Rattle.clap.specs.Walk.{Row}
 use Rattle.clap.specs.declared.error.kind.ErrorKind.{ErrorKind}
 use Rattle.clap.specs.declared.parser.matches.ArgMatches.{ArgMatches}
-use Rattle.clap.specs.declared.error.kind.ErrorKind.TheVariants.{DisplayHelp, DisplayVersion}
-use Rattle.clap.specs.declared.error.kind.ErrorKind.TheVariants.{OutOfMemory}
+use Rattle.clap.specs.declared.error.kind.ErrorKind.TheVariants.{DisplayHelp, DisplayVersion, OutOfMemory}
 use Rattle.mgr_args.specs.CommandLine.{Text, Wish, asking, command_line, help, mistake, version, word_of}
 use Rattle.mgr_args.specs.Edit.{GivesSettings}
 use Rattle.mgr_args.specs.Given.{GivesLogs, GivesMerging, GivesName, GivesNameIf, GivesNote, GivesNoteNameIf, GivesShown}

@@ -13,8 +13,7 @@ use Rattle.mgr_show.specs.Joined.{all_told, in_front}
 use Rattle.rga_ops.specs.Content.{clock_of}
 use Rattle.mgr_mend.specs.Beside.{Beside}
 use Rattle.mgr_mend.specs.Taking.{HasTaken, logs_taken, merged_from}
-use Rattle.mgr_mend.specs.Merging.{IsOfLogs, IsOfNote}
-use Rattle.mgr_mend.specs.Merging.{BeginsInto, BeginsToPut, BeginsToWrite, GoesOn, LeavesAll, LeavesText, LoadsNote, Merges, MergesInto, OnlyLoads, RefusesLogs, Stays, StopsWriting, first_calls, owner, taking_outcome, write_calls}
+use Rattle.mgr_mend.specs.Merging.{IsOfLogs, IsOfNote, BeginsInto, BeginsToPut, BeginsToWrite, GoesOn, LeavesAll, LeavesText, LoadsNote, Merges, MergesInto, OnlyLoads, RefusesLogs, Stays, StopsWriting, first_calls, owner, taking_outcome, write_calls}
 use Rattle.mgr_mend.specs.declared.fault.MergeFault.{MergeFault}
 use Rattle.mgr_mend.specs.declared.fault.MergeFault.TheVariants.{File, Memory}
 use Rattle.mgr_mend.specs.declared.merged.Torn.{Torn}

@@ -1,10 +1,9 @@
 -- Local edits: the operations of an allowed splice, and of several in turn, are taken, and they change the text and the
 -- order at their place.
-use Rattle.rga_doc.proofs.Prelude.{◌≡◌, ℕ, ◌+◌, ◌<◌, ◌≤◌, suc, Bool, true, ◌&&◌, nat_le, leb-true, List, [], ◌∷◌, ◌++◌, map, take, drop, length, refl, sym, ap, ◌∙◌, subst, arith, drop_at, drop-drop, length-take-le}
+use Rattle.rga_doc.proofs.Prelude.{◌≡◌, ℕ, ◌+◌, ◌<◌, ◌≤◌, suc, Bool, true, ◌&&◌, nat_le, leb-true, List, [], ◌∷◌, ◌++◌, map, take, drop, length, refl, sym, ap, ◌∙◌, subst, arith, drop_at, drop-drop, length-take-le, all_map}
 use Rattle.rga_doc.proofs.Prelude.{Some, None, Ok, unwrap_or, slice_get, filter_map, and_parts, slice_get_within, Identifier, identifier, root, Content, known_ids, clock_of, join, single, content_of, order, text, visible, Splice, spliced}
 use Rattle.rga_doc.proofs.Prelude.{text_after, are_falling, new_characters, list_answer, text_long, newest_element, order-newest, visible-deletion_at, order-deletion, Op, Insert, Delete}
 use Rattle.rga_doc.proofs.Prelude.{left_of, chain, splice_operations, splices_operations, draft_operations, counter_answer, edit_answer, splice_answer, splices_answer, new_ids, put_row_behind, order_after, elements_after}
-use Rattle.rga_doc.proofs.Prelude.{all_map}
 use Rattle.rga_ops.proofs.NewestTextLaws.{visible_at}
 use Rattle.rga_doc.proofs.FallingLaws.{falls_first}
 use Rattle.rga_doc.proofs.SplicedCharacters.{cut, length-cut, same_begin}

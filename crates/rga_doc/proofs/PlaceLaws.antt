@@ -1,7 +1,6 @@
 -- What is complete stays so, and what has a place keeps one.
 use Rattle.std.proofs.Common.{arith}
-use Rattle.rga_doc.proofs.Prelude.{◌≡◌, Bool, true, ◌||◌, is_some, or_cases, or_left, or_right, Identifier, is_root, Content, join, is_complete, place}
-use Rattle.rga_doc.proofs.Prelude.{within_join}
+use Rattle.rga_doc.proofs.Prelude.{◌≡◌, Bool, true, ◌||◌, is_some, or_cases, or_left, or_right, Identifier, is_root, Content, join, is_complete, place, within_join}
 use Rattle.rga_ops.proofs.GrowLaws.{complete_stays}
 
 abbrev pub stands : Content → Identifier → Bool

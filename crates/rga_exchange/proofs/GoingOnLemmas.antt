@@ -14,8 +14,7 @@ use Rattle.rga_ops.specs.Identifier.{Identifier, is_id}
 use Rattle.rga_ops.specs.Content.{element, Content}
 use Rattle.rga_ops.specs.declared.id.TheConstants.Id.{MAX_COUNTER}
 use Rattle.rga_ops.proofs.IdentifierLaws.{is_id-is}
-use Rattle.rga_lines.specs.Runs.{next}
-use Rattle.rga_lines.specs.Runs.{IsRun}
+use Rattle.rga_lines.specs.Runs.{next, IsRun}
 use Rattle.rga_lines.specs.Spelling.{IsElement}
 use Rattle.rga_lines.specs.declared.run.TheConstants.{MAX_RUN}
 use Rattle.rga_lines.proofs.ReadBack.{within as in_bounds}

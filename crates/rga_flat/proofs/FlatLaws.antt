@@ -210,9 +210,6 @@ module _ (d : Content) (sound : IsSound d) (id parent : Identifier) (ch : ℕ) (
 
 -- ---- what it was based on
 
-abbrev child_at : Option Element → Identifier → Bool
-child_at o p = option_map_or (λ x. is_id x.parent p) o false
-
 child_later : (c d : Content) → IsWithin c d → (p k : Identifier) → is_child c p k ≡ true → is_child d p k ≡ true
 child_later c d w p k h = grind (arith, w.inserted k)
 

@@ -138,14 +138,6 @@ module _ (value_of : Parse Json) (reads : ReadsOpen value_of) where
   no_members (suc n) (key s ∷ ts) h = and_members s (members value_of n) (no_members n) (value_of ts) (reads ts h.1)
   no_members n ts h = refl
 
-array_reads : (o : Option (Items × List Token)) → Leaves o → Reads (parse_map Json.array o)
-array_reads None h = tt
-array_reads (Some p) h = (tt, h)
-
-object_reads : (o : Option (Members × List Token)) → o ≡ None → Reads (parse_map Json.object o)
-object_reads None e = tt
-object_reads (Some p) e = absurd cc
-
 one_level : (a : Parse Items) (o : Parse Members) → ((ts : List Token) → Open ts → Leaves (a ts)) → ((ts : List Token) → Open ts → o ts ≡ None) → ReadsOpen (value_with a o)
 one_level a o h h2 = grind arith
 
@@ -159,10 +151,6 @@ value_reads (suc depth) = one_level (λ ts. items (value depth) (length ts) ts) 
 abbrev IsNone : Option Data → Type 0
 IsNone None = ⊤
 IsNone (Some d) = as_object d ≡ None
-
-abbrev of_option : {A : Type 0} (f : A → Data) → ((a : A) → as_object (f a) ≡ None) → (o : Option A) → IsNone (option_map f o)
-of_option f h None = tt
-of_option f h (Some a) = h a
 
 no_object : (j : Json) → NoObject j → IsNone (of_json j)
 no_object j h = grind arith

@@ -1,6 +1,5 @@
 -- The deletions of a run, one after another.
-use Rattle.rga_lines.proofs.Prelude.{◌≡◌, ℕ, zero, suc, ◌<◌, Ok, ne_eqb, arith, true, AllByRecursion, Identifier, is_in_range, checked, Op, DeletionRun, next, deletions_from, run_deletions}
-use Rattle.rga_lines.proofs.Prelude.{IsDeletionRun}
+use Rattle.rga_lines.proofs.Prelude.{◌≡◌, ℕ, zero, suc, ◌<◌, Ok, ne_eqb, arith, true, AllByRecursion, Identifier, is_in_range, checked, Op, DeletionRun, next, deletions_from, run_deletions, IsDeletionRun}
 
 -- the identifier of an element is not the root
 pub above_root : (id : Identifier) → is_in_range id.counter id.replica ≡ true → 0 < id.counter

@@ -21,12 +21,6 @@ at_most a b = grind (arith, nat_tests)
 above : (a b : ℕ) → nat_lt a b ≡ not (nat_le b a)
 above a b = grind (arith, nat_tests)
 
-run_length : (n m : ℕ) → ((nat_le 1 n && nat_le n m) && true) ≡ not ((n == 0) || nat_lt m n)
-run_length n m = grind (arith, nat_tests)
-
-two_or_more : (n : ℕ) → (suc (suc n) == 1) ≡ false
-two_or_more n = grind (arith, nat_tests)
-
 -- a test for a fault in front of the others
 unless : {T : Type 0} (x y : Bool) (f : LineFault) (r : Result T LineFault) (rest : List Demand)
     → y ≡ not x → result_err r ≡ first_fault rest → result_err (if x then Err f else r) ≡ first_fault (demand y f ∷ rest)
@@ -66,17 +60,6 @@ parent_counter (Some p) = counter_is (is_root (identifier p.0 p.1) || is_in_rang
 order : (id parent : Identifier) (ch : ℕ) → result_err (table.with_order id parent ch) ≡ first_fault (demand (nat_lt parent.counter id.counter) fault.Order ∷ [])
 order id parent ch = grind arith
 
-insertion_characters : (id parent : Identifier) (cs : List ℕ) → result_err (table.with_char id parent (table.only_char cs))
-    ≡ first_fault (demand (all_three (length cs == 1) true true) fault.Char ∷ demand (nat_lt parent.counter id.counter) fault.Order ∷ [])
-insertion_characters id parent cs = grind arith
-
-insertion_identifiers : (t : List ℕ) (i p : Option Identifier) (n m : ℕ) → IfSome i (λ id. n ≡ id.counter) → IfSome p (λ id. m ≡ id.counter)
-    → result_err (table.with_identifiers i p t)
-    ≡ first_fault (demand (all_three true (is_some i) (is_some p) && true) fault.Id
-    ∷ demand (all_three (length (chars t) == 1) true true) fault.Char ∷ demand (nat_lt m n) fault.Order ∷ [])
-insertion_identifiers t (Some i) (Some p) n m here above = rw (here, above) (insertion_characters i p (chars t))
-insertion_identifiers t i p n m here above = refl
-
 insertion_types : (t : Option (List ℕ)) (i p : Option Items) → result_err (table.with_types t i p)
     ≡ first_fault (demand (all_three (is_some t) (is_some i) (is_some p)) fault.Kind
     ∷ demand (all_three true (is_some (option_and_then element_of i)) (is_some (option_and_then parent_of p)) && true) fault.Id
@@ -114,10 +97,6 @@ deletion_members true (Some i) = deletion_type (as_array i)
 deletion_members two i = refl
 
 -- ---- a run
-
-run_order : (id parent : Identifier) (cs : List ℕ) → result_err (table.with_run_order id parent cs)
-    ≡ first_fault (demand (nat_lt parent.counter id.counter) fault.Order ∷ [])
-run_order id parent cs = grind arith
 
 run_end : (id parent : Identifier) (cs : List ℕ) → result_err (table.with_run_end id parent cs)
     ≡ first_fault (demand (nat_le (id.counter + length cs) (MAX_COUNTER + 1)) fault.Id

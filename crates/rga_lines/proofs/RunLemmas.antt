@@ -40,9 +40,6 @@ pub record IsReadTo (id parent : Identifier) (bytes : List ℕ) (ops : List Op) 
   pub scalars : AllByRecursion IsScalar chars
   pub on : (more : List ℕ) → ops ++ run_operations (identifier counter id.replica) above more ≡ run_operations id parent (chars ++ more)
 
-pub read_to_first : (id parent : Identifier) (bytes : List ℕ) (ops : List Op) → ops ≡ [] → IsReadTo id parent bytes ops id.counter parent bytes
-read_to_first id parent bytes ops none = record { chars = []; parts = refl; scalars = tt; on = λ more. ap (λ (l : List Op). l ++ run_operations id parent more) none }
-
 pub read_to_next : (id parent : Identifier) (bytes : List ℕ) (ops all : List Op) (counter : ℕ) (above new : Identifier) (rest behind : List ℕ) (c : ℕ) → IsReadTo id parent bytes ops counter above rest → rest ≡ escaped c ++ behind → IsScalar c
     → identifier counter id.replica ≡ new → all ≡ ops ++ Insert new above c ∷ [] → IsReadTo id parent bytes all (counter + 1) new behind
 read_to_next id parent bytes ops all counter above new rest behind c h e k same pushed = record {

@@ -30,10 +30,6 @@ or_none : (a b : Bool) → a || b ≡ false → (a ≡ false) × (b ≡ false)
 or_none true b h = absurd cc
 or_none false b h = (refl, h)
 
-not_zero : (n : ℕ) → (n == 0) ≡ false → 0 < n
-not_zero zero h = absurd cc
-not_zero (suc n) h = omega arith
-
 -- ---- identifiers
 
 -- the identifier of an element is in the ranges

@@ -40,9 +40,6 @@ escape-plain : (bs : List ℕ) → Plain bs → escape bs ≡ bs
 escape-plain [] h = refl
 escape-plain (x ∷ xs) h = ap (λ (ys : List ℕ). ys ++ escape xs) (escape_byte_plain x (λ e. omega arith) (λ e. omega arith) (omega arith)) ∙ ap (λ (ys : List ℕ). x ∷ ys) (escape-plain xs h.1)
 
-Plain-choice : (a b : Bool) (x y z : List ℕ) → Plain x → Plain y → Plain z → Plain (cond a x (cond b y z))
-Plain-choice a b x y z h h2 h3 = grind arith
-
 pub Plain-encode : (c : ℕ) → 128 ≤ c → Plain (encode_utf8 c)
 unfolding encode_utf8
 Plain-encode c h = grind arith

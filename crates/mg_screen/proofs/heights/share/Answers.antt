@@ -1,6 +1,5 @@
-use Rattle.std.proofs.Common.{◌≡◌, ◌-◌, ◌*◌, ◌<◌, ◌∙◌, arith, length, get_or, min, ap}
+use Rattle.std.proofs.Common.{◌≡◌, ◌-◌, ◌*◌, ◌<◌, ◌∙◌, arith, length, get_or, min, ap, length-set}
 use Rattle.std.proofs.Math.Nat.{min-le_right}
-use Rattle.std.proofs.Common.{length-set}
 use Rattle.std.proofs.lemmas.List.{get_or_read}
 use Rattle.mg_screen.proofs.ResizeLaws.{share_more, share_last}
 use Rattle.mg_screen.proofs.heights.share.Goals as goal

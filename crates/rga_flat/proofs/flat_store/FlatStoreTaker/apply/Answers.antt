@@ -1,5 +1,4 @@
-use Rattle.std.proofs.Common.{Ok, sym, ◌∙◌, true≢false}
-use Rattle.std.proofs.Common.{inl, inr}
+use Rattle.std.proofs.Common.{Ok, sym, ◌∙◌, true≢false, inl, inr}
 use Rattle.rga_store.proofs.TakingLaws.{one_taken}
 use Rattle.rga_flat.proofs.WaitingLaws.{none_done, unlisted_done}
 use Rattle.rga_flat.proofs.FlatLaws.{flat_cleared}
