@@ -86,12 +86,12 @@ files: build/mgr
 # The last line is the verdict, so nothing may follow it.
 test:
 	@$(NEED_RT); $(NEED_PYTHON)
-	@scripts/documents.py && exec scripts/gate.py
+	@scripts/documents.py && scripts/made_refusals.py && exec scripts/gate.py
 
 # The same, and the named wrong bodies.
 gate:
 	@$(NEED_RT); $(NEED_PYTHON)
-	@scripts/documents.py && exec scripts/gate.py --wrong-bodies
+	@scripts/documents.py && scripts/made_refusals.py && exec scripts/gate.py --wrong-bodies
 
 # What one does with mgr, and what is to be seen of it: all, or those of one file.
 scenes: build/mgr
@@ -168,8 +168,9 @@ help:
 	@echo "               has four write in one note, in terminals of tmux, by a hub, a folder, a branch of git and a stream of"
 	@echo "               Redis, which are away, emptied, put back, cut off or slow meanwhile, while writers are killed or leave"
 	@echo "               (needs python3 and tmux; sshd; git; redis-server and python3-redis; faketime: what is not there is said)"
-	@echo "make test      looks up each name in the documents, proves all that the kit does not have as proved, runs every"
-	@echo "               test and plays every scene; the last line counts all (needs python3)"
+	@echo "make test      looks up each name in the documents, looks for refusals of memory that sources make, proves all that"
+	@echo "               the kit does not have as proved, runs every test and plays every scene; the last line counts all"
+	@echo "               (needs python3)"
 	@echo "make gate      the same, and tries the wrong bodies of the gate: each must be refused (needs python3)"
 	@echo "make scenes    plays the scenes with the mgr that make built; those of one file: make scenes FILE=scenes/.."
 	@echo "               (needs python3)"

@@ -15,7 +15,7 @@ use mg_plain::{Chars, Command};
 use rga_doc::Doc;
 use rga_ops::{Id, Op, Refusal};
 use rga_store::{Taker, TextStore};
-use std::alloc::Global;
+use std::alloc::{AllocError, Global};
 
 /// The column to which nothing is filled here.
 const FILL: u16 = 70;
@@ -181,7 +181,7 @@ fn taken_again<S: TextStore>(alloc: Global, task: &Task<Work>) -> Result<usize, 
 
 fn store_of<S: TextStore>(alloc: Global, size: usize) -> Result<S, Refusal> {
     let doc = document_of::<S>(alloc, size)?;
-    doc.store().copy()
+    Ok(doc.store().copy()?)
 }
 
 /// Makes a buffer, and does the work in it with point at a place.
@@ -272,7 +272,7 @@ fn run<S: TextStore>(
 ) -> Result<(), BufferFault> {
     match command_of(alloc, kind) {
         Ok(command) => buffer.run(&command, 1, memo, FILL),
-        Err(_) => Err(BufferFault::Store(Refusal::Memory)),
+        Err(_) => Err(BufferFault::Store(Refusal::from(AllocError))),
     }
 }
 

@@ -112,7 +112,7 @@ fn change<S: TextStore>(alloc: Global, doc: &mut Doc<S>) -> Result<(), Refusal> 
     doc.list()?;
     let splices = changes(alloc, doc.characters().len() / CHANGES)?;
     let _ops = doc.splices(&splices)?;
-    doc.list()
+    Ok(doc.list()?)
 }
 
 /// So many changes, each so far from the next.
@@ -137,7 +137,7 @@ fn change_at(alloc: Global, lo: usize) -> Result<Splice, Refusal> {
 fn revert<S: TextStore>(alloc: Global, doc: &mut Doc<S>) -> Result<(), Refusal> {
     let back = deleted(alloc, doc)?;
     let _ops = doc.revert(&[], &back)?;
-    doc.list()
+    Ok(doc.list()?)
 }
 
 /// Deletes all of the text. What was deleted.

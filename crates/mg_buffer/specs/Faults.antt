@@ -2,7 +2,7 @@
 use Rattle.std.specs.Prelude.{ℕ, true, length, Some, None, Result, Ok, Err}
 use Rattle.rga_ops.specs.Splice.{new_characters}
 use Rattle.rga_ops.specs.ListAnswer.{Verdict}
-use Rattle.rga_ops.specs.declared.refusal.Refusal.TheVariants.{Memory}
+use Rattle.rga_ops.specs.Prelude.{Memory}
 use Rattle.rga_doc.specs.LocalEdit.{edit_answer}
 use Rattle.mg_plain.specs.declared.outcome.Notice.{Notice}
 use Rattle.mg_plain.specs.declared.outcome.Notice.TheVariants.{NothingToUndo, Memory as NoMemory}

@@ -15,7 +15,7 @@ use crate::marker::{Marker, find, find_mark};
 use crate::memo::Memo;
 use mg_plain::{Kind, View};
 use rga_doc::Doc;
-use rga_ops::{Id, Op, Refusal};
+use rga_ops::{Id, Op, OutOfMemory};
 use rga_store::TextStore;
 use std::alloc::Global;
 use std::marker::Model;
@@ -123,9 +123,8 @@ impl<S: TextStore> Buffer<S> {
     /// Lists the text, the places of point and mark and the line of point, so that `view` and
     /// `line` find them. A command does so too. `Memory` alone.
     #[tactic(auto, using(crate::proofs::PlaceLaws::placed_within))]
-    pub fn list(&mut self) -> Result<(), Refusal>
+    pub fn list(&mut self) -> Result<(), OutOfMemory>
         ensures same { self.new ≡ self.old }
-        ensures memory { IfErr result (λ e. e ≡ Refusal.Memory) }
     {
         if self.listed {
             return Ok(());
@@ -139,10 +138,9 @@ impl<S: TextStore> Buffer<S> {
     }
 
     /// The text in UTF-8. Where it is at hand the store is not walked. `Memory` alone.
-    pub fn text_string(&self) -> Result<String, Refusal>
+    pub fn text_string(&self) -> Result<String, OutOfMemory>
         ensures ok { IfOk result
             (λ string. string_bytes string ≡ encode_utf8_all (text self.now.content)) }
-        ensures memory { IfErr result (λ e. e ≡ Refusal.Memory) }
     {
         if !self.listed {
             return self.doc.store().text_string(self.alloc);

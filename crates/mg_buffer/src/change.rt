@@ -2,7 +2,7 @@
 ghost use Rattle.std.specs.Prelude.{◌≡◌, ◌≤◌, length, IfOk, IfErr};
 ghost use Rattle.mg_buffer.specs.Groups.{past_of, point_after};
 
-use rga_ops::{Id, Op, Refusal};
+use rga_ops::{Id, Op, OutOfMemory};
 use rga_store::TextStore;
 use std::alloc::Global;
 use std::marker::Model;
@@ -27,9 +27,12 @@ impl Model for Change {
 
 impl Change {
     /// What operations do to what a store holds. `Memory` alone.
-    pub(crate) fn of<S: TextStore>(alloc: Global, store: &S, ops: &[Op]) -> Result<Change, Refusal>
+    pub(crate) fn of<S: TextStore>(
+        alloc: Global,
+        store: &S,
+        ops: &[Op],
+    ) -> Result<Change, OutOfMemory>
         ensures ok { IfOk result (λ g. g ≡ past_of (S.content store.now) ops.now) }
-        ensures memory { IfErr result (λ e. e ≡ Refusal.Memory) }
     {
         let gone = count_deletions(ops);
         let mut inserted = Vec::with_capacity(alloc, ops.len() - gone)?;

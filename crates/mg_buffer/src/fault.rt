@@ -1,9 +1,11 @@
 //! Why a command or an undo was refused.
 ghost use Rattle.std.specs.Prelude.{◌≡◌};
+ghost use Rattle.rga_ops.specs.Prelude.{Memory};
 ghost use Rattle.mg_buffer.specs.declared.fault.BufferFault.TheVariants.{Store as StoreFault};
 
 use mg_plain::Notice;
-use rga_ops::Refusal;
+use rga_ops::{OutOfMemory, Refusal};
+use std::alloc::AllocError;
 
 /// Why a command or an undo was refused. Nothing changed then.
 #[derive(Clone, Copy, PartialEq, Eq)]
@@ -22,7 +24,7 @@ impl From<Notice> for BufferFault {
 
     fn from(notice: Notice) -> BufferFault {
         match notice {
-            Notice::Memory => BufferFault::Store(Refusal::Memory),
+            Notice::Memory => BufferFault::Store(Refusal::from(AllocError)),
             _ => BufferFault::Notice(notice),
         }
     }
@@ -33,5 +35,13 @@ impl From<Refusal> for BufferFault {
 
     fn from(refusal: Refusal) -> BufferFault {
         BufferFault::Store(refusal)
+    }
+}
+
+impl From<OutOfMemory> for BufferFault {
+    ghost from_gives = { λ _ fault. fault ≡ StoreFault Memory };
+
+    fn from(memory: OutOfMemory) -> BufferFault {
+        BufferFault::Store(Refusal::Memory(memory))
     }
 }

@@ -8,7 +8,7 @@ ghost use Rattle.mg_buffer.specs.Restored.{Restores, latest, newest_restored, re
 use crate::change::Change;
 use crate::restored::{follow_change, follow_groups, is_any_restored, restore_all, shorten_all};
 use indexmap::IndexMap;
-use rga_ops::{Id, Op, Refusal};
+use rga_ops::{Id, Op, OutOfMemory};
 use std::alloc::Global;
 use std::marker::Model;
 
@@ -60,12 +60,11 @@ impl History {
 
     /// What the group at an index did, by what stands for its elements now. What it deleted is found
     /// at once from then on. `Memory` alone; groups stay.
-    pub(crate) fn change_at(&mut self, alloc: Global, index: usize) -> Result<Change, Refusal>
+    pub(crate) fn change_at(&mut self, alloc: Global, index: usize) -> Result<Change, OutOfMemory>
         requires { index < length self.old.pasts }
         ensures ok { IfOk result (λ change. change ≡ past_at self.old.pasts index) }
         ensures pasts { self.new.pasts ≡ self.old.pasts }
         ensures newest { newest_restored self.new ≡ newest_restored self.old }
-        ensures memory { IfErr result (λ e. e ≡ Refusal.Memory) }
     {
         shorten_all(&mut self.restored, &self.groups[index].deleted);
         follow_change(alloc, &self.restored, &self.groups[index])
@@ -78,14 +77,13 @@ impl History {
         alloc: Global,
         change: &Change,
         restores: usize,
-    ) -> Result<(), Refusal>
+    ) -> Result<(), OutOfMemory>
         ensures room { OnOk result (0 < self.new.room) }
         ensures entries { OnOk result (restores ≤ self.new.entries) }
         ensures settled { OnOk result
             ((substituted (latest self.new.restored) change.now).deleted ≡ change.now.deleted) }
         ensures pasts { self.new.pasts ≡ self.old.pasts }
         ensures newest { newest_restored self.new ≤ newest_restored self.old }
-        ensures memory { IfErr result (λ e. e ≡ Refusal.Memory) }
     {
         self.settle(alloc, &change.deleted)?;
         self.groups.reserve(1)?;
@@ -97,12 +95,11 @@ impl History {
     /// and what was restored is forgotten, so that nothing stands for that one. What is restored
     /// stays deleted, so no command should meet this. `Memory` alone; groups stay.
     #[tactic(auto, using(crate::proofs::RestoredLaws::none_restored))]
-    fn settle(&mut self, alloc: Global, deleted: &[(Id, char)]) -> Result<(), Refusal>
+    fn settle(&mut self, alloc: Global, deleted: &[(Id, char)]) -> Result<(), OutOfMemory>
         ensures settled { OnOk result
             (map (λ b. (latest self.new.restored b.0, b.1)) deleted.now ≡ deleted.now) }
         ensures pasts { self.new.pasts ≡ self.old.pasts }
         ensures newest { newest_restored self.new ≤ newest_restored self.old }
-        ensures memory { IfErr result (λ e. e ≡ Refusal.Memory) }
     {
         if !is_any_restored(&self.restored, deleted) {
             return Ok(());

@@ -5,7 +5,7 @@ ghost use Rattle.std.specs.Vec.{vec_len, vec_capacity};
 ghost use Rattle.mg_plain.specs.Kills.{is_kill, kill_after};
 
 use mg_plain::Kind;
-use rga_ops::Refusal;
+use rga_ops::OutOfMemory;
 
 /// Makes room for what a command puts in, where that goes behind what is there. `Memory` alone; the
 /// kill buffer stays.
@@ -14,11 +14,10 @@ pub(crate) fn make_room(
     last: Kind,
     kind: Kind,
     chars: &Option<Vec<char>>,
-) -> Result<(), Refusal>
+) -> Result<(), OutOfMemory>
     ensures items { kill.new.items ≡ kill.old.items }
     ensures room { OnOk result ((is_kill last && is_kill kind) ≡ true →
         vec_len kill.new + option_map_or vec_len chars.now 0 ≤ vec_capacity kill.new) }
-    ensures memory { IfErr result (λ e. e ≡ Refusal.Memory) }
 {
     if let Some(chars) = chars
         && goes_behind(last, kind)

@@ -9,7 +9,7 @@ ghost use Rattle.mg_buffer.specs.Restored.{AreFirst, AreRising, IsFirst, IsShort
 
 use crate::change::Change;
 use indexmap::IndexMap;
-use rga_ops::{Id, Op, Refusal};
+use rga_ops::{Id, Op, OutOfMemory};
 use std::alloc::Global;
 
 /// What stands for an element in the end.
@@ -49,10 +49,13 @@ fn shorten(restored: &mut IndexMap<Id, Id>, id: Id)
 }
 
 /// What stands for each element in the end. `Memory` alone.
-fn follow_all(alloc: Global, restored: &IndexMap<Id, Id>, ids: &[Id]) -> Result<Vec<Id>, Refusal>
+fn follow_all(
+    alloc: Global,
+    restored: &IndexMap<Id, Id>,
+    ids: &[Id],
+) -> Result<Vec<Id>, OutOfMemory>
     requires { AreRising restored.now.entries }
     ensures ok { IfOk result (λ last. last.items ≡ map (latest restored.now.entries) ids.now) }
-    ensures memory { IfErr result (λ e. e ≡ Refusal.Memory) }
 {
     let mut last = Vec::with_capacity(alloc, ids.len())?;
     for id in ids {
@@ -66,11 +69,10 @@ fn follow_deleted(
     alloc: Global,
     restored: &IndexMap<Id, Id>,
     deleted: &[(Id, char)],
-) -> Result<Vec<(Id, char)>, Refusal>
+) -> Result<Vec<(Id, char)>, OutOfMemory>
     requires { AreRising restored.now.entries }
     ensures ok { IfOk result
         (λ last. last.items ≡ map (λ b. (latest restored.now.entries b.0, b.1)) deleted.now) }
-    ensures memory { IfErr result (λ e. e ≡ Refusal.Memory) }
 {
     let mut last = Vec::with_capacity(alloc, deleted.len())?;
     for (id, ch) in deleted {
@@ -84,11 +86,10 @@ pub(crate) fn follow_change(
     alloc: Global,
     restored: &IndexMap<Id, Id>,
     group: &Change,
-) -> Result<Change, Refusal>
+) -> Result<Change, OutOfMemory>
     requires { AreRising restored.now.entries }
     ensures ok { IfOk result
         (λ change. change ≡ substituted (latest restored.now.entries) group.now) }
-    ensures memory { IfErr result (λ e. e ≡ Refusal.Memory) }
 {
     Ok(Change {
         inserted: follow_all(alloc, restored, &group.inserted)?,
@@ -101,11 +102,10 @@ pub(crate) fn follow_groups(
     alloc: Global,
     restored: &IndexMap<Id, Id>,
     groups: &[Change],
-) -> Result<Vec<Change>, Refusal>
+) -> Result<Vec<Change>, OutOfMemory>
     requires { AreRising restored.now.entries }
     ensures ok { IfOk result
         (λ last. last.items ≡ all_substituted (latest restored.now.entries) groups.now) }
-    ensures memory { IfErr result (λ e. e ≡ Refusal.Memory) }
 {
     let mut last = Vec::with_capacity(alloc, groups.len())?;
     for group in groups {

@@ -6,7 +6,7 @@ ghost use Rattle.mg_buffer.specs.Restored.{latest, newest_restored};
 
 use crate::change::Change;
 use crate::history::History;
-use rga_ops::{Op, Refusal};
+use rga_ops::{Op, OutOfMemory};
 use rga_store::TextStore;
 use std::alloc::Global;
 
@@ -20,7 +20,7 @@ pub(crate) fn prepare<S: TextStore>(
     unsaved: &mut Vec<Op>,
     ops: &[Op],
     restores: usize,
-) -> Result<Change, Refusal>
+) -> Result<Change, OutOfMemory>
     ensures change { IfOk result (λ change. change ≡ past_of (S.content store.now) ops.now) }
     ensures room { OnOk result (0 < history.new.room) }
     ensures entries { OnOk result (restores ≤ history.new.entries) }
@@ -31,7 +31,6 @@ pub(crate) fn prepare<S: TextStore>(
     ensures newest { newest_restored history.new ≤ newest_restored history.old }
     ensures same { (history.new.pasts ≡ history.old.pasts)
         × (unsaved.new.items ≡ unsaved.old.items) }
-    ensures memory { IfErr result (λ e. e ≡ Refusal.Memory) }
 {
     let change = Change::of(alloc, store, ops)?;
     unsaved.reserve(ops.len())?;

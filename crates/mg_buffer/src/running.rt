@@ -1,6 +1,6 @@
 //! Commands that run on a buffer.
 ghost use Rattle.std.specs.Prelude.{◌≡◌, ◌⊎◌, ◌≤◌, ◌++◌, true, Err, Ok, length, IfSome, IfOk, IfErr, OnOk, OnErr};
-ghost use Rattle.rga_ops.specs.Prelude.{text};
+ghost use Rattle.rga_ops.specs.Prelude.{text, Memory};
 ghost use Rattle.rga_ops.specs.Content.{clock_of, join, content_of};
 ghost use Rattle.rga_ops.specs.ListAnswer.{IsAnswer};
 ghost use Rattle.rga_ops.specs.Splice.{text_after};
@@ -12,7 +12,6 @@ ghost use Rattle.mg_buffer.specs.Kept.{IsLineOfPlace};
 ghost use Rattle.mg_buffer.specs.Ran.{Edited, Ran};
 ghost use Rattle.mg_buffer.specs.Sight.{command_call, effect_of_call};
 ghost use Rattle.mg_buffer.specs.Restored.{newest_restored};
-ghost use Rattle.rga_ops.specs.declared.refusal.Refusal.TheVariants.{Memory};
 ghost use Rattle.mg_buffer.specs.declared.fault.BufferFault.TheVariants.{Store};
 
 use crate::buffer::Buffer;
@@ -27,7 +26,7 @@ use mg_plain::{Command, Plan, plan};
 use rga_doc::Doc;
 use rga_ops::{Op, Refusal, Splice};
 use rga_store::TextStore;
-use std::alloc::Global;
+use std::alloc::{AllocError, Global};
 
 impl<S: TextStore> Buffer<S> {
     /// Runs a command with its argument and the fill column: the text, point, mark and the memo
@@ -85,7 +84,7 @@ impl<S: TextStore> Buffer<S> {
     {
         self.list()?;
         let Some(view) = self.view(memo) else {
-            return Err(BufferFault::Store(Refusal::Memory));
+            return Err(BufferFault::Store(Refusal::from(AllocError)));
         };
         Ok(plan(self.alloc, command, arg, &view, fill)?)
     }

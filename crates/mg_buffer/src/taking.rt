@@ -4,7 +4,7 @@ ghost use Rattle.rga_ops.specs.Answer.{answer};
 ghost use Rattle.rga_ops.specs.Content.{join, content_of, single};
 ghost use Rattle.rga_ops.specs.ListAnswer.{all_checked, early_conflict, list_answer};
 ghost use Rattle.rga_ops.specs.NewOperations.{new_operations};
-ghost use Rattle.rga_ops.specs.declared.refusal.Refusal.TheVariants.{Memory};
+ghost use Rattle.rga_ops.specs.Prelude.{Memory};
 ghost use Rattle.rga_ops.specs.declared.refusal.Taken.TheVariants.{New};
 
 use crate::buffer::Buffer;

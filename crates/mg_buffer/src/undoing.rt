@@ -11,7 +11,7 @@ ghost use Rattle.mg_buffer.specs.Groups.{all_substituted, group_to_undo, past_at
 ghost use Rattle.mg_buffer.specs.Kept.{IsLineOfPlace};
 ghost use Rattle.mg_buffer.specs.Restored.{newest_restored};
 ghost use Rattle.mg_buffer.specs.Undid.{Reverted, Undid};
-ghost use Rattle.rga_ops.specs.declared.refusal.Refusal.TheVariants.{Memory};
+ghost use Rattle.rga_ops.specs.Prelude.{Memory};
 ghost use Rattle.mg_buffer.specs.declared.fault.BufferFault.TheVariants.{Store};
 
 use crate::buffer::Buffer;

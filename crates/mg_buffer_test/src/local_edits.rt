@@ -54,7 +54,7 @@ pub fn take_letters<S: TextStore>(
 ) -> Result<(), Refusal> {
     let splices = letters(alloc, places)?;
     let ops = doc.draft(&splices)?;
-    doc.take(&splices, &ops)
+    Ok(doc.take(&splices, &ops)?)
 }
 
 #[test]

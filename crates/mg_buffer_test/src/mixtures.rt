@@ -5,7 +5,7 @@ use mg_plain::{Command, Notice, View, plan};
 use rga_ops::{Refusal, Splice};
 use rga_store::{Taker, TextStore};
 use rga_tree::TreeStore;
-use std::alloc::Global;
+use std::alloc::{AllocError, Global};
 use test_fixtures::Random;
 
 /// A text with two places, which the plans of commands edit.
@@ -20,7 +20,7 @@ struct Plain {
 fn shown<S: TextStore>(s: &mut Session<S>) -> Result<Plain, Refusal> {
     s.buffer.list()?;
     let Some(view) = s.buffer.view(&s.memo) else {
-        return Err(Refusal::Memory);
+        return Err(Refusal::from(AllocError));
     };
     Ok(Plain {
         text: Vec::from_slice(s.alloc, view.text)?,

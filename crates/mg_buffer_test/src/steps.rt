@@ -125,5 +125,5 @@ fn walk_copy_over<S: TextStore, R: Abort>(rt: &R, alloc: Global, held: Held, ste
 }
 
 fn copied<S: TextStore>(alloc: Global, held: Held) -> Result<Doc<S>, Refusal> {
-    document::<S>(alloc, held)?.copy()
+    Ok(document::<S>(alloc, held)?.copy()?)
 }

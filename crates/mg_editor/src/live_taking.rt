@@ -1,7 +1,7 @@
 //! What buffers take while the editor is at work: operations of others, and splices.
 ghost use Rattle.std.specs.Prelude.{◌≡◌, ◌≢◌, ◌<◌, [], ◌∷◌, None, Ok, Err, length, IfSome, OnOk, OnErr};
 ghost use Rattle.std.specs.Option.{option_and_then};
-ghost use Rattle.rga_ops.specs.Prelude.{all_checked, answer, list_answer};
+ghost use Rattle.rga_ops.specs.Prelude.{all_checked, answer, list_answer, Memory};
 ghost use Rattle.rga_ops.specs.ListAnswer.{early_conflict};
 ghost use Rattle.mg_buffer.specs.Following.{TakesOperations};
 ghost use Rattle.mg_buffer.specs.Sight as sight;
@@ -136,10 +136,10 @@ impl<S: TextStore> Editor<S> {
     /// nothing. `Known` and every refusal but `Memory` take no memory.
     pub fn take_operation(&mut self, index: usize, op: Op) -> Result<Taken, Refusal>
         requires { index < length self.old.work.buffers.all }
-        ensures exact { let b = state_at index self.old.work in result ≢ Err Refusal.Memory →
+        ensures exact { let b = state_at index self.old.work in result ≢ Err Memory →
             result ≡ answer b.limit b.content op }
         ensures memory { let b = state_at index self.old.work in
-            result ≡ Err Refusal.Memory → answer b.limit b.content op ≡ Ok Taken.New }
+            result ≡ Err Memory → answer b.limit b.content op ≡ Ok Taken.New }
         ensures taken { OnOk result (self.new ≡ spec.taking index (op ∷ []) self.old) }
         ensures follows { OnOk result (TakesOperations
             (state_at index self.old.work) (op ∷ []) (state_at index self.new.work)) }
@@ -159,11 +159,11 @@ impl<S: TextStore> Editor<S> {
     /// anew. A refusal changes nothing.
     pub fn take_operations(&mut self, index: usize, ops: &[Op]) -> Result<(), Refusal>
         requires { index < length self.old.work.buffers.all }
-        ensures exact { let b = state_at index self.old.work in result ≢ Err Refusal.Memory →
+        ensures exact { let b = state_at index self.old.work in result ≢ Err Memory →
             result ≡ list_answer b.limit b.content ops.now }
-        ensures memory { result ≡ Err Refusal.Memory → all_checked ops.now ≡ Ok tt }
+        ensures memory { result ≡ Err Memory → all_checked ops.now ≡ Ok tt }
         ensures early { let b = state_at index self.old.work in
-            result ≡ Err Refusal.Memory → early_conflict b.content ops.now ≡ None }
+            result ≡ Err Memory → early_conflict b.content ops.now ≡ None }
         ensures taken { OnOk result (self.new ≡ spec.taking index ops.now self.old) }
         ensures follows { OnOk result (TakesOperations
             (state_at index self.old.work) ops.now (state_at index self.new.work)) }

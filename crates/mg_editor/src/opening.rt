@@ -13,7 +13,7 @@ use mg_minibuffer::{Dialogue, Message};
 use mg_screen::Settings;
 use mg_workspace::Workspace;
 use rga_exchange::LogEnd;
-use rga_ops::Refusal;
+use rga_ops::OutOfMemory;
 use rga_store::TextStore;
 use std::alloc::Global;
 
@@ -74,9 +74,8 @@ impl<S: TextStore> Editor<S> {
     }
 
     /// The text of the current buffer. `Memory` alone.
-    pub fn text(&self) -> Result<Vec<char>, Refusal>
+    pub fn text(&self) -> Result<Vec<char>, OutOfMemory>
         ensures text { IfOk result (λ chars. chars.items ≡ spec.current_text self.now) }
-        ensures memory { IfErr result (λ e. e ≡ Refusal.Memory) }
     {
         self.work.current().buffer.store().text(self.alloc)
     }

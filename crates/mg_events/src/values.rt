@@ -9,7 +9,7 @@ ghost use Rattle.mg_events.specs.Reports as spec;
 use crate::report::{Places, Report};
 use mg_plain::Chars;
 use rga_lines::{Line, LineFault, characters, line_of, parent_of};
-use rga_ops::Id;
+use rga_ops::{Id, OutOfMemory};
 use serde_json::Value;
 use std::alloc::Global;
 
@@ -170,9 +170,8 @@ fn are_arrays(items: &[Value]) -> bool
 }
 
 /// The identifiers. `None` if one of them is none.
-fn places_of(alloc: Global, items: &[Value]) -> Result<Option<Vec<Id>>, LineFault>
+fn places_of(alloc: Global, items: &[Value]) -> Result<Option<Vec<Id>>, OutOfMemory>
     ensures ok { IfOk result (λ o. spec.ids_in o ≡ spec.places_of (items_view items.now)) }
-    ensures memory { IfErr result (λ e. e ≡ Memory) }
 {
     let mut all = Vec::new(alloc);
     let mut rest = items;

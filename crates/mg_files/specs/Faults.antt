@@ -13,5 +13,5 @@ load_fault receive.Memory = Memory
 load_fault fault = Log fault
 
 abbrev pub store_fault : Refusal → LoadFault
-store_fault refusal.Memory = Memory
+store_fault (refusal.Memory _) = Memory
 store_fault fault = Store fault

@@ -8,7 +8,7 @@ use crate::fault::ExchangeFault;
 use mg_buffer::VisitedBuffer;
 use rga_brief::{Summary, hear_summary, send_lines, summary_lines};
 use rga_exchange::{Counted, SendFault};
-use rga_ops::Refusal;
+use rga_ops::OutOfMemory;
 use rga_store::Teller;
 use std::alloc::Global;
 use std::io::{Read, Write};
@@ -53,14 +53,17 @@ pub(crate) fn answer<S: Teller, L: Read + Write>(
 }
 
 /// What a buffer holds in short, as lines. `Memory` alone.
-fn own_lines<S: Teller>(alloc: Global, opened: &VisitedBuffer<S>) -> Result<Vec<u8>, Refusal>
+fn own_lines<S: Teller>(alloc: Global, opened: &VisitedBuffer<S>) -> Result<Vec<u8>, OutOfMemory>
     ensures { IfOk result (λ lines. IsTold lines.items opened.now.buffer.content) }
 {
     summary_lines(alloc, opened.buffer.store())
 }
 
 /// Tells what a buffer holds in short, by these lines, if there was memory for them.
-fn say<L: Write>(lines: Result<Vec<u8>, Refusal>, writer: &mut Counted<L>) -> Result<(), SendFault>
+fn say<L: Write>(
+    lines: Result<Vec<u8>, OutOfMemory>,
+    writer: &mut Counted<L>,
+) -> Result<(), SendFault>
     ensures { (c : Content) → IfOk lines (λ lines. IsTold lines.items c)
         → SaysOver L.contents writer.old writer.new result c }
 {

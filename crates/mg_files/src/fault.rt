@@ -39,7 +39,7 @@ impl From<Refusal> for LoadFault {
 
     fn from(e: Refusal) -> LoadFault {
         match e {
-            Refusal::Memory => LoadFault::Memory,
+            Refusal::Memory(_) => LoadFault::Memory,
             _ => LoadFault::Store(e),
         }
     }

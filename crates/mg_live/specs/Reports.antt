@@ -9,6 +9,7 @@ use Rattle.rga_ops.specs.ListAnswer.{list_answer}
 use Rattle.rga_ops.specs.declared.op.Op.{Op}
 use Rattle.rga_ops.specs.declared.op.Op.TheVariants.{Insert, Delete}
 use Rattle.rga_ops.specs.declared.refusal.Refusal.{Refusal}
+use Rattle.rga_ops.specs.Memory.{Memory}
 use Rattle.rga_ops.specs.declared.refusal.Refusal.TheVariants as refusal
 use Rattle.rga_ops.specs.declared.refusal.Taken.{Taken}
 use Rattle.rga_ops.specs.declared.refusal.Taken.TheVariants.{New}
@@ -66,13 +67,13 @@ with_taken live = record live { telling = record live.telling { took = true } }
 
 -- the buffer at an index takes an operation, and answers; want of memory comes last
 pub record TakesOperation (op : Op) (i : ℕ) (e : Editor) (r : Result Taken Refusal) (f : Editor) : Type 0 where
-  pub exact : r ≢ Err refusal.Memory → r ≡ answer (state_at i e.work).limit (state_at i e.work).content op
-  pub memory : r ≡ Err refusal.Memory → answer (state_at i e.work).limit (state_at i e.work).content op ≡ Ok New
+  pub exact : r ≢ Err Memory → r ≡ answer (state_at i e.work).limit (state_at i e.work).content op
+  pub memory : r ≡ Err Memory → answer (state_at i e.work).limit (state_at i e.work).content op ≡ Ok New
   pub left : MatchResult r (λ _. f ≡ taking i (op ∷ []) e) (λ _. f ≡ e)
 
 -- and all operations of a list, or none of them
 pub record TakesList (ops : List Op) (i : ℕ) (e : Editor) (r : Result (Unit {0}) Refusal) (f : Editor) : Type 0 where
-  pub exact : r ≢ Err refusal.Memory → r ≡ list_answer (state_at i e.work).limit (state_at i e.work).content ops
+  pub exact : r ≢ Err Memory → r ≡ list_answer (state_at i e.work).limit (state_at i e.work).content ops
   pub left : MatchResult r (λ _. f ≡ taking i ops e) (λ _. f ≡ e)
 
 -- Operations are taken by the live buffer, where it is open and none is too far ahead, as the buffer answers.

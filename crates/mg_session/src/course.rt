@@ -42,16 +42,6 @@ pub fn course_answer(course: Course) -> Result<(), SessionFault>
     }
 }
 
-/// What a save or an exchange is answered by that failed, and stands.
-fn failure_answer(first: Option<Failure>) -> Result<(), SessionFault>
-    ensures { result ≡ spec.failure_answer first }
-{
-    match first {
-        Some(why) => Err(SessionFault::Failed(why)),
-        None => Ok(()),
-    }
-}
-
 /// What a session is answered by in the end, which may be strict. Its own fault comes first.
 pub fn session_answer(
     strict: bool,
@@ -60,8 +50,9 @@ pub fn session_answer(
 ) -> Result<(), SessionFault>
     ensures { result ≡ spec.session_answer strict first course }
 {
-    match course_answer(course) {
-        Ok(()) if strict => failure_answer(first),
-        other => other,
+    course_answer(course)?;
+    match first {
+        Some(why) if strict => Err(SessionFault::Failed(why)),
+        _ => Ok(()),
     }
 }

@@ -1,7 +1,7 @@
 //! Frames, as they are written.
-ghost use Rattle.std.specs.Prelude.{◌≡◌, ◌⊎◌, ◌∷◌, ◌++◌, [], map, string_bytes, true, None, OnOk, IfSome, OnSome};
+ghost use Rattle.std.specs.Prelude.{◌≡◌, ◌⊎◌, ◌++◌, map, string_bytes, true, None, OnOk, IfSome, OnSome};
 ghost use Rattle.rga_exchange.specs.Counting.{Counts, Writes, WritesFront};
-ghost use Rattle.rga_lines.specs.Stream.{newline, bytes_of_lines};
+ghost use Rattle.rga_lines.specs.Stream.{bytes_of_lines};
 ghost use Rattle.mg_editor.specs.Frames.{placed_editor};
 ghost use Rattle.mg_session.specs.Display as spec;
 ghost use Rattle.mg_session.specs.Moments.{ToldCalls, seen, moment};
@@ -28,22 +28,14 @@ pub(crate) fn follows_session(trace: bool, course: Course) -> bool
     !trace && course_answer(course).is_ok()
 }
 
-/// Adds a row, with a newline after it.
-fn push_row(bytes: &mut Vec<u8>, row: &str) -> Result<(), AllocError>
-    ensures { OnOk result (bytes.new.items ≡ bytes.old.items ++ (row.now ++ newline ∷ [])) }
-{
-    bytes.extend_from_slice(row.as_bytes())?;
-    bytes.push(b'\n')?;
-    Ok(())
-}
-
 /// Adds the rows, each with a newline after it.
 pub fn push_rows(bytes: &mut Vec<u8>, rows: &[String]) -> Result<(), AllocError>
     ensures { OnOk result (bytes.new.items
         ≡ bytes.old.items ++ bytes_of_lines (map string_bytes rows.now)) }
 {
     for row in rows {
-        push_row(bytes, row.as_str())?;
+        bytes.extend_from_slice(row.as_bytes())?;
+        bytes.push(b'\n')?;
     }
     Ok(())
 }

@@ -1,7 +1,7 @@
 -- What the current buffer answered, as what came of it in the workspace.
 use Rattle.std.proofs.Common.{◌≡◌, ◌⊎◌, Ok, Err, OnOk, OnErr, is_ok, true≢false, inl, inr, refl, sym, ap, subst, ◌∙◌}
 use Rattle.std.proofs.lemmas.List.{set-get_or}
-use Rattle.rga_ops.specs.declared.refusal.Refusal.TheVariants.{Memory as Lacks}
+use Rattle.rga_ops.specs.Prelude.{Memory as Lacks}
 use Rattle.mg_buffer.specs.declared.fault.BufferFault.TheVariants.{Store}
 use Rattle.mg_buffer.specs.Faults.{FaultVerdict}
 use Rattle.mg_buffer.specs.Sight.{Notes}

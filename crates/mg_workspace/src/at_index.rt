@@ -1,6 +1,6 @@
 //! The buffer at an index: it takes operations from elsewhere, or runs a command.
 ghost use Rattle.std.specs.Prelude.{◌≡◌, ◌≢◌, ◌<◌, [], ◌∷◌, None, Ok, Err, length, IfSome, OnOk, OnErr};
-ghost use Rattle.rga_ops.specs.Prelude.{all_checked, answer, list_answer};
+ghost use Rattle.rga_ops.specs.Prelude.{all_checked, answer, list_answer, Memory};
 ghost use Rattle.rga_ops.specs.ListAnswer.{early_conflict};
 ghost use Rattle.mg_workspace.specs.AtIndex as spec;
 ghost use Rattle.mg_workspace.specs.Names.{buffer_named};
@@ -32,9 +32,9 @@ impl<S: TextStore> Workspace<S> {
     /// `apply`. Nothing else changes, and a refusal changes nothing.
     pub fn take_at(&mut self, index: usize, op: Op) -> Result<Taken, Refusal>
         requires { index < length self.old.buffers.all }
-        ensures exact { let b = spec.state_at index self.old in result ≢ Err Refusal.Memory →
+        ensures exact { let b = spec.state_at index self.old in result ≢ Err Memory →
             result ≡ answer b.limit b.content op }
-        ensures memory { let b = spec.state_at index self.old in result ≡ Err Refusal.Memory →
+        ensures memory { let b = spec.state_at index self.old in result ≡ Err Memory →
             answer b.limit b.content op ≡ Ok Taken.New }
         ensures taken { OnOk result
             (self.new ≡ spec.with_operations_at index (op ∷ []) self.old) }
@@ -48,10 +48,10 @@ impl<S: TextStore> Workspace<S> {
     /// `Buffer`'s `apply_all`. Nothing else changes, and a refusal changes nothing.
     pub fn take_all_at(&mut self, index: usize, ops: &[Op]) -> Result<(), Refusal>
         requires { index < length self.old.buffers.all }
-        ensures exact { let b = spec.state_at index self.old in result ≢ Err Refusal.Memory →
+        ensures exact { let b = spec.state_at index self.old in result ≢ Err Memory →
             result ≡ list_answer b.limit b.content ops.now }
-        ensures memory { result ≡ Err Refusal.Memory → all_checked ops.now ≡ Ok tt }
-        ensures early { let b = spec.state_at index self.old in result ≡ Err Refusal.Memory →
+        ensures memory { result ≡ Err Memory → all_checked ops.now ≡ Ok tt }
+        ensures early { let b = spec.state_at index self.old in result ≡ Err Memory →
             early_conflict b.content ops.now ≡ None }
         ensures taken { OnOk result
             (self.new ≡ spec.with_operations_at index ops.now self.old) }

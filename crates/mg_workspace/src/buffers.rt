@@ -6,7 +6,7 @@ ghost use Rattle.mg_workspace.specs.Buffers as spec;
 ghost use Rattle.mg_workspace.specs.Names as names;
 
 use mg_buffer::{Memo, VisitedBuffer};
-use rga_ops::Refusal;
+use rga_ops::OutOfMemory;
 use rga_store::TextStore;
 use std::alloc::{AllocError, Global};
 use std::marker::Model;
@@ -156,18 +156,16 @@ impl<S: TextStore> Buffers<S> {
     }
 
     /// Lists the buffer at an index. `Memory` alone.
-    pub fn list_at(&mut self, index: usize) -> Result<(), Refusal>
+    pub fn list_at(&mut self, index: usize) -> Result<(), OutOfMemory>
         requires { index < length self.old.all }
         ensures same { self.new ≡ self.old }
-        ensures memory { IfErr result (λ e. e ≡ Refusal.Memory) }
     {
         self.all[index].buffer.list()
     }
 
     /// Lists all buffers. `Memory` alone.
-    pub fn list_all(&mut self) -> Result<(), Refusal>
+    pub fn list_all(&mut self) -> Result<(), OutOfMemory>
         ensures same { self.new ≡ self.old }
-        ensures memory { IfErr result (λ e. e ≡ Refusal.Memory) }
     {
         for index in 0..self.all.as_slice().len() {
             self.list_at(index)?;

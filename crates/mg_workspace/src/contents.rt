@@ -7,7 +7,7 @@ use crate::arranging::viewport_at;
 use crate::viewport::Viewport;
 use crate::workspace::Workspace;
 use mg_screen::Windows;
-use rga_ops::Refusal;
+use rga_ops::OutOfMemory;
 use rga_store::TextStore;
 
 /// The index of the buffer that the window at an index shows.
@@ -22,10 +22,9 @@ fn buffer_at(windows: &Windows<Viewport>, window: usize) -> usize
 impl<S: TextStore> Workspace<S> {
     /// Lists the buffer at an index: its text and the places of its point and mark are then at hand.
     /// `Memory` alone.
-    pub fn list_at(&mut self, index: usize) -> Result<(), Refusal>
+    pub fn list_at(&mut self, index: usize) -> Result<(), OutOfMemory>
         requires { index < length self.old.buffers.all }
         ensures same { self.new ≡ self.old }
-        ensures memory { IfErr result (λ e. e ≡ Refusal.Memory) }
     {
         self.buffers.list_at(index)
     }

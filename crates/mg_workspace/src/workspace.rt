@@ -12,7 +12,7 @@ use crate::viewport::Viewport;
 use mg_buffer::{Memo, VisitedBuffer};
 use mg_minibuffer::Scene;
 use mg_screen::{Settings, Windows};
-use rga_ops::Refusal;
+use rga_ops::OutOfMemory;
 use rga_store::TextStore;
 use std::alloc::{AllocError, Global};
 use std::marker::Model;
@@ -184,18 +184,16 @@ impl<S: TextStore> Workspace<S> {
 
     /// Lists the current buffer: its text and the places of point and mark are then at hand.
     /// `Memory` alone.
-    pub fn list(&mut self) -> Result<(), Refusal>
+    pub fn list(&mut self) -> Result<(), OutOfMemory>
         ensures same { self.new ≡ self.old }
-        ensures memory { IfErr result (λ e. e ≡ Refusal.Memory) }
     {
         let index = self.buffers.current_index();
         self.buffers.list_at(index)
     }
 
     /// Lists all buffers. `Memory` alone.
-    pub fn list_all(&mut self) -> Result<(), Refusal>
+    pub fn list_all(&mut self) -> Result<(), OutOfMemory>
         ensures same { self.new ≡ self.old }
-        ensures memory { IfErr result (λ e. e ≡ Refusal.Memory) }
     {
         self.buffers.list_all()
     }

@@ -35,7 +35,7 @@ line_status line.Memory = 4
 line_status fault = 1
 
 abbrev pub refusal_status : Refusal → ℕ
-refusal_status refusal.Memory = 4
+refusal_status (refusal.Memory _) = 4
 refusal_status refusal = 1
 
 abbrev pub log_status : ReceiveFault → ℕ
@@ -105,7 +105,7 @@ line_message number line.Memory = codes "out of memory"
 line_message number fault = line_report number (fault_name fault)
 
 abbrev pub refused_message : ℕ → Refusal → List ℕ
-refused_message number refusal.Memory = codes "out of memory"
+refused_message number (refusal.Memory _) = codes "out of memory"
 refused_message number refusal = line_report number (refusal_name refusal)
 
 abbrev pub log_message : ReceiveFault → List ℕ
@@ -117,7 +117,7 @@ log_message receive.Read = codes "device fault"
 log_message receive.Memory = codes "out of memory"
 
 abbrev pub store_message : Refusal → List ℕ
-store_message refusal.Memory = codes "out of memory"
+store_message (refusal.Memory _) = codes "out of memory"
 store_message refusal = codes "text: " ++ refusal_name refusal
 
 abbrev pub load_message : LoadFault → List ℕ
@@ -158,7 +158,7 @@ claim_message number line.Memory = codes "out of memory"
 claim_message number fault = codes "claims: line " ++ (decimal number ++ (codes ": " ++ fault_name fault))
 
 abbrev pub refused_claim_message : ℕ → Refusal → List ℕ
-refused_claim_message number refusal.Memory = codes "out of memory"
+refused_claim_message number (refusal.Memory _) = codes "out of memory"
 refused_claim_message number refusal = codes "claims: line " ++ (decimal number ++ (codes ": " ++ refusal_name refusal))
 
 abbrev pub claims_message : ReceiveFault → List ℕ

@@ -92,7 +92,7 @@ impl Report {
     {
         match fault {
             ReceiveFault::Line(_, LineFault::Memory)
-            | ReceiveFault::Refused(_, Refusal::Memory)
+            | ReceiveFault::Refused(_, Refusal::Memory(_))
             | ReceiveFault::Memory => Report::MEMORY,
             ReceiveFault::Line(line, fault) => refused(Message::Claim(line, fault.name())),
             ReceiveFault::Refused(line, refusal) => refused(Message::Claim(line, refusal.name())),
@@ -114,7 +114,7 @@ impl Report {
             LoadFault::Log(ReceiveFault::Count) => refused(Message::File("log", "Count")),
             LoadFault::Log(ReceiveFault::Read) => Report::DEVICE,
             LoadFault::Log(ReceiveFault::Memory)
-            | LoadFault::Store(Refusal::Memory)
+            | LoadFault::Store(Refusal::Memory(_))
             | LoadFault::Memory => Report::MEMORY,
             LoadFault::NotText => refused(Message::File("text", "not UTF-8")),
             LoadFault::Store(refusal) => refused(Message::File("text", refusal.name())),
@@ -168,7 +168,7 @@ fn of_refused(line: u64, refusal: Refusal) -> Report
     ensures text { spec.report_text result.message ≡ spec.refused_message line refusal }
 {
     match refusal {
-        Refusal::Memory => Report::MEMORY,
+        Refusal::Memory(_) => Report::MEMORY,
         _ => refused(Message::Line(line, refusal.name())),
     }
 }

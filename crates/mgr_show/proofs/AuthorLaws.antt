@@ -5,7 +5,7 @@ use Rattle.std.specs.Option.{option_map}
 use Rattle.std.specs.List.{filter_map, flat_map, zip, prefix_len, slice_get, AllByRecursion}
 use Rattle.std.specs.FinMap as finite_map
 use Rattle.std.proofs.lemmas.Bool.Decides.{nat_tests}
-use Rattle.std.proofs.lemmas.Option.{same_Some, none-some}
+use Rattle.std.proofs.lemmas.Option.{none-some}
 use Rattle.rga_ops.specs.Identifier.{Identifier}
 use Rattle.rga_ops.specs.Content.{Element, Content}
 use Rattle.rga_ops.specs.RootPath.{is_complete}
@@ -66,16 +66,9 @@ peel r ch (y ∷ ys) = elim (y.0 == r) as (λ b. (y.0 == r) ≡ b → before_pie
 ] refl
 
 peeled : (x : Authored) (xs : List Authored) → pieces (x ∷ xs) ≡ piece x.0 (characters (take (prefix_len (is_of x.0) (x ∷ xs)) (x ∷ xs))) ∷ pieces (drop (prefix_len (is_of x.0) (x ∷ xs)) (x ∷ xs))
-peeled x xs =
-    let n : ℕ = prefix_len (is_of x.0) xs in
-    let all : prefix_len (is_of x.0) (x ∷ xs) ≡ suc n = ap (λ b. cond b (1 + n) 0) (own_replica x.0) ∙ one_plus n in
-    peel x.0 x.1 xs ∙ ap (λ m. piece x.0 (characters (take m (x ∷ xs))) ∷ pieces (drop m (x ∷ xs))) (sym all)
+peeled x xs = rw (own_replica, one_plus) (peel x.0 x.1 xs)
 
 -- what is made of the pieces: the first one, and then those of the characters that are left
 pub first_piece : (f : Piece → List ℕ) (xs : List Authored) (x : Authored) (n : ℕ) → Some x ≡ slice_get xs 0 → n ≡ prefix_len (is_of x.0) xs → f (piece x.0 (characters (take n xs))) ++ flat_map f (pieces (drop n xs)) ≡ flat_map f (pieces xs)
 first_piece f [] x n first is = absurd (none-some _ (sym first))
-first_piece f (y ∷ ys) x n first is =
-    let same : x ≡ y = same_Some x y first in
-    let long : n ≡ prefix_len (is_of y.0) (y ∷ ys) = is ∙ ap (λ (z : Authored). prefix_len (is_of z.0) (y ∷ ys)) same in
-    (λ k. f (piece (same k).0 (characters (take (long k) (y ∷ ys)))) ++ flat_map f (pieces (drop (long k) (y ∷ ys))))
-    ∙ ap (flat_map f) (sym (peeled y ys))
+first_piece f (y ∷ ys) x n first is = grind (arith, first, is, peeled y ys)

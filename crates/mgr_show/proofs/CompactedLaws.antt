@@ -32,8 +32,3 @@ module _ {W : Type 0} (contents : W → Option (List ℕ)) where
   begins_to_compact None old new dels runs c h is w = tt
   begins_to_compact (Some bytes) old new dels runs c h is w =
       inr (record { accepted = h.accepted; begun = subst (WritesFront contents old new) (λ k. compact_text (is k) (h.is k)) w })
-
--- what holds at any answer holds where it is a fault
-pub on_err : {A E : Type 0} {P : Type 0} (r : Result A E) → P → OnErr r P
-on_err (Ok a) p = tt
-on_err (Err e) p = p

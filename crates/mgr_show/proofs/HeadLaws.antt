@@ -31,8 +31,8 @@ begins_with_it bytes rest h = by (bytes_eq (take (length head_text) bytes) head_
         ∙ ap (λ l. head_text ++ l) (same_Some (drop (length head_text) bytes) rest g)
     by false same g = absurd (none-some rest g)
 
-pub head-iff : (bytes rest : List ℕ) → (after_head bytes ≡ Some rest) ↔ (bytes ≡ head_text ++ rest)
-head-iff bytes rest = (begins_with_it bytes rest, λ is. ap after_head is ∙ after_its_head rest)
+pub head_exactly : (bytes rest : List ℕ) → (after_head bytes ≡ Some rest) ↔ (bytes ≡ head_text ++ rest)
+head_exactly bytes rest = (begins_with_it bytes rest, λ is. ap after_head is ∙ after_its_head rest)
 
 -- ---- what is heard
 

@@ -41,8 +41,7 @@ none_in : {X : Type 0} (y : X) → Contains [] y → ⊥
 none_in y (k, within, e) = omega (arith, within)
 
 first_or_later : {X : Type 0} (x y : X) (xs : List X) → Contains (x ∷ xs) y → (x ≡ y) ⊎ Contains xs y
-first_or_later x y xs (zero, within, e) = inl e
-first_or_later x y xs (suc k, within, e) = inr (k, omega (arith, within), e)
+first_or_later x y xs h = grind (arith, h)
 
 -- an operation of one log is one of all
 in_all : (logs : List (List ℕ)) (log : List ℕ) (op : Op) → Contains logs log → Contains (log_operations log) op → Contains (all_operations logs) op
@@ -182,17 +181,10 @@ is_first_refused limit n c (first ∷ logs) e h = by_first (shown_from limit c f
         record { before = []; log = first; later = logs; split = refl; content = c; joined = refl; why = x; refused = is; named = named ∙ ap (λ k. join.Log k x) (omega arith) }
 
 joined_append : (limit n : ℕ) (c d : Content) (xs ys : List (List ℕ)) → joined_from limit n c xs ≡ Ok d → joined_from limit n c (xs ++ ys) ≡ joined_from limit (n + length xs) d ys
-joined_append limit n c d [] ys h =
-    let same : joins_to c ≡ joins_to d = h in
-    let is : c ≡ d = cc in
-    let k : n ≡ n + 0 = omega arith in
-    (λ j. joined_from limit (k j) (is j) ys)
+joined_append limit n c d [] ys h = grind (arith, h)
 joined_append limit n c d (first ∷ xs) ys h =
     let w = first_joined limit n c d first xs h in
-    let k : n + 1 + length xs ≡ n + length (first ∷ xs) = omega arith in
-    ap (λ r. then_joined n r (λ e. joined_from limit (n + 1) e (xs ++ ys))) w.1
-    ∙ joined_append limit (n + 1) w.0 d xs ys w.2
-    ∙ ap (λ m. joined_from limit m d ys) k
+    grind (arith, w.1, joined_append limit (n + 1) w.0 d xs ys w.2)
 
 first_refused-iff : (limit n : ℕ) (c : Content) (logs : List (List ℕ)) (e : JoinFault) → (joined_from limit n c logs ≡ Err e) ↔ IsFirstRefused limit n c logs e
 first_refused-iff limit n c logs e = (

@@ -1,5 +1,5 @@
 -- What is written of accepted logs that are joined.
-use Rattle.std.proofs.Common.{◌≡◌, ℕ, ◌+◌, Bool, true, false, List, [], ◌∷◌, Option, Some, None, Result, Ok, Err, refl, ap, subst, ◌∙◌, inl, inr}
+use Rattle.std.proofs.Common.{◌≡◌, ℕ, ◌+◌, Bool, true, false, List, [], ◌∷◌, Option, Some, None, Result, Ok, Err, refl, ap, subst, ◌∙◌, inl, inr, arith}
 use Rattle.std.specs.Prelude.{IfErr, IfSome, ◌⊎◌, if◌then◌else◌}
 use Rattle.std.specs.List.{list_any}
 use Rattle.rga_ops.specs.Content.{Content, nothing, content_of}
@@ -35,15 +35,8 @@ near_joined c far is = ap (λ b. far_or b c) is
 
 -- what is joined was taken, and no counter is far
 pub joined_near : (r : JoinOutcome) (c : Content) → unless_far r ≡ Ok c → (r ≡ Ok c) × (has_far_counter c ≡ false)
-joined_near (Err e) c h = let clash : stops_at e ≡ joins_to c = h in absurd cc
-joined_near (Ok d) c h = by_far (has_far_counter d) refl h
-  where
-    by_far : (far : Bool) → has_far_counter d ≡ far → far_or far d ≡ Ok c → (joins_to d ≡ Ok c) × (has_far_counter c ≡ false)
-    by_far true is g = let clash : stops_at join.Far ≡ joins_to c = g in absurd cc
-    by_far false is g =
-        let same : joins_to d ≡ joins_to c = g in
-        let one : d ≡ c = cc in
-        (g, subst (λ e. has_far_counter e ≡ false) one is)
+joined_near (Err e) c h = grind (arith, h)
+joined_near (Ok d) c h = grind (arith, h)
 
 -- All was taken, and a counter is far.
 pub record IsTakenFar (r : JoinOutcome) (e : JoinFault) : Type 0 where
@@ -75,10 +68,7 @@ first_joined limit n c d bytes logs h = by_first (shown_from limit c bytes) refl
 
 -- all operations were taken one by one
 pub joined_taken : (limit n : ℕ) (c d : Content) (logs : List (List ℕ)) → joined_from limit n c logs ≡ Ok d → taken_one_by_one limit c (all_operations logs) ≡ Ok d
-joined_taken limit n c d [] h =
-    let same : joins_to c ≡ joins_to d = h in
-    let is : c ≡ d = cc in
-    ap Ok is
+joined_taken limit n c d [] h = grind (arith, h)
 joined_taken limit n c d (bytes ∷ logs) h =
     let w = first_joined limit n c d bytes logs h in
     one_by_one-append limit c w.0 (log_operations bytes) (all_operations logs) (accepted_taken limit c w.0 bytes w.1) ∙ joined_taken limit (n + 1) w.0 d logs w.2

@@ -3,6 +3,7 @@ use Rattle.std.proofs.Common.{◌≡◌, ℕ, ◌≤◌, Bool, false, ◌||◌, 
 use Rattle.std.specs.List.{AllByRecursion}
 use Rattle.std.proofs.Math.Bool.{or-false}
 use Rattle.std.proofs.lemmas.List.Folds.{list_any-append}
+use Rattle.rga_ops.proofs.MemberLaws.{all_append}
 use Rattle.rga_ops.specs.Content.{content_of, nothing, IsAgreed}
 use Rattle.rga_store.specs.declared.text_store.TheConstants.{MAX_LIMIT}
 use Rattle.rga_lines.specs.Log.{operations_of, then_operations, IsOperation, HasOnlyOperations}
@@ -23,10 +24,6 @@ only_operations bytes h =
     let w = read_to_end MAX_LIMIT nothing (log_content bytes) bytes h.content in
     log_only_operations MAX_LIMIT nothing (log_content bytes) w.0 bytes w.1 w.2
 
-all_append : (lines : List (List ℕ)) (line : List ℕ) → AllByRecursion IsOperation lines → IsOperation line → AllByRecursion IsOperation (lines ++ line ∷ [])
-all_append [] line all one = (one, tt)
-all_append (l ∷ lines) line all one = (all.0, all_append lines line all.1 one)
-
 -- lines, of which the last one may be no operation
 abbrev compacted_to : Bool → List (List ℕ) → List (List ℕ)
 compacted_to dels lines = compact_lines (dels || have_deletion_runs lines) (content_of (operations_of lines))
@@ -42,7 +39,7 @@ by_rest dels lines [] all ends agreed =
     subst (λ (ls : List (List ℕ)). length ls ≤ length lines) (λ k. compact_lines (dels || sym runs k) (content_of (sym operations k)))
     (no_more_lines dels lines all (subst IsAgreed operations agreed))
 by_rest dels lines (b ∷ rest) all (inl none) agreed = absurd (let clash : b ∷ rest ≡ [] = none in cc)
-by_rest dels lines (b ∷ rest) all (inr one) agreed = no_more_lines dels (lines ++ (b ∷ rest) ∷ []) (all_append lines (b ∷ rest) all one) agreed
+by_rest dels lines (b ∷ rest) all (inr one) agreed = no_more_lines dels (lines ++ (b ∷ rest) ∷ []) (all_append IsOperation lines ((b ∷ rest) ∷ []) all (one, tt)) agreed
 
 pub no_more_than_read : (dels : Bool) (bytes : List ℕ) → IsAccepted bytes → length (compacted_lines dels bytes) ≤ length (log_lines bytes)
 no_more_than_read dels bytes h =

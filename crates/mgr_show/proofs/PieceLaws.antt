@@ -1,8 +1,9 @@
 -- Pieces are what is meant by the word, and nothing else is.
-use Rattle.std.proofs.Common.{◌≡◌, ◌≢◌, ℕ, ◌<◌, suc, true, false, cond, ◌==◌, List, [], ◌∷◌, ◌++◌, map, length, refl, sym, ap, ◌∙◌, arith}
+use Rattle.std.proofs.Common.{◌≡◌, ℕ, ◌<◌, List, [], ◌∷◌, ◌++◌, map, length, refl, sym, ap, ◌∙◌, arith}
 use Rattle.std.specs.Prelude.{Option, Some, None}
 use Rattle.std.specs.Option.{option_map}
 use Rattle.std.specs.List.{filter_map, flat_map, cons_option, AllByRecursion}
+use Rattle.std.proofs.lemmas.Bool.Decides.{nat_tests}
 use Rattle.rga_ops.specs.Identifier.{Identifier}
 use Rattle.rga_ops.specs.Content.{Content}
 use Rattle.rga_ops.specs.Order.{order, shown, text}
@@ -40,32 +41,19 @@ before_whole : (x : Authored) (ps : List Piece) → flat_map authored_in (before
 before_whole x [] = refl
 before_whole x (p ∷ ps) = grind (arith, same_replica)
 
-some : (n : ℕ) → 0 < suc n
-some n = omega arith
-
 abbrev Filled : List Piece → Type 0
 Filled ps = AllByRecursion (λ (p : Piece). 0 < length p.chars) ps
 
 before_filled : (x : Authored) (ps : List Piece) → Filled ps → Filled (before_pieces x ps)
-before_filled x [] h = (some 0, tt)
-before_filled x (p ∷ ps) h = elim (p.replica == x.0) as (λ b. Filled (cond b (piece x.0 (x.1 ∷ p.chars) ∷ ps) (piece x.0 (x.1 ∷ []) ∷ p ∷ ps))) [
-  | true ↦ (some (length p.chars), h.1)
-  | false ↦ (some 0, h)
-]
-
-pub other_replica : (n m : ℕ) → (n == m) ≡ false → m ≢ n
-other_replica n m h same = grind (arith, h, same, own_replica n)
+before_filled x [] h = grind arith
+before_filled x (p ∷ ps) h = grind (arith, h)
 
 differ_first : (r : ℕ) (chars : List ℕ) (p : Piece) (ps : List Piece) → r ≡ p.replica → Differ (p ∷ ps) → Differ (piece r chars ∷ ps)
-differ_first r chars p [] same h = tt
-differ_first r chars p (q ∷ ps) same h = (λ e. h.0 (sym same ∙ e), h.1)
+differ_first r chars p ps same h = grind (arith, same, h)
 
 before_differ : (x : Authored) (ps : List Piece) → Differ ps → Differ (before_pieces x ps)
 before_differ x [] h = tt
-before_differ x (p ∷ ps) h = elim (p.replica == x.0) as (λ b. (p.replica == x.0) ≡ b → Differ (cond b (piece x.0 (x.1 ∷ p.chars) ∷ ps) (piece x.0 (x.1 ∷ []) ∷ p ∷ ps))) [
-  | true ↦ λ t. differ_first x.0 (x.1 ∷ p.chars) p ps (sym (same_replica p.replica x.0 t)) h
-  | false ↦ λ t. (other_replica p.replica x.0 t, h)
-] refl
+before_differ x (p ∷ ps) h = grind (arith, nat_tests, differ_first, h)
 
 pub are_pieces : (xs : List Authored) → ArePieces xs (pieces xs)
 are_pieces [] = record { whole = refl; filled = tt; differ = tt }
@@ -79,36 +67,24 @@ are_pieces (x ∷ xs) =
 
 -- ---- nothing else is
 
-not_same : (n m : ℕ) → n ≢ m → (m == n) ≡ false
-not_same n m h = elim (m == n) as (λ b. (m == n) ≡ b → b ≡ false) [
-  | true ↦ λ t. absurd (h (sym (same_replica m n t)))
-  | false ↦ λ t. refl
-] refl
-
 begins : (r ch : ℕ) (chars : List ℕ) (ps : List Piece) → Differ (piece r chars ∷ ps) → before_pieces (r, ch) ps ≡ piece r (ch ∷ []) ∷ ps
 begins r ch chars [] h = refl
-begins r ch chars (q ∷ ps) h = ap (λ b. cond b (piece r (ch ∷ q.chars) ∷ ps) (piece r (ch ∷ []) ∷ q ∷ ps)) (not_same r q.replica h.0)
+begins r ch chars (q ∷ ps) h = grind (arith, nat_tests, h.0)
 
 joins : (r : ℕ) (ch : ℕ) (chars : List ℕ) (rest : List Authored) (ps : List Piece) → pieces rest ≡ ps → Differ (piece r (ch ∷ chars) ∷ ps) → pieces (map (λ d. (r, d)) (ch ∷ chars) ++ rest) ≡ piece r (ch ∷ chars) ∷ ps
-joins r ch [] rest ps is h = ap (before_pieces (r, ch)) is ∙ begins r ch (ch ∷ []) ps h
-joins r ch (d ∷ chars) rest ps is h =
-    ap (before_pieces (r, ch)) (joins r d chars rest ps is (differ_first r (d ∷ chars) (piece r (ch ∷ d ∷ chars)) ps refl h))
-    ∙ ap (λ b. cond b (piece r (ch ∷ d ∷ chars) ∷ ps) (piece r (ch ∷ []) ∷ piece r (d ∷ chars) ∷ ps)) (own_replica r)
+joins r ch [] rest ps is h = grind (arith, is, begins, h)
+joins r ch (d ∷ chars) rest ps is h = grind (arith, own_replica, joins r d chars rest ps is (differ_first r (d ∷ chars) (piece r (ch ∷ d ∷ chars)) ps refl h))
 
 differ_rest : (p : Piece) (ps : List Piece) → Differ (p ∷ ps) → Differ ps
-differ_rest p [] h = tt
-differ_rest p (q ∷ ps) h = h.1
+differ_rest p ps h = grind (arith, h)
 
 back : (ps : List Piece) → Filled ps → Differ ps → pieces (flat_map authored_in ps) ≡ ps
 back [] filled h = refl
 back (p ∷ ps) filled h = by p.chars refl (back ps filled.1 (differ_rest p ps h))
   where
     by : (chars : List ℕ) → p.chars ≡ chars → pieces (flat_map authored_in ps) ≡ ps → pieces (authored_in p ++ flat_map authored_in ps) ≡ p ∷ ps
-    by [] is rest = absurd (let none : 0 < length p.chars = filled.0 in let empty : length p.chars ≡ 0 = ap length is in omega (arith, none, empty))
-    by (ch ∷ chars) is rest =
-        ap (λ cs. pieces (map (λ d. (p.replica, d)) cs ++ flat_map authored_in ps)) is
-        ∙ joins p.replica ch chars (flat_map authored_in ps) ps rest (differ_first p.replica (ch ∷ chars) p ps refl h)
-        ∙ ap (λ cs. piece p.replica cs ∷ ps) (sym is)
+    by [] is rest = grind (arith, is, filled)
+    by (ch ∷ chars) is rest = grind (arith, is, joins p.replica ch chars (flat_map authored_in ps) ps rest (differ_first p.replica (ch ∷ chars) p ps refl h))
 
 pub no_others : (xs : List Authored) (ps : List Piece) → ArePieces xs ps → ps ≡ pieces xs
 no_others xs ps h = sym (back ps h.filled h.differ) ∙ ap pieces h.whole

@@ -1,5 +1,5 @@
 -- How much each replica wrote.
-use Rattle.std.proofs.Common.{◌≡◌, ℕ, ◌==◌, Bool, true, false, cond, max, ◌+◌, ◌≤◌, suc, ◌-◌, List, [], ◌∷◌, ◌++◌, map, filter, length, refl, sym, ap, ◌∙◌, arith, subst}
+use Rattle.std.proofs.Common.{◌≡◌, ℕ, ◌==◌, Bool, cond, max, ◌+◌, ◌≤◌, suc, ◌-◌, List, [], ◌∷◌, ◌++◌, map, filter, length, refl, ap, ◌∙◌, arith}
 use Rattle.std.specs.Prelude.{Option, Some, None, IfSome}
 use Rattle.std.specs.List.{All}
 use Rattle.std.specs.FinMap as finite_map
@@ -48,9 +48,7 @@ pub insertions_counted : (c : Content) → length (filter is_insertion (operatio
 insertions_counted c = ap length (all_insertions (finite_map.entries c.inserted) (rising (finite_set.items c.deleted)))
 
 pub others_are_deletions : (c : Content) (n : ℕ) → n ≡ length (insertions c) → length (operations c) - n ≡ length (deletions c)
-others_are_deletions c n is =
-    let all : length (operations c) ≡ length (insertions c) + length (deletions c) = length-append (insertions c) (deletions c) in
-    omega (arith, all, is)
+others_are_deletions c n is = omega (arith, is, length-append (insertions c) (deletions c))
 
 -- ---- what is told of a replica
 
@@ -89,26 +87,16 @@ deletions_tell_nothing es (id ∷ ids) = deletions_tell_nothing es ids
 
 told : (n : ℕ) (es : List (ℕ × Tally)) (xs : List (Identifier × Element)) (ids : List Identifier) → found n (and_tallies es (map insertion_of xs ++ map Delete ids)) ≡ counted (found n es) (counters n (map (λ x. x.0) xs))
 told n es [] ids = ap (found n) (deletions_tell_nothing es ids)
-told n es (x ∷ xs) ids =
-    told n (insert_entry nat_cmp es x.0.replica (and_character x.0.counter (tally_of x.0.replica es))) xs ids
-    ∙ ap (λ o. counted o (counters n (map (λ x. x.0) xs))) (found_put n x.0.replica (and_character x.0.counter (tally_of x.0.replica es)) es)
-    ∙ elim (x.0.replica == n) as (λ b. (x.0.replica == n) ≡ b → counted (cond b (Some (and_character x.0.counter (tally_of x.0.replica es))) (found n es)) (counters n (map (λ x. x.0) xs))
-    ≡ counted (found n es) (map (λ (id : Identifier). id.counter) (cond b (x.0 ∷ filter (of_replica n) (map (λ x. x.0) xs)) (filter (of_replica n) (map (λ x. x.0) xs))))) [
-      | true ↦ λ t. ap (λ o. counted (Some (and_character x.0.counter o)) (counters n (map (λ x. x.0) xs))) (ap (λ m. tally_of m es) (same_replica x.0.replica n t) ∙ found_is n es)
-      | false ↦ λ t. refl
-    ] refl
+told n es (x ∷ xs) ids = grind (arith, nat_tests, same_replica, found_is, found_put, told n (insert_entry nat_cmp es x.0.replica (and_character x.0.counter (tally_of x.0.replica es))) xs ids)
 
 -- so many characters more, and the greatest counter of all
 counted_on : (a m : ℕ) (ks : List ℕ) → counted (Some (tally a m)) ks ≡ Some (tally (a + length ks) (max m (greatest ks)))
-counted_on a m [] = λ k. Some (tally ((let none : a ≡ a + 0 = omega arith in none) k) ((let none : m ≡ max m 0 = omega arith in none) k))
-counted_on a m (x ∷ ks) =
-    let more : (a + 1) + length ks ≡ a + suc (length ks) = omega arith in
-    let most : max (max m x) (greatest ks) ≡ max m (max x (greatest ks)) = omega arith in
-    counted_on (a + 1) (max m x) ks ∙ (λ k. Some (tally (more k) (most k)))
+counted_on a m [] = grind arith
+counted_on a m (x ∷ ks) = grind (arith, counted_on (a + 1) (max m x) ks)
 
 summed : (ks : List ℕ) → counted None ks ≡ summary ks
 summed [] = refl
-summed (k ∷ ks) = counted_on 1 k ks ∙ (let one : 1 + length ks ≡ suc (length ks) = omega arith in ap (λ n. Some (tally n (max k (greatest ks)))) one)
+summed (k ∷ ks) = grind (arith, counted_on 1 k ks)
 
 pub told_by_insertions : (c : Content) (n : ℕ) → tally_of n (and_tallies [] (operations c)) ≡ summary (counters_of n c)
 unfolding found
@@ -126,8 +114,8 @@ keys_put r v (e ∷ es) = grind (arith, keys_put r v es)
 and_replicas_rise : (es : List (ℕ × Tally)) (ops : List Op) → IsRising (keys_of es) → IsRising (keys_of (and_tallies es ops))
 and_replicas_rise es [] h = h
 and_replicas_rise es (Insert id parent ch ∷ ops) h =
-    and_replicas_rise (insert_entry nat_cmp es id.replica (and_character id.counter (tally_of id.replica es))) ops
-    (subst IsRising (sym (keys_put id.replica (and_character id.counter (tally_of id.replica es)) es)) (inserted_rises id.replica (keys_of es) h))
+    let entries : List (ℕ × Tally) = insert_entry nat_cmp es id.replica (and_character id.counter (tally_of id.replica es)) in
+    and_replicas_rise entries ops (rw keys_put (inserted_rises id.replica (keys_of es) h))
 and_replicas_rise es (Delete id ∷ ops) h = and_replicas_rise es ops h
 
 pub replicas_rise : (c : Content) → IsRising (keys_of (and_tallies [] (operations c)))

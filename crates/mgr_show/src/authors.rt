@@ -3,14 +3,13 @@ ghost use Rattle.std.specs.Prelude.{◌≡◌, IfOk, IfErr, map, zip};
 ghost use Rattle.mgr_show.specs.Authors as spec;
 
 use rga_flat::FlatStore;
-use rga_ops::{Id, Refusal};
+use rga_ops::{Id, OutOfMemory};
 use rga_store::TextStore;
 use std::alloc::{AllocError, Global};
 
 /// The visible characters in order, each with the replica that wrote it. `Memory` alone.
-pub(crate) fn authored(alloc: Global, store: &FlatStore) -> Result<Vec<(u16, char)>, Refusal>
+pub(crate) fn authored(alloc: Global, store: &FlatStore) -> Result<Vec<(u16, char)>, OutOfMemory>
     ensures ok { IfOk result (λ written. written.items ≡ spec.authored store.now.content) }
-    ensures memory { IfErr result (λ e. e ≡ Refusal.Memory) }
 {
     let (ids, chars) = store.visible(alloc)?;
     let written = with_replicas(alloc, &ids, &chars)?;

@@ -1,20 +1,18 @@
 //! The claims of a log.
-ghost use Rattle.std.specs.Prelude.{◌≡◌, ◌≢◌, ◌⊎◌, ℕ, List, true, Err, IfOk, IfErr, IfSome, OnOk};
-ghost use Rattle.std.specs.Prelude.{OnErr};
+ghost use Rattle.std.specs.Prelude.{◌≡◌, ◌≢◌, ◌⊎◌, ℕ, List, true, Err, IfOk, IfErr, IfSome, OnOk, OnErr};
 ghost use Rattle.rga_store.specs.declared.text_store.TheConstants.{MAX_LIMIT};
 ghost use Rattle.rga_exchange.specs.Counting.{CountsAs, WritesNothing};
 ghost use Rattle.mgr_show.specs.Shown.{IsOfInput};
-ghost use Rattle.mgr_show.specs.Note.{note_of};
+ghost use Rattle.mgr_show.specs.Note.{note_of, log_source};
 ghost use Rattle.mgr_show.specs.Sources.{failures_after};
 ghost use Rattle.mgr_show.specs.Claims.{AreClaimsOf, TellsClaims, BeginsToTell};
-ghost use Rattle.mgr_show.specs.Note.{log_source};
 
 use crate::fault::ShowFault;
 use crate::sources::Sources;
 use crate::stored::read_note;
 use rga_brief::{send_lines, summary_lines};
 use rga_exchange::Counted;
-use rga_ops::Refusal;
+use rga_ops::OutOfMemory;
 use rga_store::Teller;
 use std::alloc::Global;
 use std::io::Write;
@@ -60,9 +58,8 @@ pub fn write_claims<S: Sources, W: Write>(
 
 /// The head, and the claims of a store after it. `Memory` alone.
 #[tactic(auto, unfolding(crate::specs::Claims::head_line))]
-fn claims_text<S: Teller>(alloc: Global, store: &S) -> Result<Vec<u8>, Refusal>
+fn claims_text<S: Teller>(alloc: Global, store: &S) -> Result<Vec<u8>, OutOfMemory>
     ensures ok { IfOk result (λ text. AreClaimsOf text.items (S.content store.now)) }
-    ensures memory { IfErr result (λ e. e ≡ Refusal.Memory) }
 {
     let lines = summary_lines(alloc, store)?;
     let mut text = Vec::new(alloc);

@@ -4,7 +4,7 @@ ghost use Rattle.mgr_show.specs.Counts.{AreCounts};
 
 use crate::tallies::{Tally, count_insertions, tallies_of};
 use rga_flat::FlatStore;
-use rga_ops::Refusal;
+use rga_ops::OutOfMemory;
 use rga_store::TextStore;
 use std::alloc::Global;
 use std::collections::BTreeMap;
@@ -24,9 +24,8 @@ pub(crate) struct Counts {
 }
 
 /// Counts what a store holds. `Memory` alone.
-pub(crate) fn counts_of(alloc: Global, store: &FlatStore) -> Result<Counts, Refusal>
+pub(crate) fn counts_of(alloc: Global, store: &FlatStore) -> Result<Counts, OutOfMemory>
     ensures counts { IfOk result (λ counts. AreCounts counts store.now.content) }
-    ensures memory { IfErr result (λ e. e ≡ Refusal.Memory) }
 {
     let ops = store.ops()?;
     let insertions = count_insertions(&ops);

@@ -1,22 +1,19 @@
 //! Theorems about what is made of logs: compacted, joined and cut ones, who wrote a text, and what
 //! claims lack. Each function does nothing: its contract is the theorem.
-ghost use Rattle.std.specs.Prelude.{◌≡◌, ◌↔◌, ◌⊎◌, ℕ, ◌≤◌, ◌<◌, Bool, Ok, Err, List, [], ◌∷◌, ◌++◌};
-ghost use Rattle.std.specs.Prelude.{length, take, ◌==◌, flat_map, map, zip, Some};
+ghost use Rattle.std.specs.Prelude.{◌≡◌, ◌↔◌, ◌⊎◌, ℕ, ◌≤◌, ◌<◌, Bool, Ok, Err, List, [], ◌∷◌, ◌++◌, length, take, ◌==◌, flat_map, map, zip, Some};
 ghost use Rattle.rga_ops.specs.Content.{Content, content_of, nothing, known_count, IsWithin};
 ghost use Rattle.rga_lines.specs.Stream.{lines_of, rest_of};
 ghost use Rattle.rga_store.specs.declared.text_store.TheConstants.{MAX_LIMIT};
 ghost use Rattle.rga_exchange.specs.Sending.{StandsFor};
 ghost use Rattle.mgr_show.specs.Shown.{IsAccepted, log_content};
 ghost use Rattle.mgr_show.specs.Compacted.{compacted_lines, log_lines};
-ghost use Rattle.mgr_show.specs.Joined.{join_of, join_text, all_operations, MayBeTaken};
-ghost use Rattle.mgr_show.specs.Joined.{MayBeJoined, HasSameLogs, IsFirstRefused, AreFar};
+ghost use Rattle.mgr_show.specs.Joined.{join_of, join_text, all_operations, MayBeTaken, MayBeJoined, HasSameLogs, IsFirstRefused, AreFar};
 ghost use Rattle.mgr_show.specs.Note.{first_lines, IsReadable};
 ghost use Rattle.mgr_show.specs.declared.fault.JoinFault.{JoinFault as Fault};
 ghost use Rattle.std.specs.List.{list_any};
 ghost use Rattle.std.specs.Map.{keys_of};
 ghost use Rattle.rga_ops.specs.Prelude.{Identifier, operations, text, visible};
-ghost use Rattle.mgr_show.specs.Authors.{authored, authored_lines, pieces, writers, Authored};
-ghost use Rattle.mgr_show.specs.Authors.{Piece};
+ghost use Rattle.mgr_show.specs.Authors.{authored, authored_lines, pieces, writers, Authored, Piece};
 ghost use Rattle.mgr_show.specs.Tallies.{and_tallies, tally_of};
 ghost use Rattle.mgr_show.specs.Meant.{counters_of, summary, AreLines, ArePieces, IsRising};
 ghost use Rattle.rga_lines.specs.declared.fault.LineFault.TheVariants.{Kind};
@@ -46,6 +43,7 @@ pub fn logs_that_agree_are_joined()
 
 /// In which order logs are joined, and how often each, makes no difference: they are joined to the
 /// same content, and the same lines are written.
+#[tactic(auto, using(crate::proofs::JoinWordsLaws::same_joined, crate::proofs::JoinWordsLaws::same_text))]
 pub fn order_and_repeats_of_logs_do_not_matter()
     ensures content { (logs others : List (List ℕ)) (c : Content) → HasSameLogs logs others
         → join_of MAX_LIMIT logs ≡ Ok c → join_of MAX_LIMIT others ≡ Ok c }
@@ -71,6 +69,7 @@ pub fn the_first_log_that_is_refused_is_named()
 
 /// The first so many lines of a log are these lines, and nothing after them; all of the log, if it
 /// has no more lines.
+#[tactic(auto, using(crate::proofs::FirstLinesLaws::first_are_lines, crate::proofs::FirstLinesLaws::first_have_no_rest, crate::proofs::FirstLinesLaws::all_lines))]
 pub fn first_lines_are_the_first()
     ensures lines { (n : ℕ) (bytes : List ℕ)
         → lines_of (first_lines n bytes) ≡ take n (lines_of bytes) }
@@ -81,6 +80,7 @@ pub fn first_lines_are_the_first()
 {}
 
 /// The characters of a text come each with the replica of its own visible element.
+#[tactic(auto, using(crate::proofs::PieceLaws::text_of_pieces))]
 pub fn characters_are_of_visible_elements()
     ensures elements { (c : Content) →
         authored c ≡ zip (map (λ (id : Identifier). id.replica) (visible c)) (text c) }
@@ -90,6 +90,7 @@ pub fn characters_are_of_visible_elements()
 
 /// The pieces have the characters one after the other, each with its replica; none is empty, and
 /// neighbours are of two replicas. There is no other list of such pieces.
+#[tactic(auto, using(crate::proofs::PieceLaws::no_others))]
 pub fn pieces_are_the_longest()
     ensures pieces { (xs : List Authored) → ArePieces xs (pieces xs) }
     ensures no_others { (xs : List Authored) (ps : List Piece) →
@@ -98,6 +99,7 @@ pub fn pieces_are_the_longest()
 
 /// The lines have the characters one after the other, and each ends at its newline, which the last
 /// one may lack. Those who wrote in a line are told each once, in rising order.
+#[tactic(auto, using(crate::proofs::LineLaws::all_lines, crate::proofs::LineLaws::are_lines, crate::proofs::LineLaws::are_writers, crate::proofs::LineLaws::writers_rise))]
 pub fn lines_end_at_newlines()
     ensures whole { (xs : List Authored) → flat_map (λ l. l) (authored_lines xs) ≡ xs }
     ensures lines { (xs : List Authored) → AreLines (authored_lines xs) }
@@ -108,6 +110,7 @@ pub fn lines_end_at_newlines()
 
 /// What is told of a replica is how many characters it inserted, and the greatest counter of these;
 /// nothing is told of one that inserted none. Replicas are told in rising order.
+#[tactic(auto, using(crate::proofs::TallyLaws::replicas_rise, crate::proofs::TallyLaws::told_by_insertions))]
 pub fn a_replica_is_told_by_its_insertions()
     ensures rising { (c : Content) → IsRising (keys_of (and_tallies [] (operations c))) }
     ensures told { (c : Content) (n : ℕ) →
@@ -122,6 +125,7 @@ pub fn claims_are_heard_as_they_were_told()
 
 /// Something is heard of claims only if they begin with their head, and if only claims stand after
 /// it, up to the line that counts them.
+#[tactic(auto, using(crate::proofs::HeadLaws::head_exactly, crate::proofs::HeadLaws::heard_whole))]
 pub fn what_is_heard_has_a_head_and_an_end()
     ensures head { (bytes rest : List ℕ) → (after_head bytes ≡ Some rest)
         ↔ (bytes ≡ head_text ++ rest) }
@@ -149,6 +153,7 @@ pub fn what_is_missing_is_taken_as_the_whole_log_is()
 {}
 
 /// The head of claims is no operation, no run, no head and no end of an exchange, and no claim.
+#[tactic(auto, using(crate::proofs::HeadLineLaws::no_line, crate::proofs::HeadLineLaws::no_claim))]
 pub fn the_head_of_claims_is_no_other_line()
     ensures operation { any_line_at head_line ≡ Err Kind }
     ensures claim { claim_line_at head_line ≡ Err Kind }

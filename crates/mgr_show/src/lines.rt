@@ -1,9 +1,7 @@
 //! Lines of a text with the replicas that wrote in them.
-ghost use Rattle.std.specs.Prelude.{◌≡◌, ◌++◌, IfOk, OnOk, map};
-ghost use Rattle.std.specs.Prelude.{string_bytes, encode_utf8_all, decimal};
+ghost use Rattle.std.specs.Prelude.{◌≡◌, ◌++◌, IfOk, OnOk, map, string_bytes, encode_utf8_all, decimal};
 ghost use Rattle.std.specs.List.{flat_map, join_with_byte};
-ghost use Rattle.mgr_show.specs.Authors.{authored_lines, characters, length_of_line, line_of};
-ghost use Rattle.mgr_show.specs.Authors.{without_newline, writers};
+ghost use Rattle.mgr_show.specs.Authors.{authored_lines, characters, length_of_line, line_of, without_newline, writers};
 
 use itoa::Buffer;
 use std::alloc::{AllocError, Global};

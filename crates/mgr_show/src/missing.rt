@@ -1,9 +1,7 @@
 //! The operations that claims lack.
-ghost use Rattle.std.specs.Prelude.{◌≡◌, ◌≢◌, ◌⊎◌, ℕ, List, true, Ok, Err, IfOk, IfErr, IfSome};
-ghost use Rattle.std.specs.Prelude.{OnOk, OnErr};
+ghost use Rattle.std.specs.Prelude.{◌≡◌, ◌≢◌, ◌⊎◌, ℕ, List, true, Ok, Err, IfOk, IfErr, IfSome, OnOk, OnErr};
 ghost use Rattle.rga_exchange.specs.Counting.{CountsAs, WritesNothing};
-ghost use Rattle.mgr_show.specs.Missing.{claims_heard, log_held, reads_failed, OnBoth};
-ghost use Rattle.mgr_show.specs.Missing.{IsOfClaims, IsOfLog, WritesMissing, BeginsMissing};
+ghost use Rattle.mgr_show.specs.Missing.{claims_heard, log_held, reads_failed, OnBoth, IsOfClaims, IsOfLog, WritesMissing, BeginsMissing};
 ghost use Rattle.mgr_show.specs.Note.{log_source};
 
 use crate::fault::{MissingFault, ShowFault};
@@ -104,15 +102,7 @@ fn hear_claims(alloc: Global, bytes: &[u8]) -> Result<Summary, MissingFault>
     match hear_summary(alloc, &mut Counted::new(lines)) {
         Ok(peer) => Ok(peer),
         // No machine has the bytes on which a reader of them would spend its calls.
-        Err(ReceiveFault::Read) => Err(MissingFault::Memory),
-        Err(ReceiveFault::Memory) => Err(MissingFault::Memory),
-        Err(ReceiveFault::Line(number, fault)) => {
-            Err(MissingFault::Claims(ReceiveFault::Line(number, fault)))
-        }
-        Err(ReceiveFault::Cut) => Err(MissingFault::Claims(ReceiveFault::Cut)),
-        Err(ReceiveFault::Count) => Err(MissingFault::Claims(ReceiveFault::Count)),
-        Err(ReceiveFault::Refused(number, refusal)) => {
-            Err(MissingFault::Claims(ReceiveFault::Refused(number, refusal)))
-        }
+        Err(ReceiveFault::Read | ReceiveFault::Memory) => Err(MissingFault::Memory),
+        Err(fault) => Err(MissingFault::Claims(fault)),
     }
 }

@@ -90,10 +90,7 @@ pub(crate) fn log_name(alloc: Global, name: &str) -> Result<String, ShowFault>
     ensures name { IfOk result (λ log. string_bytes log ≡ log_name name.now) }
     ensures memory { IfErr result (λ e. e ≡ ShowFault.Memory) }
 {
-    let Ok(log) = format!(in alloc; "{}.ops", name) else {
-        return Err(ShowFault::Memory);
-    };
-    Ok(log)
+    format!(in alloc; "{}.ops", name).map_err(|_| ShowFault::Memory)
 }
 
 /// The first lines of a log, if so many are asked for; else all of it.

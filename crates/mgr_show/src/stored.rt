@@ -1,6 +1,5 @@
 //! A log, read for what it holds.
-ghost use Rattle.std.specs.Prelude.{◌≡◌, ◌≢◌, ℕ, List, Err, IfOk, IfErr, IfSome, length};
-ghost use Rattle.std.specs.Prelude.{string_bytes};
+ghost use Rattle.std.specs.Prelude.{◌≡◌, ◌≢◌, ℕ, List, Err, IfOk, IfErr, IfSome, length, string_bytes};
 ghost use Rattle.rga_store.specs.declared.text_store.TheConstants.{MAX_LIMIT};
 ghost use Rattle.mgr_show.specs.Shown.{IsOfInput};
 ghost use Rattle.mgr_show.specs.Note.{log_source, note_of};

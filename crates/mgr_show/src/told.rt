@@ -1,8 +1,7 @@
 //! The numbers of a log as they are written.
 ghost use Rattle.std.specs.Prelude.{◌≡◌, ◌++◌, OnOk, IfOk, map, string_bytes};
 ghost use Rattle.std.specs.List.{flat_map, join_with_byte};
-ghost use Rattle.mgr_show.specs.Told.{end_name, numbers_bytes, operations_line, operations_members};
-ghost use Rattle.mgr_show.specs.Told.{size_lines, size_members, tally_line, tally_object, text_name};
+ghost use Rattle.mgr_show.specs.Told.{end_name, numbers_bytes, operations_line, operations_members, size_lines, size_members, tally_line, tally_object, text_name};
 
 use crate::counts::Counts;
 use crate::numbers::{Numbers, TextIs};

@@ -1,6 +1,5 @@
 //! Who wrote the text of a note.
-ghost use Rattle.std.specs.Prelude.{◌≡◌, ◌≢◌, ◌⊎◌, ℕ, List, true, Err, string_bytes};
-ghost use Rattle.std.specs.Prelude.{IfOk, IfErr, IfSome, OnOk, OnErr};
+ghost use Rattle.std.specs.Prelude.{◌≡◌, ◌≢◌, ◌⊎◌, ℕ, List, true, Err, string_bytes, IfOk, IfErr, IfSome, OnOk, OnErr};
 ghost use Rattle.rga_exchange.specs.Counting.{CountsAs, WritesNothing};
 ghost use Rattle.mgr_show.specs.Shown.{IsOfInput, log_content};
 ghost use Rattle.mgr_show.specs.Note.{log_name};
@@ -18,7 +17,7 @@ use crate::sources::Sources;
 use crate::stored::read_log;
 use rga_exchange::Counted;
 use rga_flat::FlatStore;
-use rga_ops::Refusal;
+use rga_ops::OutOfMemory;
 use std::alloc::Global;
 use std::io::Write;
 
@@ -67,10 +66,9 @@ pub fn write_authors<S: Sources, W: Write>(
 
 /// What is written of a content. `Memory` alone.
 #[tactic(auto, unfolding(crate::specs::Authors::authors_bytes))]
-fn content_text(alloc: Global, store: &FlatStore, by_lines: bool) -> Result<String, Refusal>
+fn content_text(alloc: Global, store: &FlatStore, by_lines: bool) -> Result<String, OutOfMemory>
     ensures ok { IfOk result (λ text.
         string_bytes text ≡ authors_bytes by_lines store.now.content) }
-    ensures memory { IfErr result (λ e. e ≡ Refusal.Memory) }
 {
     let written = authored(alloc, store)?;
     if by_lines {

@@ -1,5 +1,6 @@
 //! Lines that are lent, and what no line says.
 use rga_lines::{Line, LineFault, MAX_LINE, Splitter, read_any, write_end, write_head, write_line};
+use rga_ops::OutOfMemory;
 use std::alloc::Global;
 use test_fixtures::op_of;
 
@@ -69,7 +70,7 @@ fn a_long_line_ends_the_lines(rt: HostRuntime) {
 }
 
 /// Whether this line was written.
-fn is_line(written: Result<String, LineFault>, line: &str) -> bool {
+fn is_line(written: Result<String, OutOfMemory>, line: &str) -> bool {
     match written {
         Ok(written) => written.as_str() == line,
         Err(_) => false,

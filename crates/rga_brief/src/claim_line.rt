@@ -7,6 +7,7 @@ ghost use Rattle.rga_brief.specs.Lines.{claim_line_at, claim_said, end_said};
 use crate::claim::Claim;
 use crate::reading::read_claim;
 use rga_lines::{Line, LineFault, MAX_LINE, read_any};
+use rga_ops::OutOfMemory;
 use std::alloc::Global;
 use std::str;
 
@@ -35,17 +36,13 @@ pub(crate) fn read_claim_line(alloc: Global, bytes: &[u8]) -> Result<ClaimLine, 
 }
 
 /// The claim that the bytes say, if they say one.
-fn claim_said(alloc: Global, bytes: &[u8]) -> Result<Option<Claim>, LineFault>
+fn claim_said(alloc: Global, bytes: &[u8]) -> Result<Option<Claim>, OutOfMemory>
     ensures ok { IfOk result (λ claim. claim ≡ claim_said bytes.now) }
-    ensures memory { IfErr result (λ e. e ≡ Memory) }
 {
     let Ok(text) = str::from_utf8(bytes) else {
         return Ok(None);
     };
-    match read_claim(alloc, text) {
-        Ok(claim) => Ok(claim),
-        Err(_) => Err(LineFault::Memory),
-    }
+    read_claim(alloc, text)
 }
 
 /// The end that the bytes say, or what is wrong with them.

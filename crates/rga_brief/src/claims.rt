@@ -6,14 +6,13 @@ use crate::block::Block;
 use crate::claim::Claim;
 use crate::digests::Digests;
 use crate::summary::Summary;
-use rga_ops::Refusal;
+use rga_ops::OutOfMemory;
 use std::alloc::Global;
 use std::collections::BTreeMap;
 
 /// The claims of a summary, by rising block. `Memory` alone.
-pub fn claims_of(alloc: Global, summary: &Summary) -> Result<Vec<Claim>, Refusal>
+pub fn claims_of(alloc: Global, summary: &Summary) -> Result<Vec<Claim>, OutOfMemory>
     ensures ok { IfOk result (λ claims. claims.items ≡ claims_of summary.now) }
-    ensures memory { IfErr result (λ e. e ≡ Refusal.Memory) }
 {
     let mut claims = Vec::new(alloc);
     for (block, digests) in summary.digests() {
@@ -26,9 +25,8 @@ pub fn claims_of(alloc: Global, summary: &Summary) -> Result<Vec<Claim>, Refusal
 }
 
 /// The summary of these claims: of two of one block the later counts. `Memory` alone.
-pub fn summary_from(alloc: Global, claims: &[Claim]) -> Result<Summary, Refusal>
+pub fn summary_from(alloc: Global, claims: &[Claim]) -> Result<Summary, OutOfMemory>
     ensures ok { IfOk result (λ summary. summary ≡ summary_from claims.now) }
-    ensures memory { IfErr result (λ e. e ≡ Refusal.Memory) }
 {
     let mut digests = BTreeMap::new(alloc);
     put_all(claims, &mut digests)?;
@@ -36,9 +34,8 @@ pub fn summary_from(alloc: Global, claims: &[Claim]) -> Result<Summary, Refusal>
 }
 
 /// Each claim is put among the digests.
-fn put_all(claims: &[Claim], digests: &mut BTreeMap<Block, Digests>) -> Result<(), Refusal>
+fn put_all(claims: &[Claim], digests: &mut BTreeMap<Block, Digests>) -> Result<(), OutOfMemory>
     ensures ok { OnOk result (digests.new.entries ≡ put_claims digests.old.entries claims.now) }
-    ensures memory { IfErr result (λ e. e ≡ Refusal.Memory) }
 {
     for claim in claims {
         put(*claim, digests)?;
@@ -46,9 +43,8 @@ fn put_all(claims: &[Claim], digests: &mut BTreeMap<Block, Digests>) -> Result<(
     Ok(())
 }
 
-fn put(claim: Claim, digests: &mut BTreeMap<Block, Digests>) -> Result<(), Refusal>
+fn put(claim: Claim, digests: &mut BTreeMap<Block, Digests>) -> Result<(), OutOfMemory>
     ensures ok { OnOk result (digests.new.entries ≡ put_claim digests.old.entries claim) }
-    ensures memory { IfErr result (λ e. e ≡ Refusal.Memory) }
 {
     let _replaced = digests.insert(claim.block, claim.digests)?;
     Ok(())

@@ -6,7 +6,7 @@ ghost use Rattle.rga_brief.specs.Lacking.{lacks_between};
 use crate::block::Block;
 use crate::digests::{Digests, deleted, inserted};
 use crate::summary::{Summary, summary_of};
-use rga_ops::{Op, Refusal};
+use rga_ops::{Op, OutOfMemory};
 use rga_store::{Listener, Teller};
 use std::alloc::Global;
 use std::marker::Model;
@@ -17,9 +17,12 @@ use std::marker::Model;
 ///
 /// Whatever a summary claims, nothing else is sent. It takes n log n steps for n operations, and the
 /// store tells them twice: for the own digests, and for what is lacked.
-pub fn missing<S: Teller>(alloc: Global, store: &S, summary: &Summary) -> Result<Vec<Op>, Refusal>
+pub fn missing<S: Teller>(
+    alloc: Global,
+    store: &S,
+    summary: &Summary,
+) -> Result<Vec<Op>, OutOfMemory>
     ensures ok { IfOk result (λ ops. ops.items ≡ missing (S.content store.now) summary.now) }
-    ensures memory { IfErr result (λ e. e ≡ Refusal.Memory) }
 {
     let own = summary_of(alloc, store)?;
     let mut lacked = Lacked::new(alloc, &own, summary);
@@ -62,7 +65,7 @@ impl<'a> Listener for Lacked<'a> {
 
     ghost hears_on = { λ s t u xs ys a b. lacks_on a b };
 
-    fn hear(&mut self, op: &Op) -> Result<(), Refusal> {
+    fn hear(&mut self, op: &Op) -> Result<(), OutOfMemory> {
         if self.is_lacked(op) {
             self.ops.push(*op)?;
         }

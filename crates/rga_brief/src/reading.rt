@@ -7,9 +7,9 @@ use crate::block::Block;
 use crate::claim::{Claim, HALF};
 use crate::digests::Digests;
 use rga_lines::two_numbers;
-use rga_ops::Refusal;
+use rga_ops::OutOfMemory;
 use serde_json::Value;
-use std::alloc::Global;
+use std::alloc::{AllocError, Global};
 
 /// What a line of a summary says, given without its newline: a JSON object (RFC 8259), in any
 /// spelling, with exactly these members, of which `del` and `ins` may be left out
@@ -21,13 +21,12 @@ use std::alloc::Global;
 /// The block is that of a replica and a number. A digest is two numbers below 2 ^ 32, and is
 /// `first * 2 ^ 32 + second`: so each number is one that each JSON reader keeps exactly. `None` if
 /// it is no such object. `Memory` is the only refusal.
-pub fn read_claim(alloc: Global, text: &str) -> Result<Option<Claim>, Refusal>
+pub fn read_claim(alloc: Global, text: &str) -> Result<Option<Claim>, OutOfMemory>
     ensures ok { IfOk result (λ claim. claim ≡ spec.claim_in text.now) }
-    ensures memory { IfErr result (λ e. e ≡ Refusal.Memory) }
 {
     match Value::from_str(alloc, text) {
         Ok(value) => Ok(claim_of(&value)),
-        Err(e) if e.is_memory() => Err(Refusal::Memory),
+        Err(e) if e.is_memory() => Err(OutOfMemory::from(AllocError)),
         Err(_) => Ok(None),
     }
 }

@@ -5,7 +5,7 @@ ghost use Rattle.rga_brief.specs.Summary.{IsSummary, digests_at};
 use crate::block::Block;
 use crate::digests::Digests;
 use crate::told_digests::ToldDigests;
-use rga_ops::Refusal;
+use rga_ops::OutOfMemory;
 use rga_store::Teller;
 use std::alloc::Global;
 use std::collections::BTreeMap;
@@ -54,9 +54,8 @@ impl Summary {
 
 /// The summary of what a store holds: there is one (`laws`). `Memory` alone. It takes n log n steps
 /// for n operations.
-pub fn summary_of<S: Teller>(alloc: Global, store: &S) -> Result<Summary, Refusal>
+pub fn summary_of<S: Teller>(alloc: Global, store: &S) -> Result<Summary, OutOfMemory>
     ensures ok { IfOk result (λ summary. IsSummary (S.content store.now) summary) }
-    ensures memory { IfErr result (λ e. e ≡ Refusal.Memory) }
 {
     let mut told = ToldDigests::new(alloc);
     store.tell_insertions(&mut told)?;

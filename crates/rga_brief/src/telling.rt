@@ -18,16 +18,15 @@ use crate::summary::{Summary, summary_of};
 use crate::writing::write_claim;
 use rga_exchange::{Counted, SendFault, send_list};
 use rga_lines::write_end;
-use rga_ops::Refusal;
+use rga_ops::OutOfMemory;
 use rga_store::Teller;
 use std::alloc::Global;
 use std::io::Write;
 
 /// What is told of a store: the claims of its summary, a line each, and the line that ends an
 /// exchange, which counts them; each with its newline. `Memory` alone.
-pub fn summary_lines<S: Teller>(alloc: Global, store: &S) -> Result<Vec<u8>, Refusal>
+pub fn summary_lines<S: Teller>(alloc: Global, store: &S) -> Result<Vec<u8>, OutOfMemory>
     ensures ok { IfOk result (λ lines. IsTold lines.items (S.content store.now)) }
-    ensures memory { IfErr result (λ e. e ≡ Refusal.Memory) }
 {
     let own = summary_of(alloc, store)?;
     text_of(alloc, &own)
@@ -49,28 +48,24 @@ pub fn send_lines<W: Write>(lines: &[u8], writer: &mut Counted<W>) -> Result<(),
 }
 
 /// What is told of a summary. `Memory` alone.
-fn text_of(alloc: Global, summary: &Summary) -> Result<Vec<u8>, Refusal>
+fn text_of(alloc: Global, summary: &Summary) -> Result<Vec<u8>, OutOfMemory>
     ensures ok { IfOk result (λ text. text.items ≡ summary_text summary.now) }
     ensures range { OnOk result (AllByRecursion IsInRange (claims_of summary.now)) }
     ensures few { OnOk result (length (claims_of summary.now) < 2 ^ 64) }
-    ensures memory { IfErr result (λ e. e ≡ Refusal.Memory) }
 {
     let claims = claims_of(alloc, summary)?;
     let mut text = Vec::new(alloc);
     push_claims(alloc, &claims, &mut text)?;
-    let Ok(end) = write_end(alloc, claims.len() as u64) else {
-        return Err(Refusal::Memory);
-    };
+    let end = write_end(alloc, claims.len() as u64)?;
     push_line(&end, &mut text)?;
     Ok(text)
 }
 
 /// Adds the line of each claim.
-fn push_claims(alloc: Global, claims: &[Claim], text: &mut Vec<u8>) -> Result<(), Refusal>
+fn push_claims(alloc: Global, claims: &[Claim], text: &mut Vec<u8>) -> Result<(), OutOfMemory>
     ensures ok { OnOk result
         (text.new.items ≡ text.old.items ++ bytes_of_lines (map claim_line claims.now)) }
     ensures range { OnOk result (AllByRecursion IsInRange claims.now) }
-    ensures memory { IfErr result (λ e. e ≡ Refusal.Memory) }
 {
     for claim in claims {
         let line = write_claim(alloc, *claim)?;
@@ -80,9 +75,8 @@ fn push_claims(alloc: Global, claims: &[Claim], text: &mut Vec<u8>) -> Result<()
 }
 
 /// Adds a line with its newline.
-fn push_line(line: &str, text: &mut Vec<u8>) -> Result<(), Refusal>
+fn push_line(line: &str, text: &mut Vec<u8>) -> Result<(), OutOfMemory>
     ensures ok { OnOk result (text.new.items ≡ text.old.items ++ (line.now ++ newline ∷ [])) }
-    ensures memory { IfErr result (λ e. e ≡ Refusal.Memory) }
 {
     text.extend_from_slice(line.as_bytes())?;
     text.push(b'\n')?;

@@ -8,7 +8,7 @@ ghost use Rattle.rga_brief.specs.declared.block.Block.{Block as BlockName};
 
 use crate::block::Block;
 use crate::digests::{Digests, with_operation};
-use rga_ops::{Op, Refusal};
+use rga_ops::{Op, OutOfMemory};
 use rga_store::Listener;
 use std::alloc::Global;
 use std::collections::BTreeMap;
@@ -43,7 +43,7 @@ impl Listener for ToldDigests {
 
     ghost hears_on = { λ s t u xs ys a b. hears_on s t u xs ys a b };
 
-    fn hear(&mut self, op: &Op) -> Result<(), Refusal> {
+    fn hear(&mut self, op: &Op) -> Result<(), OutOfMemory> {
         self.last = Some(add_operation(&mut self.digests, self.last, op)?);
         Ok(())
     }
@@ -61,11 +61,10 @@ impl ToldDigests {
     }
 
     /// All of them. `Memory` alone.
-    pub(crate) fn whole(self) -> Result<BTreeMap<Block, Digests>, Refusal>
+    pub(crate) fn whole(self) -> Result<BTreeMap<Block, Digests>, OutOfMemory>
         ensures ok { IfOk result (λ digests. (b : BlockName) →
             get block_cmp digests b ≡ digests_told self b) }
         ensures ordered { IfOk result (λ digests. IsOrdered block_cmp digests) }
-        ensures memory { IfErr result (λ e. e ≡ Refusal.Memory) }
     {
         let ToldDigests { mut digests, last } = self;
         put(&mut digests, last)?;
@@ -79,14 +78,13 @@ fn add_operation(
     digests: &mut BTreeMap<Block, Digests>,
     last: Option<(Block, Digests)>,
     op: &Op,
-) -> Result<(Block, Digests), Refusal>
+) -> Result<(Block, Digests), OutOfMemory>
     requires { IsOrdered block_cmp digests.old }
     ensures ok { let before = with_last last (get block_cmp digests.old) in
         IfOk result (λ now. (b : BlockName) → with_last (Some now) (get block_cmp digests.new) b
         ≡ (if is_block (block_of (id_of op.now)) b
         then Some (with_operation (before b) op.now) else before b)) }
     ensures ordered { IsOrdered block_cmp digests.new }
-    ensures memory { IfErr result (λ e. e ≡ Refusal.Memory) }
 {
     let block = Block::of(op.id());
     if let Some((same, before)) = last {
@@ -103,12 +101,11 @@ fn add_operation(
 fn put(
     digests: &mut BTreeMap<Block, Digests>,
     last: Option<(Block, Digests)>,
-) -> Result<(), Refusal>
+) -> Result<(), OutOfMemory>
     requires { IsOrdered block_cmp digests.old }
     ensures ok { OnOk result ((b : BlockName) →
         get block_cmp digests.new b ≡ with_last last (get block_cmp digests.old) b) }
     ensures ordered { IsOrdered block_cmp digests.new }
-    ensures memory { IfErr result (λ e. e ≡ Refusal.Memory) }
 {
     let Some((block, before)) = last else {
         return Ok(());

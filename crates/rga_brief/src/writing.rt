@@ -5,19 +5,18 @@ ghost use Rattle.serde_json.specs.View.{view};
 ghost use Rattle.rga_brief.specs.Claims.{IsInRange, claim_data, claim_in, claim_line, digest_data, pair_data};
 
 use crate::claim::{Claim, HALF};
-use rga_ops::Refusal;
+use rga_ops::OutOfMemory;
 use serde_json::{Value, json};
 use std::alloc::{AllocError, Global};
 
 /// The line of a claim, without its newline, as `claim_line` of `specs/Claims.antt` has it: no
 /// blanks, no newline, the members by their names, and no member for a digest that is not there.
 /// `read_claim` gives the claim back. `Memory` is the only refusal.
-pub fn write_claim(alloc: Global, claim: Claim) -> Result<String, Refusal>
+pub fn write_claim(alloc: Global, claim: Claim) -> Result<String, OutOfMemory>
     ensures ok { IfOk result (λ text. string_bytes text ≡ claim_line claim) }
     ensures one_line { IfOk result (λ text. All (λ b. b ≢ 10) (string_bytes text)) }
     ensures reads_back { IfOk result (λ text. claim_in (string_bytes text) ≡ Some claim) }
     ensures range { OnOk result (IsInRange claim) }
-    ensures memory { IfErr result (λ e. e ≡ Refusal.Memory) }
 {
     let value = value_of(alloc, claim)?;
     let text = value.to_string(alloc)?;

@@ -36,7 +36,8 @@ pub use Rattle.rga_ops.specs.Splice.{Splice, are_falling, end_of, new_characters
 pub use Rattle.rga_ops.specs.declared.id.TheConstants.Id.{MAX_COUNTER}
 pub use Rattle.rga_ops.specs.declared.op.Op.{Op}
 pub use Rattle.rga_ops.specs.declared.op.Op.TheVariants.{Delete, Insert}
-pub use Rattle.rga_ops.specs.declared.refusal.Refusal.TheVariants.{BadId, BadOrder, Clock, Conflict, Full, Memory, Range}
+pub use Rattle.rga_ops.specs.declared.refusal.Refusal.TheVariants.{BadId, BadOrder, Clock, Conflict, Full, Range}
+pub use Rattle.rga_ops.specs.Memory.{Memory}
 pub use Rattle.rga_doc.specs.Document.{Document}
 pub use Rattle.rga_doc.specs.Excerpt.{Excerpted, begin_of, excerpt}
 pub use Rattle.rga_doc.specs.LocalEdit.{chain, counter_answer, draft_operations, edit_answer, element_behind, elements_after, left_of, new_ids, order_after, place_answer, put_row_behind, room_answer, splice_answer, splice_operations}

@@ -4,7 +4,7 @@ ghost use Rattle.std.specs.Prelude.{◌≡◌, ◌≤◌, ◌+◌, ◌++◌, len
 ghost use Rattle.rga_ops.specs.Splice.{spliced};
 
 use crate::shifting::{move_tail, shift};
-use rga_ops::Refusal;
+use rga_ops::OutOfMemory;
 use std::marker::Model;
 
 /// Characters in order, behind places that are unused.
@@ -57,9 +57,8 @@ impl Characters {
     }
 
     /// Adds characters at the end. `Memory` alone.
-    pub fn extend(&mut self, characters: &[char]) -> Result<(), Refusal>
+    pub fn extend(&mut self, characters: &[char]) -> Result<(), OutOfMemory>
         ensures items { OnOk result (self.new.items ≡ self.old.items ++ characters.now) }
-        ensures memory { IfErr result (λ e. e ≡ Refusal.Memory) }
     {
         self.places.extend_from_slice(characters)?;
         Ok(())
@@ -67,9 +66,8 @@ impl Characters {
 
     /// Makes room for so many more characters; for an eighth more than there are where that is more,
     /// so that typing seldom moves them all. `Memory` alone; the characters stay.
-    pub fn make_room(&mut self, more: usize) -> Result<(), Refusal>
+    pub fn make_room(&mut self, more: usize) -> Result<(), OutOfMemory>
         ensures items { self.new.items ≡ self.old.items }
-        ensures memory { IfErr result (λ e. e ≡ Refusal.Memory) }
         ensures room { OnOk result (more ≤ self.new.room) }
     {
         let used = self.places.as_slice().len();

@@ -5,7 +5,7 @@ ghost use Rattle.rga_doc.specs.Excerpt.{begin_of};
 ghost use Rattle.rga_doc.specs.LocalEdit.{chain, splice_operations_at, draft_operations};
 
 use crate::excerpt::Excerpt;
-use rga_ops::{Id, Op, Refusal, Splice};
+use rga_ops::{Id, Op, OutOfMemory, Splice};
 use std::alloc::Global;
 
 /// Operations in the order in which they are made, and what names the next insertion.
@@ -41,7 +41,7 @@ impl Draft {
         lo: usize,
         hi: usize,
         put: &[char],
-    ) -> Result<(), Refusal>
+    ) -> Result<(), OutOfMemory>
         requires begin { elements.now.start ≤ lo }
         requires ordered { lo ≤ hi }
         requires in_text { hi ≤ length elements.now.items }
@@ -51,21 +51,23 @@ impl Draft {
             put.now) }
         ensures last { OnOk result (self.new.last ≡ self.old.last + length put.now) }
         ensures replica { self.new.replica ≡ self.old.replica }
-        ensures memory { IfErr result (λ e. e ≡ Refusal.Memory) }
     {
         self.delete(elements.between(lo, hi))?;
         self.insert(elements.left_of(lo), put)
     }
 
     /// All operations, with those of several splices whose places are meant in the same text.
-    pub(crate) fn splices(self, elements: &Excerpt, splices: &[Splice]) -> Result<Vec<Op>, Refusal>
+    pub(crate) fn splices(
+        self,
+        elements: &Excerpt,
+        splices: &[Splice],
+    ) -> Result<Vec<Op>, OutOfMemory>
         requires begin { elements.now.start ≤ begin_of splices.now }
         requires falling { are_falling (length elements.now.items) splices.now ≡ true }
         requires counters { 0 < new_characters splices.now
             → self.last + new_characters splices.now ≤ Id.MAX_COUNTER }
         ensures ops { IfOk result (λ ops. ops.items ≡ self.ops.items
             ++ draft_operations self.replica elements.now.items self.last splices.now) }
-        ensures memory { IfErr result (λ e. e ≡ Refusal.Memory) }
     {
         let mut draft = self;
         for splice in splices {
@@ -75,12 +77,11 @@ impl Draft {
     }
 
     /// A deletion of each element.
-    pub(crate) fn delete(&mut self, elements: &[Id]) -> Result<(), Refusal>
+    pub(crate) fn delete(&mut self, elements: &[Id]) -> Result<(), OutOfMemory>
         ensures ops { OnOk result
             (self.new.ops.items ≡ self.old.ops.items ++ map Op.Delete elements.now) }
         ensures last { self.new.last ≡ self.old.last }
         ensures replica { self.new.replica ≡ self.old.replica }
-        ensures memory { IfErr result (λ e. e ≡ Refusal.Memory) }
     {
         self.ops.reserve(elements.len())?;
         for id in elements {
@@ -90,18 +91,19 @@ impl Draft {
     }
 
     /// One new element for each character, the first after the given one.
-    fn insert(&mut self, after: Id, put: &[char]) -> Result<(), Refusal>
+    fn insert(&mut self, after: Id, put: &[char]) -> Result<(), OutOfMemory>
         requires { 0 < length put.now → self.old.last + length put.now ≤ Id.MAX_COUNTER }
         ensures ops { OnOk result (self.new.ops.items
             ≡ self.old.ops.items ++ chain self.old.replica self.old.last after put.now) }
         ensures last { OnOk result (self.new.last ≡ self.old.last + length put.now) }
         ensures replica { self.new.replica ≡ self.old.replica }
-        ensures memory { IfErr result (λ e. e ≡ Refusal.Memory) }
     {
         self.ops.reserve(put.len())?;
         let mut parent = after;
         for ch in put {
-            let id = Id::new(self.last + 1, self.replica)?;
+            let Ok(id) = Id::new(self.last + 1, self.replica) else {
+                unreachable!()
+            };
             self.ops.push_reserved(Op::Insert {
                 id,
                 parent,

@@ -1,17 +1,16 @@
 //! Edits by place.
 ghost use Rattle.std.specs.Prelude.{◌≡◌, ◌≤◌, ◌&&◌, ℕ, min, nat_le, true, length, Ok, Err, IfOk, IfErr, OnOk, OnErr, if◌then◌else◌};
-ghost use Rattle.rga_ops.specs.Prelude.{content_of, join, order, text, IsAnswer};
+ghost use Rattle.rga_ops.specs.Prelude.{content_of, join, order, text, IsAnswer, Memory};
 ghost use Rattle.rga_ops.specs.Splice.{spliced, text_after, are_falling, end_of, new_characters};
 ghost use Rattle.rga_store.specs.Limit.{is_limit};
 ghost use Rattle.rga_store.specs.Taking.{TakesMore};
 ghost use Rattle.rga_doc.specs.Excerpt.{begin_of};
 ghost use Rattle.rga_doc.specs.LocalEdit.{splice_operations, splices_operations, splice_answer, splices_answer, edit_answer, room_answer, counter_answer, order_after};
-ghost use Rattle.rga_ops.specs.declared.refusal.Refusal.TheVariants.{Memory};
 
 use crate::doc::Doc;
 use crate::draft::Draft;
 use crate::excerpt::Excerpt;
-use rga_ops::{Id, Op, Refusal, Splice};
+use rga_ops::{Id, Op, OutOfMemory, Refusal, Splice};
 use rga_store::{Taker, TextStore};
 
 impl<S: TextStore> Doc<S> {
@@ -53,7 +52,7 @@ impl<S: TextStore> Doc<S> {
     {
         self.check_edit(lo <= hi, hi, put.len())?;
         let ops = self.write_splice(lo, hi, put)?;
-        self.take_splice(lo, hi, put, ops)
+        Ok(self.take_splice(lo, hi, put, ops)?)
     }
 
     /// What refuses an edit whose places are in order or not, that ends at a place and puts so many
@@ -84,11 +83,10 @@ impl<S: TextStore> Doc<S> {
     }
 
     /// The operations of a splice that is allowed. `Memory` alone.
-    fn write_splice(&self, lo: usize, hi: usize, put: &[char]) -> Result<Vec<Op>, Refusal>
+    fn write_splice(&self, lo: usize, hi: usize, put: &[char]) -> Result<Vec<Op>, OutOfMemory>
         requires allowed { splice_answer self.now.limit self.now.content lo hi put.now ≡ Ok tt }
         ensures operations { IfOk result (λ ops. ops.items
             ≡ splice_operations self.now.replica self.now.content lo hi put.now) }
-        ensures memory { IfErr result (λ e. e ≡ Refusal.Memory) }
     {
         let elements = Excerpt::of(self.alloc, &self.store, lo, hi)?;
         let mut draft = Draft::new(self.alloc, self.replica, self.store.clock());
@@ -126,7 +124,7 @@ impl<S: TextStore> Doc<S> {
             are_falling (end_of splices.now) splices.now ≡ true }
     {
         let ops = self.draft(splices)?;
-        self.take_or_forget(splices, ops)
+        Ok(self.take_or_forget(splices, ops)?)
     }
 
     /// The operations of several splices, which are not taken yet: `take` does that, and what
@@ -150,15 +148,14 @@ impl<S: TextStore> Doc<S> {
         let end = end_of(splices);
         let new = count_characters(splices);
         self.check_edit(are_falling(end, splices), end, new)?;
-        self.write_splices(splices)
+        Ok(self.write_splices(splices)?)
     }
 
     /// The operations of splices that are allowed. `Memory` alone.
-    fn write_splices(&self, splices: &[Splice]) -> Result<Vec<Op>, Refusal>
+    fn write_splices(&self, splices: &[Splice]) -> Result<Vec<Op>, OutOfMemory>
         requires allowed { splices_answer self.now.limit self.now.content splices.now ≡ Ok tt }
         ensures operations { IfOk result (λ ops. ops.items
             ≡ splices_operations self.now.replica self.now.content splices.now) }
-        ensures memory { IfErr result (λ e. e ≡ Refusal.Memory) }
     {
         let (lo, hi) = (begin_of(splices), end_of(splices));
         let elements = Excerpt::of(self.alloc, &self.store, lo, hi)?;

@@ -4,7 +4,7 @@ ghost use Rattle.rga_ops.specs.Places.{visible};
 ghost use Rattle.rga_doc.specs.Excerpt.{excerpt};
 ghost use Rattle.rga_doc.specs.LocalEdit.{left_of};
 
-use rga_ops::{Id, Refusal};
+use rga_ops::{Id, OutOfMemory};
 use rga_store::TextStore;
 use std::alloc::Global;
 use std::marker::Model;
@@ -38,9 +38,8 @@ impl Excerpt {
         store: &S,
         lo: usize,
         hi: usize,
-    ) -> Result<Excerpt, Refusal>
+    ) -> Result<Excerpt, OutOfMemory>
         ensures ok { IfOk result (λ e. e ≡ excerpt (visible (S.content store.now)) lo hi) }
-        ensures memory { IfErr result (λ e. e ≡ Refusal.Memory) }
     {
         let start = lo.saturating_sub(1);
         let elements = store.elements(alloc, start, hi)?;

@@ -5,7 +5,7 @@ ghost use Rattle.rga_ops.specs.Splice.{spliced, text_after, are_falling, new_cha
 ghost use Rattle.rga_doc.specs.Listing.{IsListing};
 
 use crate::Characters;
-use rga_ops::{Refusal, Splice};
+use rga_ops::{OutOfMemory, Splice};
 use rga_store::TextStore;
 use std::alloc::Global;
 
@@ -31,11 +31,10 @@ impl Listing {
     }
 
     /// Lists what a store shows, where it is not listed. `Memory` alone; then all stays.
-    pub(crate) fn list<S: TextStore>(&mut self, alloc: Global, store: &S) -> Result<(), Refusal>
+    pub(crate) fn list<S: TextStore>(&mut self, alloc: Global, store: &S) -> Result<(), OutOfMemory>
         requires { IsListing (S.content store.now) self.old.listed self.old.characters.items }
         ensures listed { OnOk result (self.new.listed ≡ true) }
         ensures lists { OnOk result (self.new.characters.items ≡ text (S.content store.now)) }
-        ensures memory { IfErr result (λ e. e ≡ Refusal.Memory) }
         ensures same { OnErr result (self.new ≡ self.old) }
         ensures kept { self.old.listed ≡ true → result ≡ Ok tt }
     {

@@ -1,11 +1,10 @@
 //! Edits that are reverted.
 ghost use Rattle.std.specs.Prelude.{◌≡◌, ◌||◌, not, ◌+◌, ◌≤◌, ◌<◌, ◌++◌, filter, take, length, Ok, Err, IfOk, IfErr, OnOk, OnErr};
 ghost use Rattle.indexmap.specs.IndexSet.{contains};
-ghost use Rattle.rga_ops.specs.Prelude.{Identifier, clock_of, content_of, is_id, join, order, text, IsAnswer};
+ghost use Rattle.rga_ops.specs.Prelude.{Identifier, clock_of, content_of, is_id, join, order, text, IsAnswer, Memory};
 ghost use Rattle.rga_ops.specs.Order.{waiting};
 ghost use Rattle.rga_ops.specs.Places.{is_visible};
 ghost use Rattle.rga_ops.specs.RootPath.{is_complete};
-ghost use Rattle.rga_ops.specs.declared.refusal.Refusal.TheVariants.{Memory};
 ghost use Rattle.rga_store.specs.Taking.{TakesMore};
 ghost use Rattle.rga_doc.specs.LocalEdit.{room_answer, place_answer};
 ghost use Rattle.rga_doc.specs.Revert.{distinct_elements, restorations, revert_operations, are_restorable, revert_answer, put_back};
@@ -15,7 +14,7 @@ use crate::draft::Draft;
 use crate::edit::{check_counters, has_room};
 use crate::taking::take_all;
 use indexmap::IndexSet;
-use rga_ops::{Id, Op, Refusal};
+use rga_ops::{Id, Op, OutOfMemory, Refusal};
 use rga_store::{Taker, TextStore};
 use std::alloc::Global;
 
@@ -65,7 +64,7 @@ impl<S: TextStore> Doc<S> {
         gone: &[Id],
         back: &[(Id, char)],
         ops: &[Op],
-    ) -> Result<usize, Refusal>
+    ) -> Result<usize, OutOfMemory>
         requires allowed { revert_answer self.old.limit self.old.content back.now ≡ Ok tt }
         requires operations { ops.now
             ≡ revert_operations self.old.replica self.old.content gone.now back.now }
@@ -75,16 +74,13 @@ impl<S: TextStore> Doc<S> {
         ensures front { IfOk result (λ n. take n (text self.new.content)
             ≡ take n (text self.old.content)) }
         ensures took { OnOk result (TakesMore self.old.content ops.now self.new.content) }
-        ensures memory { IfErr result (λ e. e ≡ Refusal.Memory) }
         ensures same { OnErr result (self.new ≡ self.old) }
     {
         let (deletions, insertions) = ops.split_at(ops.len() - back.len());
         let margins = self
             .listing
             .margins(&self.store, deletions, insertions.len());
-        if !take_all(&mut self.store, ops) {
-            return Err(Refusal::Memory);
-        }
+        take_all(&mut self.store, ops)?;
         let front = self
             .listing
             .follow(self.alloc, &self.store, margins, insertions);
@@ -144,11 +140,10 @@ fn collect_visible<S: TextStore>(
     store: &S,
     waits: usize,
     ids: &[Id],
-) -> Result<Vec<Id>, Refusal>
+) -> Result<Vec<Id>, OutOfMemory>
     requires { waits ≡ length (waiting (S.content store.now)) }
     ensures ok { IfOk result (λ kept. kept.items
         ≡ distinct_elements (filter (is_visible (S.content store.now)) ids.now)) }
-    ensures memory { IfErr result (λ e. e ≡ Refusal.Memory) }
 {
     let mut seen = IndexSet::new(alloc);
     let mut kept = Vec::new(alloc);
@@ -182,25 +177,25 @@ fn is_in_order<S: TextStore>(store: &S, waits: usize, id: Id) -> bool
 }
 
 /// Puts an element in, and tells whether it is new. `Memory` alone.
-fn put_in(set: &mut IndexSet<Id>, id: Id) -> Result<bool, Refusal>
+fn put_in(set: &mut IndexSet<Id>, id: Id) -> Result<bool, OutOfMemory>
     ensures new { IfOk result (λ new. new ≡ not (contains is_id set.old id)) }
     ensures members { OnOk result ((q : Identifier) →
         contains is_id set.new q ≡ (is_id id q || contains is_id set.old q)) }
-    ensures memory { IfErr result (λ e. e ≡ Refusal.Memory) }
 {
     Ok(set.insert(id)?)
 }
 
 impl Draft {
     /// One new element for each character, with its element as the parent.
-    fn restore(&mut self, back: &[(Id, char)]) -> Result<(), Refusal>
+    fn restore(&mut self, back: &[(Id, char)]) -> Result<(), OutOfMemory>
         requires { 0 < length back.now → self.old.last + length back.now ≤ Id.MAX_COUNTER }
         ensures ops { OnOk result (self.new.ops.items
             ≡ self.old.ops.items ++ restorations self.old.replica self.old.last back.now) }
-        ensures memory { IfErr result (λ e. e ≡ Refusal.Memory) }
     {
         for (element, ch) in back {
-            let id = Id::new(self.last + 1, self.replica)?;
+            let Ok(id) = Id::new(self.last + 1, self.replica) else {
+                unreachable!()
+            };
             self.ops.push(Op::Insert {
                 id,
                 parent: *element,

@@ -4,7 +4,7 @@ ghost use Rattle.std.specs.Prelude.{◌≡◌, ◌≤◌, ◌++◌, true, take, 
 ghost use Rattle.rga_ops.specs.Splice.{text_after, are_falling};
 
 use crate::characters::Characters;
-use rga_ops::{Refusal, Splice};
+use rga_ops::{OutOfMemory, Splice};
 use std::alloc::Global;
 
 impl Characters {
@@ -14,11 +14,10 @@ impl Characters {
         alloc: Global,
         splices: &[Splice],
         more: usize,
-    ) -> Result<Characters, Refusal>
+    ) -> Result<Characters, OutOfMemory>
         requires { are_falling (length self.now.items) splices.now ≡ true }
         ensures ok { IfOk result
             (λ l. l.items ≡ text_after self.now.items splices.now) }
-        ensures memory { IfErr result (λ e. e ≡ Refusal.Memory) }
     {
         let old = self.as_slice();
         let room = Vec::with_capacity(alloc, old.len().saturating_add(more))?;
@@ -37,12 +36,11 @@ impl Characters {
     }
 
     /// Adds what stands in a slice from one place to another. `Memory` alone.
-    fn extend_part(&mut self, characters: &[char], lo: usize, hi: usize) -> Result<(), Refusal>
+    fn extend_part(&mut self, characters: &[char], lo: usize, hi: usize) -> Result<(), OutOfMemory>
         requires ordered { lo ≤ hi }
         requires within { hi ≤ length characters.now }
         ensures items { OnOk result
             (self.new.items ≡ self.old.items ++ drop lo (take hi characters.now)) }
-        ensures memory { IfErr result (λ e. e ≡ Refusal.Memory) }
     {
         self.extend(&characters[lo..hi])
     }

@@ -1,5 +1,5 @@
 //! What was drafted, taken.
-ghost use Rattle.std.specs.Prelude.{◌≡◌, true, false, Ok, IfOk, IfErr, OnOk, OnErr};
+ghost use Rattle.std.specs.Prelude.{◌≡◌, true, Ok, IfOk, IfErr, OnOk, OnErr};
 ghost use Rattle.rga_ops.specs.Prelude.{content_of, join, list_answer, order, text};
 ghost use Rattle.rga_ops.specs.Splice.{spliced, text_after};
 ghost use Rattle.rga_store.specs.Taking.{TakesMore};
@@ -7,7 +7,7 @@ ghost use Rattle.rga_doc.specs.LocalEdit.{splice_operations, splices_operations,
 
 use crate::doc::Doc;
 use crate::edit::count_characters;
-use rga_ops::{Op, Refusal, Splice};
+use rga_ops::{Op, OutOfMemory, Splice};
 use rga_store::{Taker, TextStore};
 
 /// Each of more splices would move much of what stands behind it: then all is listed anew.
@@ -17,7 +17,7 @@ impl<S: TextStore> Doc<S> {
     /// Takes the operations of splices that `draft` gave for this document as it is. `Memory`
     /// alone; then nothing changes.
     #[tactic(auto, using(rga_store::proofs::TakingLaws::joined_taken))]
-    pub fn take(&mut self, splices: &[Splice], ops: &[Op]) -> Result<(), Refusal>
+    pub fn take(&mut self, splices: &[Splice], ops: &[Op]) -> Result<(), OutOfMemory>
         requires listed { self.old.listed ≡ true }
         requires allowed { splices_answer self.old.limit self.old.content splices.now ≡ Ok tt }
         requires operations { ops.now
@@ -28,22 +28,17 @@ impl<S: TextStore> Doc<S> {
         ensures text { OnOk result
             (text self.new.content ≡ text_after (text self.old.content) splices.now) }
         ensures took { OnOk result (TakesMore self.old.content ops.now self.new.content) }
-        ensures memory { IfErr result (λ e. e ≡ Refusal.Memory) }
         ensures same { OnErr result (self.new ≡ self.old) }
     {
         let new = count_characters(splices).min(self.store.limit());
         if splices.len() > MOST_IN_PLACE {
             let characters = self.listing.characters.spliced(self.alloc, splices, new)?;
-            if !take_all(&mut self.store, ops) {
-                return Err(Refusal::Memory);
-            }
+            take_all(&mut self.store, ops)?;
             self.listing.characters = characters;
             return Ok(());
         }
         self.listing.characters.make_room(new)?;
-        if !take_all(&mut self.store, ops) {
-            return Err(Refusal::Memory);
-        }
+        take_all(&mut self.store, ops)?;
         self.listing.replace_all(splices);
         Ok(())
     }
@@ -56,7 +51,7 @@ impl<S: TextStore> Doc<S> {
         hi: usize,
         put: &[char],
         ops: Vec<Op>,
-    ) -> Result<Vec<Op>, Refusal>
+    ) -> Result<Vec<Op>, OutOfMemory>
         requires listed { self.old.listed ≡ true }
         requires allowed { splice_answer self.old.limit self.old.content lo hi put.now ≡ Ok tt }
         requires operations { ops.items
@@ -68,13 +63,10 @@ impl<S: TextStore> Doc<S> {
             (text self.new.content ≡ spliced (text self.old.content) lo hi put.now) }
         ensures place { OnOk result
             (order self.new.content ≡ order_after self.old.replica self.old.content lo put.now) }
-        ensures memory { IfErr result (λ e. e ≡ Refusal.Memory) }
         ensures same { OnErr result (self.new ≡ record self.old { listed = self.new.listed }) }
     {
         self.listing.make_room(self.alloc, put.len());
-        if !take_all(&mut self.store, &ops) {
-            return Err(Refusal::Memory);
-        }
+        take_all(&mut self.store, &ops)?;
         self.listing.splice(lo, hi, put);
         Ok(ops)
     }
@@ -85,7 +77,7 @@ impl<S: TextStore> Doc<S> {
         &mut self,
         splices: &[Splice],
         ops: Vec<Op>,
-    ) -> Result<Vec<Op>, Refusal>
+    ) -> Result<Vec<Op>, OutOfMemory>
         requires listed { self.old.listed ≡ true }
         requires allowed { splices_answer self.old.limit self.old.content splices.now ≡ Ok tt }
         requires operations { ops.items
@@ -93,27 +85,28 @@ impl<S: TextStore> Doc<S> {
         ensures ok { IfOk result (λ taken. taken.items ≡ ops.items) }
         ensures content { OnOk result (self.new ≡ record self.old
             { content = join self.old.content (content_of ops.items); listed = self.new.listed }) }
-        ensures memory { IfErr result (λ e. e ≡ Refusal.Memory) }
         ensures same { OnErr result (self.new ≡ record self.old { listed = self.new.listed }) }
     {
         if self.take(splices, &ops).is_ok() {
             return Ok(ops);
         }
         self.listing.forget(self.alloc);
-        if take_all(&mut self.store, &ops) {
-            return Ok(ops);
-        }
-        Err(Refusal::Memory)
+        take_all(&mut self.store, &ops)?;
+        Ok(ops)
     }
 }
 
-/// Takes operations that the store takes. Whether there was memory; else nothing changes.
-pub(crate) fn take_all<S: TextStore>(store: &mut S, ops: &[Op]) -> bool
+/// Takes operations that the store takes; else nothing changes.
+#[tactic(auto, using(rga_store::proofs::TakingLaws::memory_alone))]
+pub(crate) fn take_all<S: TextStore>(store: &mut S, ops: &[Op]) -> Result<(), OutOfMemory>
     requires { list_answer (S.limit store.old) (S.content store.old) ops.now ≡ Ok tt }
-    ensures content { result ≡ true →
-        S.content store.new ≡ join (S.content store.old) (content_of ops.now) }
-    ensures same { result ≡ false → S.content store.new ≡ S.content store.old }
+    ensures content { OnOk result
+        (S.content store.new ≡ join (S.content store.old) (content_of ops.now)) }
+    ensures same { OnErr result (S.content store.new ≡ S.content store.old) }
     ensures limit { S.limit store.new ≡ S.limit store.old }
 {
-    store.apply_all(ops).is_ok()
+    match store.apply_all(ops) {
+        Ok(()) => Ok(()),
+        Err(refused) => Err(refused.memory()),
+    }
 }

@@ -17,8 +17,8 @@ ghost use Rattle.rga_exchange.specs.Turns.{ends_behind, deleted_behind, lines_at
 use crate::finding::{element_in, is_deleted_in};
 use crate::runs::may_be_written;
 use crate::{Block, Counted, SendFault, shortest_line};
-use rga_lines::{DeletionRun, LineFault, MAX_RUN, Run, write_deletion_run, write_line};
-use rga_ops::{Id, Op};
+use rga_lines::{DeletionRun, MAX_RUN, Run, write_deletion_run, write_line};
+use rga_ops::{Id, Op, OutOfMemory};
 use rga_store::TextStore;
 use std::alloc::{AllocError, Global};
 use std::io::Write;
@@ -273,7 +273,7 @@ fn next_deleted(ops: &[Op], near: &mut usize, last: Id) -> Option<Id>
 }
 
 /// The line of a run of deletions, or of a deletion where it is a run of one.
-fn deletion_line(alloc: Global, run: &DeletionRun) -> Result<String, LineFault>
+fn deletion_line(alloc: Global, run: &DeletionRun) -> Result<String, OutOfMemory>
     ensures { IfOk result (λ s. string_bytes s ≡ deletion_line run.now) }
 {
     if run.count == 1 {

@@ -14,8 +14,8 @@ ghost use Rattle.rga_exchange.specs.Sending.{AppendsFirst, AreWritable, StandsFo
 use crate::Counted;
 use crate::block::Block;
 use crate::fault::SendFault;
-use rga_lines::{LineFault, MAX_RUN, Run, write_line, write_run};
-use rga_ops::{Id, Op};
+use rga_lines::{MAX_RUN, Run, write_line, write_run};
+use rga_ops::{Id, Op, OutOfMemory};
 use std::alloc::{AllocError, Global};
 use std::io::Write;
 
@@ -156,10 +156,9 @@ fn line_of_run(
 
 /// The line of a run without its newline, or of an insertion where it is a run of one. `Memory` is
 /// the only refusal.
-pub fn shortest_line(alloc: Global, run: &Run) -> Result<String, LineFault>
+pub fn shortest_line(alloc: Global, run: &Run) -> Result<String, OutOfMemory>
     requires { 0 < length run.now.chars }
     ensures ok { IfOk result (λ s. string_bytes s ≡ stretch_line run.now) }
-    ensures memory { IfErr result (λ e. e ≡ LineFault.Memory) }
 {
     let chars = run.chars.as_slice();
     if chars.len() == 1 {

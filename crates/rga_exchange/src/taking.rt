@@ -261,7 +261,7 @@ pub(crate) fn take<T: Taker>(taker: &mut T, number: u64, op: Op) -> Result<LineT
 {
     match taker.apply(op) {
         Ok(_) => Ok(LineTaken::Operations(1)),
-        Err(Refusal::Memory) => Err(LogFault::Memory),
+        Err(Refusal::Memory(_)) => Err(LogFault::Memory),
         Err(refusal) => Err(LogFault::Refused(number, refusal)),
     }
 }
@@ -275,7 +275,7 @@ fn take_all<T: Taker>(taker: &mut T, number: u64, ops: &[Op]) -> Result<LineTake
 {
     match taker.apply_all(ops) {
         Ok(()) => Ok(LineTaken::Operations(ops.len() as u64)),
-        Err(Refusal::Memory) => Err(LogFault::Memory),
+        Err(Refusal::Memory(_)) => Err(LogFault::Memory),
         Err(fault) => Err(LogFault::Refused(number, fault)),
     }
 }

@@ -14,7 +14,7 @@ use crate::newer::{gather_newer, is_newer};
 use crate::placing::{next, note_block, note_entries};
 use crate::taking::near_above;
 use crate::waiting::has_list;
-use rga_ops::{Id, Op, Refusal, Taken, answer_to};
+use rga_ops::{Id, Op, OutOfMemory, Taken, answer_to};
 use rga_records::Records;
 use rga_sequence::{Entry, MOST_AT_ONCE, Near, Sequence};
 use rga_store::{Step, note};
@@ -33,7 +33,7 @@ pub(crate) fn take_chain<'a>(
     done: &BTreeSet<Id>,
     ops: &'a [Op],
     steps: &mut Vec<Step<'a>>,
-) -> Result<usize, Refusal>
+) -> Result<usize, OutOfMemory>
     requires back { CanTakeBack steps.old.items records.old.content }
     requires flat { IsFlat records.old.content sequence.old
         (under waiting.now) (is_listed waiting.now done.now) }
@@ -45,7 +45,6 @@ pub(crate) fn take_chain<'a>(
     ensures same { OnErr result (records.new.content ≡ records.old.content) }
     ensures same_steps { OnErr result (steps.new.items ≡ steps.old.items) }
     ensures limit { records.new.limit ≡ records.old.limit }
-    ensures memory { IfErr result (λ e. e ≡ Refusal.Memory) }
 {
     let Some(parent) = parent_of_chain(ops) else {
         return Ok(0);
@@ -111,7 +110,7 @@ fn gather<'a>(
     ops: &'a [Op],
     steps: &mut Vec<Step<'a>>,
     entries: &mut Vec<Entry>,
-) -> Result<(), Refusal>
+) -> Result<(), OutOfMemory>
     requires back { CanTakeBack steps.old.items records.old.content }
     requires above { is_above records.old.content parent ≡ true }
     requires none { entries.old.items ≡ [] }
@@ -125,7 +124,6 @@ fn gather<'a>(
     ensures few { length entries.new.items ≤ MOST_AT_ONCE }
     ensures within { length entries.new.items ≤ length ops.now }
     ensures limit { records.new.limit ≡ records.old.limit }
-    ensures memory { IfErr result (λ e. e ≡ Refusal.Memory) }
 {
     if is_newer(ops, records.clock()) {
         return gather_newer(alloc, records, waiting, parent, near, ops, steps, entries);
@@ -197,7 +195,7 @@ fn add<'a>(
     entry: &Entry,
     steps: &mut Vec<Step<'a>>,
     entries: &mut Vec<Entry>,
-) -> Result<(), Refusal>
+) -> Result<(), OutOfMemory>
     requires op { op.now ≡ Op.Insert entry.now.id parent entry.now.ch }
     requires new { answer records.old.limit records.old.content
         (Op.Insert entry.now.id parent entry.now.ch) ≡ Ok Taken.New }
@@ -218,7 +216,6 @@ fn add<'a>(
     ensures capacity { vec_capacity entries.new ≡ vec_capacity entries.old }
     ensures steps_capacity { vec_capacity steps.new ≡ vec_capacity steps.old }
     ensures limit { records.new.limit ≡ records.old.limit }
-    ensures memory { IfErr result (λ e. e ≡ Refusal.Memory) }
 {
     let clock = records.clock();
     records.insert(entry.id, parent, entry.ch, near, entry.deleted)?;
@@ -236,13 +233,12 @@ fn put_chain(
     parent: Id,
     near: Near,
     entries: &[Entry],
-) -> Result<(), Refusal>
+) -> Result<(), OutOfMemory>
     requires chain { IsChain parent entries.now sequence.old }
     requires few { length entries.now ≤ MOST_AT_ONCE }
     ensures put { OnOk result (sequence.new ≡ put_chain parent entries.now sequence.old) }
     ensures same { OnErr result (sequence.new ≡ sequence.old) }
     ensures records { records.new ≡ records.old }
-    ensures memory { IfErr result (λ e. e ≡ Refusal.Memory) }
 {
     if entries.len() == 0 {
         return Ok(());

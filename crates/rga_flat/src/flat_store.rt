@@ -4,7 +4,7 @@ use crate::reading::{count_inserted, string_of};
 use crate::taking::take;
 use crate::waiting::clear_lists;
 use crate::whole_list::take_whole;
-use rga_ops::{Id, Op, Refusal, Taken};
+use rga_ops::{Id, Op, OutOfMemory, Refusal, Taken};
 use rga_records::Records;
 use rga_sequence::Sequence;
 use rga_store::{Listener, Taker, Teller, TextStore, answer_to_list};
@@ -70,19 +70,18 @@ impl Taker for FlatStore {
 
     fn apply_all(&mut self, ops: &[Op]) -> Result<(), Refusal> {
         let _known = self.records.known();
-        let whole = take_whole(
+        let Err(refused) = take_whole(
             self.alloc,
             &mut self.records,
             &mut self.sequence,
             &mut self.waiting,
             ops,
-        );
-        if whole.is_ok() {
+        ) else {
             return Ok(());
-        }
+        };
         // Which refusal comes first depends on the whole list, so it is looked for only now.
         answer_to_list(self.alloc, &self.records, ops)?;
-        Err(Refusal::Memory)
+        Err(refused)
     }
 }
 
@@ -125,20 +124,20 @@ impl TextStore for FlatStore {
         self.records.limit()
     }
 
-    fn order(&self) -> Result<Vec<Id>, Refusal> {
+    fn order(&self) -> Result<Vec<Id>, OutOfMemory> {
         self.sequence.ids(self.alloc)
     }
 
-    fn text(&self, alloc: Global) -> Result<Vec<char>, Refusal> {
+    fn text(&self, alloc: Global) -> Result<Vec<char>, OutOfMemory> {
         self.sequence.text(alloc)
     }
 
-    fn text_string(&self, alloc: Global) -> Result<String, Refusal> {
+    fn text_string(&self, alloc: Global) -> Result<String, OutOfMemory> {
         let chars = self.sequence.text(alloc)?;
         string_of(alloc, chars.as_slice())
     }
 
-    fn visible(&self, alloc: Global) -> Result<(Vec<Id>, Vec<char>), Refusal> {
+    fn visible(&self, alloc: Global) -> Result<(Vec<Id>, Vec<char>), OutOfMemory> {
         let count = count_inserted(&self.records);
         let ids = self.sequence.elements(alloc, 0, count)?;
         let chars = self.sequence.text(alloc)?;
@@ -154,7 +153,7 @@ impl TextStore for FlatStore {
         self.sequence.element_at(k)
     }
 
-    fn elements(&self, alloc: Global, lo: usize, hi: usize) -> Result<Vec<Id>, Refusal> {
+    fn elements(&self, alloc: Global, lo: usize, hi: usize) -> Result<Vec<Id>, OutOfMemory> {
         self.sequence.elements(alloc, lo, hi)
     }
 
@@ -166,27 +165,33 @@ impl TextStore for FlatStore {
         self.sequence.place_of(id, self.records.near(id))
     }
 
-    fn waiting_count(&self) -> Result<usize, Refusal> {
+    fn waiting_count(&self) -> Result<usize, OutOfMemory> {
         let count = count_inserted(&self.records);
         Ok(count - self.sequence.len())
     }
 
-    fn ops(&self) -> Result<Vec<Op>, Refusal> {
+    fn ops(&self) -> Result<Vec<Op>, OutOfMemory> {
         self.records.ops(self.alloc)
     }
 
-    fn copy(&self) -> Result<FlatStore, Refusal> {
+    fn copy(&self) -> Result<FlatStore, OutOfMemory> {
         let _known = self.records.known();
         let ops = self.records.ops(self.alloc)?;
-        let mut copy = FlatStore::new(self.alloc, self.records.limit())?;
-        take_whole(
+        let mut copy = match FlatStore::new(self.alloc, self.records.limit()) {
+            Ok(copy) => copy,
+            Err(refused) => return Err(refused.memory()),
+        };
+        let taken = take_whole(
             copy.alloc,
             &mut copy.records,
             &mut copy.sequence,
             &mut copy.waiting,
             &ops,
-        )?;
-        Ok(copy)
+        );
+        match taken {
+            Ok(()) => Ok(copy),
+            Err(refused) => Err(refused.memory()),
+        }
     }
 
     fn merge(&mut self, other: &FlatStore) -> Result<(), Refusal> {
@@ -210,11 +215,11 @@ impl TextStore for FlatStore {
 }
 
 impl Teller for FlatStore {
-    fn tell_insertions<L: Listener>(&self, listener: &mut L) -> Result<(), Refusal> {
+    fn tell_insertions<L: Listener>(&self, listener: &mut L) -> Result<(), OutOfMemory> {
         self.records.tell_insertions(listener)
     }
 
-    fn tell_deletions<L: Listener>(&self, listener: &mut L) -> Result<(), Refusal> {
+    fn tell_deletions<L: Listener>(&self, listener: &mut L) -> Result<(), OutOfMemory> {
         self.records.tell_deletions(listener)
     }
 
@@ -222,7 +227,7 @@ impl Teller for FlatStore {
         &self,
         of_insertions: &mut L,
         of_deletions: &mut M,
-    ) -> Result<(), Refusal> {
+    ) -> Result<(), OutOfMemory> {
         self.records.tell_both(of_insertions, of_deletions)
     }
 }

@@ -9,7 +9,7 @@ ghost use Rattle.rga_flat.specs.Flat.{is_above};
 ghost use Rattle.rga_flat.specs.Waiting.{has_list};
 
 use crate::waiting::has_list;
-use rga_ops::{Id, Op, Refusal};
+use rga_ops::{Id, Op, OutOfMemory};
 use rga_records::Records;
 use rga_sequence::{Entry, MOST_AT_ONCE, Near};
 use rga_store::{Step, note};
@@ -36,7 +36,7 @@ pub(crate) fn gather_newer<'a>(
     ops: &'a [Op],
     steps: &mut Vec<Step<'a>>,
     entries: &mut Vec<Entry>,
-) -> Result<(), Refusal>
+) -> Result<(), OutOfMemory>
     requires back { CanTakeBack steps.old.items records.old.content }
     requires above { is_above records.old.content parent ≡ true }
     requires none { entries.old.items ≡ [] }
@@ -50,7 +50,6 @@ pub(crate) fn gather_newer<'a>(
     ensures few { length entries.new.items ≤ MOST_AT_ONCE }
     ensures within { length entries.new.items ≤ length ops.now }
     ensures limit { records.new.limit ≡ records.old.limit }
-    ensures memory { IfErr result (λ e. e ≡ Refusal.Memory) }
 {
     let before = steps.as_slice().len();
     scan(records, waiting, parent, ops, steps, entries);

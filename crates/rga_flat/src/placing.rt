@@ -11,7 +11,7 @@ ghost use Rattle.rga_flat.specs.Placing.{IsPlacing, taken_out};
 ghost use Rattle.rga_flat.specs.Waiting.{under, is_listed, SettlesLists, AreInserted};
 
 use crate::waiting::{push_waiting, settle_list};
-use rga_ops::{Id, Refusal};
+use rga_ops::{Id, OutOfMemory};
 use rga_records::Records;
 use rga_sequence::{Entry, Near, Sequence};
 use std::alloc::Global;
@@ -27,7 +27,7 @@ pub(crate) fn place_all(
     waiting: &BTreeMap<Id, Vec<Id>>,
     done: &mut BTreeSet<Id>,
     id: Id,
-) -> Result<(), Refusal>
+) -> Result<(), OutOfMemory>
     requires { IsPlacing records.old.content (under waiting.now) (is_listed waiting.now done.old)
         sequence.old (id ∷ []) }
     ensures ok { OnOk result (IsPlacing records.old.content (under waiting.now)
@@ -36,7 +36,6 @@ pub(crate) fn place_all(
     ensures settles { SettlesLists waiting.now done.old done.new }
     ensures inserted { AreInserted records.old.content done.old done.new }
     ensures records { records.new ≡ records.old }
-    ensures memory { IfErr result (λ e. e ≡ Refusal.Memory) }
 {
     let mut placed = Vec::new(alloc);
     let mut work = Vec::new(alloc);
@@ -68,7 +67,7 @@ fn place_noted(
     work: &mut Vec<Id>,
     placed: &mut Vec<Id>,
     id: Id,
-) -> Result<(), Refusal>
+) -> Result<(), OutOfMemory>
     requires element { (x : Element) × (finite_map.get records.old.content.inserted id ≡ Some x) }
     requires parent { (x : Element) → finite_map.get records.old.content.inserted id ≡ Some x →
         (is_root x.parent || has x.parent sequence.old) ≡ true }
@@ -86,7 +85,6 @@ fn place_noted(
     ensures same { OnErr result (sequence.new ≡ sequence.old) }
     ensures same_notes { OnErr result (placed.new.items ≡ placed.old.items) }
     ensures records { records.new ≡ records.old }
-    ensures memory { IfErr result (λ e. e ≡ Refusal.Memory) }
 {
     push_waiting(work, waiting, id)?;
     settle_list(waiting, done, id)?;
@@ -113,13 +111,12 @@ pub(crate) fn put_behind(
     parent: Id,
     near: Near,
     entry: &Entry,
-) -> Result<Near, Refusal>
+) -> Result<Near, OutOfMemory>
     requires parent { (is_root parent || has parent sequence.old) ≡ true }
     requires absent { has entry.now.id sequence.old ≡ false }
     ensures put { OnOk result (sequence.new ≡ put_entry parent entry.now sequence.old) }
     ensures same { OnErr result (sequence.new ≡ sequence.old) }
     ensures records { records.new ≡ records.old }
-    ensures memory { IfErr result (λ e. e ≡ Refusal.Memory) }
 {
     let put = sequence.put(parent, near, *entry)?;
     if let Some(block) = put.new_block {

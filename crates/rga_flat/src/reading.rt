@@ -3,14 +3,13 @@ ghost use Rattle.std.specs.Prelude.{◌≡◌, ◌≤◌, IfOk, IfErr, string_by
 ghost use Rattle.std.specs.FinMap as finite_map;
 ghost use Rattle.rga_store.specs.declared.text_store.TheConstants.{MAX_LIMIT};
 
-use rga_ops::Refusal;
+use rga_ops::OutOfMemory;
 use rga_records::Records;
 use std::alloc::Global;
 
 /// Characters in UTF-8. `Memory` alone.
-pub(crate) fn string_of(alloc: Global, chars: &[char]) -> Result<String, Refusal>
+pub(crate) fn string_of(alloc: Global, chars: &[char]) -> Result<String, OutOfMemory>
     ensures ok { IfOk result (λ string. string_bytes string ≡ encode_utf8_all chars.now) }
-    ensures memory { IfErr result (λ e. e ≡ Refusal.Memory) }
 {
     let mut string = String::with_capacity(alloc, chars.len())?;
     for ch in chars {

@@ -3,6 +3,7 @@ ghost use Rattle.std.specs.Prelude.{◌≡◌, ◌≢◌, Some, is_some, Ok, Err
 ghost use Rattle.std.specs.FinMap as finite_map;
 ghost use Rattle.std.specs.FinSet as finite_set;
 ghost use Rattle.std.specs.BTreeSet.{contains};
+ghost use Rattle.rga_ops.specs.Prelude.{Memory};
 ghost use Rattle.rga_ops.specs.Identifier.{Identifier, id_cmp};
 ghost use Rattle.rga_ops.specs.Content.{Content, element, join, single};
 ghost use Rattle.rga_ops.specs.Answer.{answer};
@@ -15,7 +16,7 @@ ghost use Rattle.rga_flat.specs.Waiting.{StayListed, under, has_list, is_listed,
 
 use crate::placing::{is_next, next, place_all, put_behind};
 use crate::waiting::{add_waiting, has_list, is_listed};
-use rga_ops::{Id, Op, Refusal, Taken, answer_to};
+use rga_ops::{Id, Op, OutOfMemory, Refusal, Taken, answer_to};
 use rga_records::Records;
 use rga_sequence::{Entry, Near, Sequence};
 use std::alloc::Global;
@@ -34,11 +35,11 @@ pub(crate) fn take(
         finite_map.contains_key records.old.content.inserted p ≡ true }
     requires flat { IsFlat records.old.content sequence.old
         (under waiting.old) (is_listed waiting.old done.old) }
-    ensures exact { result ≢ Err Refusal.Memory →
+    ensures exact { result ≢ Err Memory →
         result ≡ answer records.old.limit records.old.content op.now }
-    ensures memory { result ≡ Err Refusal.Memory →
+    ensures memory { result ≡ Err Memory →
         answer records.old.limit records.old.content op.now ≡ Ok Taken.New }
-    ensures growth { result ≡ Err Refusal.Memory → NeedsRoom records.old.content op.now }
+    ensures growth { result ≡ Err Memory → NeedsRoom records.old.content op.now }
     ensures new { result ≡ Ok Taken.New →
         records.new.content ≡ join records.old.content (single op.now) }
     ensures same { result ≢ Ok Taken.New → records.new.content ≡ records.old.content }
@@ -86,7 +87,7 @@ fn insert(
     done: &mut BTreeSet<Id>,
     parent: Id,
     entry: &Entry,
-) -> Result<(), Refusal>
+) -> Result<(), OutOfMemory>
     requires new { let op = Op.Insert entry.now.id parent entry.now.ch in
         answer records.old.limit records.old.content op ≡ Ok Taken.New }
     requires deleted { entry.now.deleted
@@ -108,7 +109,6 @@ fn insert(
         IsBased base records.old.content (under waiting.old) (has_list waiting.old) →
         IsBased base records.new.content (under waiting.new) (has_list waiting.new) }
     ensures limit { records.new.limit ≡ records.old.limit }
-    ensures memory { IfErr result (λ e. e ≡ Refusal.Memory) }
 {
     let clock = records.clock();
     let found = near_above(records, waiting, done, parent);
@@ -142,7 +142,7 @@ fn settle(
     near: Near,
     above: bool,
     entry: &Entry,
-) -> Result<(), Refusal>
+) -> Result<(), OutOfMemory>
     requires element { finite_map.get records.old.content.inserted entry.now.id
         ≡ Some (element parent entry.now.ch) }
     requires deleted { entry.now.deleted
@@ -168,7 +168,6 @@ fn settle(
         (IsBased base (without_insertion entry.now.id records.old.content)
         (under waiting.new) (has_list waiting.new)) }
     ensures records { records.new ≡ records.old }
-    ensures memory { IfErr result (λ e. e ≡ Refusal.Memory) }
 {
     let _known = records.known();
     if !above {
@@ -226,7 +225,7 @@ fn delete(
     waiting: &BTreeMap<Id, Vec<Id>>,
     done: &BTreeSet<Id>,
     id: Id,
-) -> Result<(), Refusal>
+) -> Result<(), OutOfMemory>
     requires new { answer records.old.limit records.old.content (Op.Delete id) ≡ Ok Taken.New }
     requires flat { IsFlat records.old.content sequence.old
         (under waiting.now) (is_listed waiting.now done.now) }
@@ -241,7 +240,6 @@ fn delete(
         IsBased base records.old.content (under waiting.now) (has_list waiting.now) →
         IsBased base records.new.content (under waiting.now) (has_list waiting.now) }
     ensures limit { records.new.limit ≡ records.old.limit }
-    ensures memory { IfErr result (λ e. e ≡ Refusal.Memory) }
 {
     let found = near_if_complete(records, waiting, done, id);
     records.delete(id)?;

@@ -8,7 +8,7 @@ ghost use Rattle.rga_ops.specs.Placement.{without};
 ghost use Rattle.std.specs.BTreeSet.{contains};
 ghost use Rattle.rga_flat.specs.Waiting.{StayListed, under, has_list, is_listed, KeepsUnder, KeepsLists, SettlesLists, AreInserted};
 
-use rga_ops::{Id, Refusal};
+use rga_ops::{Id, OutOfMemory};
 use std::alloc::Global;
 use std::collections::{BTreeMap, BTreeSet};
 
@@ -17,9 +17,8 @@ pub(crate) fn push_waiting(
     work: &mut Vec<Id>,
     waiting: &BTreeMap<Id, Vec<Id>>,
     parent: Id,
-) -> Result<(), Refusal>
+) -> Result<(), OutOfMemory>
     ensures ok { OnOk result (work.new.items ≡ work.old.items ++ under waiting.now parent) }
-    ensures memory { IfErr result (λ e. e ≡ Refusal.Memory) }
 {
     match waiting.get(&parent) {
         Some(list) => {
@@ -45,11 +44,14 @@ pub(crate) fn has_list(waiting: &BTreeMap<Id, Vec<Id>>, id: Id) -> bool
 }
 
 /// An identifier has a list from now on.
-fn ensure_list(alloc: Global, waiting: &mut BTreeMap<Id, Vec<Id>>, id: Id) -> Result<(), Refusal>
+fn ensure_list(
+    alloc: Global,
+    waiting: &mut BTreeMap<Id, Vec<Id>>,
+    id: Id,
+) -> Result<(), OutOfMemory>
     ensures there { OnOk result (has_list waiting.new id ≡ true) }
     ensures under { KeepsUnder waiting.old waiting.new }
     ensures lists { KeepsLists waiting.old waiting.new id }
-    ensures memory { IfErr result (λ e. e ≡ Refusal.Memory) }
 {
     let _list = waiting.entry(id)?.or_insert(Vec::new(alloc));
     Ok(())
@@ -61,12 +63,11 @@ fn push_under(
     waiting: &mut BTreeMap<Id, Vec<Id>>,
     parent: Id,
     id: Id,
-) -> Result<(), Refusal>
+) -> Result<(), OutOfMemory>
     ensures ok { OnOk result ((p : Identifier) → under waiting.new p
         ≡ (if eq_by_cmp id_cmp parent p then under waiting.old p ++ id ∷ [] else under waiting.old p)) }
     ensures same { OnErr result (KeepsUnder waiting.old waiting.new) }
     ensures lists { KeepsLists waiting.old waiting.new parent }
-    ensures memory { IfErr result (λ e. e ≡ Refusal.Memory) }
 {
     let list = waiting.entry(parent)?.or_insert(Vec::new(alloc));
     list.push(id)?;
@@ -79,7 +80,7 @@ pub(crate) fn add_waiting(
     waiting: &mut BTreeMap<Id, Vec<Id>>,
     parent: Id,
     id: Id,
-) -> Result<(), Refusal>
+) -> Result<(), OutOfMemory>
     ensures there { OnOk result (has_list waiting.new id ≡ true) }
     ensures ok { OnOk result ((p : Identifier) → under waiting.new p
         ≡ (if eq_by_cmp id_cmp parent p then under waiting.old p ++ id ∷ [] else under waiting.old p)) }
@@ -87,7 +88,6 @@ pub(crate) fn add_waiting(
     ensures stays { StayListed waiting.old waiting.new }
     ensures others { (p : Identifier) → eq_by_cmp id_cmp id p ≡ false →
         eq_by_cmp id_cmp parent p ≡ false → has_list waiting.new p ≡ has_list waiting.old p }
-    ensures memory { IfErr result (λ e. e ≡ Refusal.Memory) }
 {
     ensure_list(alloc, waiting, id)?;
     push_under(alloc, waiting, parent, id)
@@ -108,14 +108,13 @@ pub(crate) fn settle_list(
     waiting: &BTreeMap<Id, Vec<Id>>,
     done: &mut BTreeSet<Id>,
     id: Id,
-) -> Result<(), Refusal>
+) -> Result<(), OutOfMemory>
     ensures gone { OnOk result (is_listed waiting.now done.new id ≡ false) }
     ensures others { (p : Identifier) → eq_by_cmp id_cmp id p ≡ false →
         is_listed waiting.now done.new p ≡ is_listed waiting.now done.old p }
     ensures settles { SettlesLists waiting.now done.old done.new }
     ensures inserted { (c : Content) → finite_map.contains_key c.inserted id ≡ true →
         AreInserted c done.old done.new }
-    ensures memory { IfErr result (λ e. e ≡ Refusal.Memory) }
 {
     if !waiting.contains_key(&id) {
         return Ok(());

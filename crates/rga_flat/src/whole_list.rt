@@ -3,6 +3,7 @@
 ghost use Rattle.std.specs.Prelude.{◌≡◌, ◌≢◌, ◌≤◌, ◌<◌, true, length, take, Ok, Err, IfOk, OnOk, OnErr, IfErr};
 ghost use Rattle.std.specs.BTreeSet.{contains};
 ghost use Rattle.std.specs.FinMap as finite_map;
+ghost use Rattle.rga_ops.specs.Prelude.{Memory};
 ghost use Rattle.rga_ops.specs.Identifier.{Identifier, id_cmp};
 ghost use Rattle.rga_ops.specs.Content.{Content};
 ghost use Rattle.rga_ops.specs.Answer.{taken, taken_one_by_one};
@@ -34,7 +35,7 @@ pub(crate) fn take_whole(
     requires { IsFlat records.old.content sequence.old (under waiting.old) (has_list waiting.old) }
     ensures ok { OnOk result (taken_one_by_one records.old.limit records.old.content ops.now
         ≡ Ok records.new.content) }
-    ensures refused { IfErr result (λ e. e ≢ Refusal.Memory →
+    ensures refused { IfErr result (λ e. e ≢ Memory →
         taken_one_by_one records.old.limit records.old.content ops.now ≡ Err e) }
     ensures same { OnErr result (records.new.content ≡ records.old.content) }
     ensures flat { IsFlat records.new.content sequence.new
@@ -81,7 +82,7 @@ fn take_next<'a>(
         (take count ops.now) ≡ Ok records.new.content) }
     ensures some { IfOk result (λ count. 0 < count) }
     ensures within { IfOk result (λ count. count ≤ length ops.now) }
-    ensures refused { IfErr result (λ e. e ≢ Refusal.Memory →
+    ensures refused { IfErr result (λ e. e ≢ Memory →
         taken_one_by_one records.old.limit records.old.content ops.now ≡ Err e) }
     ensures steps { CanTakeBack steps.new.items records.new.content }
     ensures start { without_noted steps.new.items records.new.content
@@ -128,7 +129,7 @@ fn take_noted<'a>(
         (under waiting.old) (is_listed waiting.old done.old) }
     ensures ok { OnOk result
         (taken records.old.limit records.old.content op.now ≡ Ok records.new.content) }
-    ensures refused { IfErr result (λ e. e ≢ Refusal.Memory →
+    ensures refused { IfErr result (λ e. e ≢ Memory →
         taken records.old.limit records.old.content op.now ≡ Err e) }
     ensures steps { CanTakeBack steps.new.items records.new.content }
     ensures start { without_noted steps.new.items records.new.content

@@ -1,11 +1,10 @@
 //! Runs of deletions.
 ghost use Rattle.std.specs.Prelude.{◌≡◌, IfOk, IfErr};
 ghost use Rattle.rga_lines.specs.Runs.{run_deletions, IsDeletionRun};
-ghost use Rattle.rga_lines.specs.declared.fault.LineFault.TheVariants.{Memory};
 
 use crate::fault::LineFault;
-use rga_ops::{Id, Op};
-use std::alloc::Global;
+use rga_ops::{Id, Op, OutOfMemory};
+use std::alloc::{AllocError, Global};
 
 /// Deletions of elements of one replica with rising counters: the identifier of the first one, and
 /// how many they are.
@@ -19,10 +18,9 @@ impl DeletionRun {
     /// The deletions that it stands for. The caller sees to it that these are 1 to `MAX_RUN`, of
     /// elements whose last one's counter is in range; `line_of` gives no other. `Memory` is the
     /// only refusal.
-    pub fn ops(&self, alloc: Global) -> Result<Vec<Op>, LineFault>
+    pub fn ops(&self, alloc: Global) -> Result<Vec<Op>, OutOfMemory>
         requires { IsDeletionRun self.now }
         ensures ok { IfOk result (λ ops. ops.items ≡ run_deletions self.now) }
-        ensures memory { IfErr result (λ e. e ≡ Memory) }
     {
         let mut ops = Vec::with_capacity(alloc, self.count as usize)?;
         let replica = self.id.replica();
@@ -30,7 +28,7 @@ impl DeletionRun {
         let mut left = self.count;
         'deletions: while left > 0 {
             let Ok(id) = Id::new(counter, replica) else {
-                return Err(LineFault::Memory);
+                return Err(OutOfMemory::from(AllocError));
             };
             ops.push(Op::Delete { id })?;
             counter += 1;

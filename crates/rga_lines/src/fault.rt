@@ -3,6 +3,7 @@ ghost use Rattle.std.specs.Prelude.{◌≡◌};
 ghost use Rattle.rga_lines.specs.declared.fault.LineFault.TheVariants.{Memory};
 ghost use Rattle.rga_lines.specs.FaultName.{fault_name};
 
+use rga_ops::OutOfMemory;
 use std::alloc::{AllocError, AllocFailed};
 
 /// Why a line is neither an operation or a run of them nor the head or the end of an exchange.
@@ -52,6 +53,14 @@ impl LineFault {
             LineFault::Order => "Order",
             LineFault::Memory => "Memory",
         }
+    }
+}
+
+impl From<OutOfMemory> for LineFault {
+    ghost from_gives = { λ _ e. e ≡ Memory };
+
+    fn from(_: OutOfMemory) -> LineFault {
+        LineFault::Memory
     }
 }
 

@@ -1,11 +1,10 @@
 //! Runs of insertions.
 ghost use Rattle.std.specs.Prelude.{◌≡◌, IfOk, IfErr};
 ghost use Rattle.rga_lines.specs.Runs.{Stretch, stretch, stretch_code, stretch_operations, IsRun};
-ghost use Rattle.rga_lines.specs.declared.fault.LineFault.TheVariants.{Memory};
 
 use crate::fault::LineFault;
-use rga_ops::{Id, Op};
-use std::alloc::Global;
+use rga_ops::{Id, Op, OutOfMemory};
+use std::alloc::{AllocError, Global};
 use std::marker::Model;
 
 /// The most operations of a run: the characters of one of insertions, or deletions.
@@ -32,10 +31,9 @@ impl Run {
     /// The insertions that it stands for. The caller sees to it that it has 1 to `MAX_RUN`
     /// characters, that the last one's counter is in range, and that its own counter is above its
     /// parent's; `line_of` gives no other. `Memory` is the only refusal.
-    pub fn ops(&self, alloc: Global) -> Result<Vec<Op>, LineFault>
+    pub fn ops(&self, alloc: Global) -> Result<Vec<Op>, OutOfMemory>
         requires { IsRun self.now }
         ensures ok { IfOk result (λ ops. ops.items ≡ stretch_operations self.now) }
-        ensures memory { IfErr result (λ e. e ≡ Memory) }
     {
         let mut ops = Vec::with_capacity(alloc, self.chars.len())?;
         let mut counter = self.id.counter();
@@ -44,7 +42,7 @@ impl Run {
         let mut rest = self.chars.as_slice();
         'chars: while let Some((ch, behind)) = rest.split_first() {
             let Ok(id) = Id::new(counter, replica) else {
-                return Err(LineFault::Memory);
+                return Err(OutOfMemory::from(AllocError));
             };
             let op = Op::Insert {
                 id,

@@ -5,11 +5,10 @@ ghost use Rattle.rga_lines.specs.Log.{SaysRun};
 ghost use Rattle.rga_lines.specs.Spelling.{ReadsInsertions};
 ghost use Rattle.rga_lines.specs.Table.{any_line_at};
 ghost use Rattle.rga_lines.specs.declared.line.Line.TheVariants.{One, Deletions};
-ghost use Rattle.rga_lines.specs.declared.fault.LineFault.TheVariants.{Memory};
 
 use crate::spelled_parts::{after_literal, character, id_after, is_literal, number};
-use crate::{DeletionRun, Line, LineFault, MAX_RUN};
-use rga_ops::{Id, Op};
+use crate::{DeletionRun, Line, MAX_RUN};
+use rga_ops::{Id, Op, OutOfMemory};
 
 /// What the bytes of a line say, where they are so spelled. `None` says nothing of the line: it may
 /// be spelled otherwise, or be that of a run of insertions, which `read_insertions` reads.
@@ -80,9 +79,8 @@ pub fn read_deletion(bytes: &[u8]) -> Option<Op>
 /// its line are spelled as `write_run` spells them. `false` says nothing of the line, whatever then
 /// stands in the list. A list that has the places for them takes no memory; `Memory` is the only
 /// refusal.
-pub fn read_insertions(ops: &mut Vec<Op>, bytes: &[u8]) -> Result<bool, LineFault>
+pub fn read_insertions(ops: &mut Vec<Op>, bytes: &[u8]) -> Result<bool, OutOfMemory>
     ensures said { IfOk result (λ read. read ≡ true → SaysRun bytes.now ops.new.items) }
-    ensures memory { IfErr result (λ e. e ≡ Memory) }
 {
     let Some((id, rest)) = id_after(bytes, b"{\"id\":") else {
         return Ok(false);
@@ -107,10 +105,9 @@ pub fn read_insertions(ops: &mut Vec<Op>, bytes: &[u8]) -> Result<bool, LineFaul
 
 /// Reads the insertions of the characters of a run into the list, by what stands behind the quote
 /// that opens its text. `false` also where a counter is out of range.
-fn characters(ops: &mut Vec<Op>, id: Id, parent: Id, bytes: &[u8]) -> Result<bool, LineFault>
+fn characters(ops: &mut Vec<Op>, id: Id, parent: Id, bytes: &[u8]) -> Result<bool, OutOfMemory>
     ensures read { IfOk result (λ read. read ≡ true
         → ReadsInsertions id parent bytes.now ops.new.items) }
-    ensures memory { IfErr result (λ e. e ≡ Memory) }
 {
     ops.clear();
     let replica = id.replica();

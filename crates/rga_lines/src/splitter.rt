@@ -8,6 +8,7 @@ ghost use Rattle.rga_lines.specs.declared.fault.LineFault.TheVariants.{Long, Mem
 
 use crate::{LineFault, MAX_LINE};
 use memchr::memchr;
+use rga_ops::OutOfMemory;
 use std::alloc::Global;
 use std::marker::Model;
 
@@ -49,9 +50,8 @@ impl Splitter {
 
     /// Adds the next piece of the stream. `Memory` alone, and then nothing changed. After a line
     /// that was too long it adds nothing, and is `Ok`.
-    pub fn feed(&mut self, piece: &[u8]) -> Result<(), LineFault>
+    pub fn feed(&mut self, piece: &[u8]) -> Result<(), OutOfMemory>
         ensures ok { OnOk result (self.new ≡ fed piece.now self.old) }
-        ensures memory { IfErr result (λ e. e ≡ Memory) }
         ensures same { OnErr result (self.new ≡ self.old) }
         ensures broken { self.old.broken ≡ true → IsOk result }
     {

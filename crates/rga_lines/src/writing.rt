@@ -10,12 +10,11 @@ ghost use Rattle.rga_lines.specs.Spelling.{code_escape, escaped, pair_text, line
 ghost use Rattle.rga_lines.specs.Spelling.{deletion_run_line, head_line, end_line};
 ghost use Rattle.rga_lines.specs.Spelling.{IsWritableRun};
 ghost use Rattle.rga_lines.specs.Spelling.{IsElementOrRoot, IsWritable};
-ghost use Rattle.rga_lines.specs.declared.fault.LineFault.TheVariants.{Memory};
 
 use crate::pieces::{hex_digit, short_escape};
-use crate::{DeletionRun, LineFault, Run};
+use crate::{DeletionRun, Run};
 use itoa::Buffer;
-use rga_ops::{Id, Op};
+use rga_ops::{Id, Op, OutOfMemory};
 use std::alloc::{AllocError, Global};
 
 /// Room for any line that is written, the text of a run aside. The longest is an insertion's: 38
@@ -25,9 +24,8 @@ const ROOM: usize = 92;
 /// The line of an operation without its newline, as `line` of `specs/Spelling.antt` has it: no
 /// blanks, the members by their names, and escapes only where JSON (RFC 8259, section 7) asks for
 /// them. `Memory` is the only refusal.
-pub fn write_line(alloc: Global, op: &Op) -> Result<String, LineFault>
+pub fn write_line(alloc: Global, op: &Op) -> Result<String, OutOfMemory>
     ensures ok { IfOk result (λ s. string_bytes s ≡ line op.now) }
-    ensures memory { IfErr result (λ e. e ≡ Memory) }
     // What `Op::check` accepts is written so that it can be read back.
     ensures writable { OnOk result (checked op.now ≡ Ok tt → IsWritable op.now) }
 {
@@ -39,9 +37,8 @@ pub fn write_line(alloc: Global, op: &Op) -> Result<String, LineFault>
 /// The line of a run without its newline, as `run_line` of `specs/Spelling.antt` has it. `read_any`
 /// gives back any that it gives: of 1 to 4096 characters, with a last counter in range and a
 /// counter above the parent's. `Memory` is the only refusal.
-pub fn write_run(alloc: Global, run: &Run) -> Result<String, LineFault>
+pub fn write_run(alloc: Global, run: &Run) -> Result<String, OutOfMemory>
     ensures ok { IfOk result (λ s. string_bytes s ≡ run_line run.now) }
-    ensures memory { IfErr result (λ e. e ≡ Memory) }
     // A run that `read_any` may give is written so that it can be read back.
     ensures writable { OnOk result (IsRun run.now → IsWritableRun run.now) }
 {
@@ -54,9 +51,8 @@ pub fn write_run(alloc: Global, run: &Run) -> Result<String, LineFault>
 /// `specs/Spelling.antt` has it. `read_any` gives back any that it gives. `Memory` is the only
 /// refusal.
 #[tactic(auto, unfolding(crate::specs::Spelling::deletion_run_line))]
-pub fn write_deletion_run(alloc: Global, run: &DeletionRun) -> Result<String, LineFault>
+pub fn write_deletion_run(alloc: Global, run: &DeletionRun) -> Result<String, OutOfMemory>
     ensures ok { IfOk result (λ s. string_bytes s ≡ deletion_run_line run.now) }
-    ensures memory { IfErr result (λ e. e ≡ Memory) }
 {
     let mut text = String::with_capacity(alloc, ROOM)?;
     push_count(&mut text, run.count)?;
@@ -82,9 +78,8 @@ fn push_all(text: &mut String, chars: &[char]) -> Result<(), AllocError>
 /// The line that begins an exchange, without its newline: it names the version of the lines.
 /// `Memory` is the only refusal.
 #[tactic(auto, unfolding(crate::specs::Spelling::head_line))]
-pub fn write_head(alloc: Global) -> Result<String, LineFault>
+pub fn write_head(alloc: Global) -> Result<String, OutOfMemory>
     ensures ok { IfOk result (λ s. string_bytes s ≡ head_line) }
-    ensures memory { IfErr result (λ e. e ≡ Memory) }
 {
     let mut text = String::with_capacity(alloc, ROOM)?;
     text.push_str("{\"op\":\"head\",\"version\":2}")?;
@@ -94,9 +89,8 @@ pub fn write_head(alloc: Global) -> Result<String, LineFault>
 /// The line that ends an exchange of so many operations, without its newline. `Memory` is the only
 /// refusal.
 #[tactic(auto, unfolding(crate::specs::Spelling::end_line))]
-pub fn write_end(alloc: Global, count: u64) -> Result<String, LineFault>
+pub fn write_end(alloc: Global, count: u64) -> Result<String, OutOfMemory>
     ensures ok { IfOk result (λ s. string_bytes s ≡ end_line count) }
-    ensures memory { IfErr result (λ e. e ≡ Memory) }
 {
     let mut text = String::with_capacity(alloc, ROOM)?;
     push_count(&mut text, count)?;

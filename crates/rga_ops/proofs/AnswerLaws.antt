@@ -89,7 +89,7 @@ IsAnswered (Conflict id) = Unit {0}
 IsAnswered Full = Unit {0}
 IsAnswered Range = ⊥
 IsAnswered Clock = ⊥
-IsAnswered Memory = ⊥
+IsAnswered (Memory _) = ⊥
 
 pub no_other_refusal : (limit : ℕ) (c : Content) (op : Op) (e : Refusal) → answer limit c op ≡ Err e → IsAnswered e
 no_other_refusal limit c op e h = grind arith

@@ -16,7 +16,7 @@ use Rattle.rga_ops.proofs.DeletionLaws.{inserted-deletion}
 use Rattle.rga_ops.proofs.ListAnswerLaws.{ill_formed_refusal, first_conflict-append}
 use Rattle.rga_ops.specs.declared.op.Op.{Op}
 use Rattle.rga_ops.specs.declared.op.Op.TheVariants.{Insert, Delete}
-use Rattle.rga_ops.specs.declared.refusal.Refusal.TheVariants.{Memory}
+use Rattle.rga_ops.specs.Memory.{Memory}
 
 -- what is left of a list from an index on
 pub from : {A : Type 0} (xs : List A) (i : ℕ) (x : A) → i < length xs → x ≡ get_or xs i x → drop i xs ≡ x ∷ drop (i + 1) xs

@@ -1,4 +1,5 @@
 pub mod Identifier
+pub mod Memory
 pub mod Operation
 pub mod Content
 pub mod RootPath

@@ -9,7 +9,8 @@ use Rattle.rga_ops.specs.Answer.{is_element}
 use Rattle.rga_ops.specs.declared.op.Op.{Op}
 use Rattle.rga_ops.specs.declared.op.Op.TheVariants.{Insert, Delete}
 use Rattle.rga_ops.specs.declared.refusal.Refusal.{Refusal}
-use Rattle.rga_ops.specs.declared.refusal.Refusal.TheVariants.{Conflict, Full, Memory}
+use Rattle.rga_ops.specs.declared.refusal.Refusal.TheVariants.{Conflict, Full}
+use Rattle.rga_ops.specs.Memory.{Memory}
 
 abbrev pub Verdict : Type 0
 Verdict = Result (Unit {0}) Refusal

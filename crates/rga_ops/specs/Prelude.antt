@@ -7,3 +7,4 @@ pub use Rattle.rga_ops.specs.Places.{visible, place}
 pub use Rattle.rga_ops.specs.Operations.{operations}
 pub use Rattle.rga_ops.specs.Answer.{answer, taken}
 pub use Rattle.rga_ops.specs.ListAnswer.{IsAnswer, list_answer, merge_answer, all_checked}
+pub use Rattle.rga_ops.specs.Memory.{Memory}

@@ -13,11 +13,13 @@ mod answer;
 mod id;
 pub mod laws;
 mod op;
+mod out_of_memory;
 mod refusal;
 mod splice;
 
 pub use answer::{Found, answer_to};
 pub use id::Id;
 pub use op::Op;
+pub use out_of_memory::OutOfMemory;
 pub use refusal::{Refusal, Taken};
 pub use splice::Splice;

@@ -1,9 +1,10 @@
 //! The answers to an operation.
 ghost use Rattle.std.specs.Prelude.{◌≡◌};
-ghost use Rattle.rga_ops.specs.declared.refusal.Refusal.TheVariants.{Memory as NoMemory};
+ghost use Rattle.rga_ops.specs.Memory.{Memory as NoMemory};
 ghost use Rattle.rga_ops.specs.RefusalName.{refusal_name};
 
 use crate::id::Id;
+use crate::out_of_memory::OutOfMemory;
 use std::alloc::{AllocError, AllocFailed};
 
 /// How an operation was taken.
@@ -33,7 +34,7 @@ pub enum Refusal {
     /// No counters are left.
     Clock,
     /// A growth of memory was refused.
-    Memory,
+    Memory(OutOfMemory),
 }
 
 impl Refusal {
@@ -48,16 +49,34 @@ impl Refusal {
             Refusal::Full => "Full",
             Refusal::Range => "Range",
             Refusal::Clock => "Clock",
-            Refusal::Memory => "Memory",
+            Refusal::Memory(_) => "Memory",
         }
+    }
+
+    /// What was answered of memory, for whoever knows that nothing else was refused.
+    pub fn memory(self) -> OutOfMemory
+        requires { self ≡ NoMemory }
+    {
+        match self {
+            Refusal::Memory(memory) => memory,
+            _ => unreachable!(),
+        }
+    }
+}
+
+impl From<OutOfMemory> for Refusal {
+    ghost from_gives = { λ _ refusal. refusal ≡ NoMemory };
+
+    fn from(memory: OutOfMemory) -> Refusal {
+        Refusal::Memory(memory)
     }
 }
 
 impl From<AllocError> for Refusal {
     ghost from_gives = { λ _ refusal. refusal ≡ NoMemory };
 
-    fn from(_: AllocError) -> Refusal {
-        Refusal::Memory
+    fn from(refused: AllocError) -> Refusal {
+        Refusal::Memory(OutOfMemory::from(refused))
     }
 }
 
@@ -65,7 +84,7 @@ impl From<AllocError> for Refusal {
 impl<T: Drop> From<AllocFailed<T>> for Refusal {
     ghost from_gives = { λ _ refusal. refusal ≡ NoMemory };
 
-    fn from(_: AllocFailed<T>) -> Refusal {
-        Refusal::Memory
+    fn from(failed: AllocFailed<T>) -> Refusal {
+        Refusal::Memory(OutOfMemory::from(failed))
     }
 }

@@ -6,7 +6,7 @@ use crate::entry::Record;
 use crate::page::{MOST, Page};
 use crate::search::is_behind;
 use crate::spot::Spot;
-use rga_ops::{Id, Refusal};
+use rga_ops::{Id, OutOfMemory};
 use std::alloc::Global;
 
 /// Entries come in behind all others: the last page is filled, and what is left of them begins a
@@ -15,13 +15,12 @@ pub(crate) fn append(
     alloc: Global,
     pages: &mut Vec<Page>,
     entries: &[(Id, Record)],
-) -> Result<(), Refusal>
+) -> Result<(), OutOfMemory>
     requires { AreFilledPages pages.old.items }
     ensures ok { OnOk result
         (entries_in pages.new.items ≡ entries_in pages.old.items ++ entries.now) }
     ensures err { OnErr result (entries_in pages.new.items ≡ entries_in pages.old.items) }
     ensures filled { AreFilledPages pages.new.items }
-    ensures memory { IfErr result (λ e. e ≡ Refusal.Memory) }
 {
     let room = room_in_last(pages);
     if entries.len() <= room {
@@ -46,7 +45,7 @@ fn room_in_last(pages: &Vec<Page>) -> usize
 }
 
 /// Entries come in at the end of the last page, if they are some. `Memory` alone.
-fn extend_last(pages: &mut Vec<Page>, entries: &[(Id, Record)]) -> Result<(), Refusal>
+fn extend_last(pages: &mut Vec<Page>, entries: &[(Id, Record)]) -> Result<(), OutOfMemory>
     requires filled { AreFilledPages pages.old.items }
     requires some { 0 < length entries.now → 0 < vec_len pages.old }
     ensures ok { OnOk result
@@ -55,7 +54,6 @@ fn extend_last(pages: &mut Vec<Page>, entries: &[(Id, Record)]) -> Result<(), Re
     ensures filled { AreFilledPages pages.new.items }
     ensures len { vec_len pages.new ≡ vec_len pages.old }
     ensures capacity { vec_capacity pages.new ≡ vec_capacity pages.old }
-    ensures memory { IfErr result (λ e. e ≡ Refusal.Memory) }
 {
     if entries.len() == 0 {
         return Ok(());

@@ -3,7 +3,7 @@ ghost use Rattle.std.specs.Prelude.{◌≡◌, ◌≤◌, ◌<◌, ◌++◌, len
 ghost use Rattle.rga_pages.specs.Pages.{BeginsWith};
 
 use crate::entry::Record;
-use rga_ops::{Id, Refusal};
+use rga_ops::{Id, OutOfMemory};
 use std::alloc::Global;
 use std::marker::Model;
 
@@ -40,9 +40,8 @@ fn first_of(entries: &[(Id, Record)]) -> Id
 
 impl Page {
     /// A page of some entries, in room for as many as a page has at most. `Memory` alone.
-    pub(crate) fn of_some(alloc: Global, some: &[(Id, Record)]) -> Result<Page, Refusal>
+    pub(crate) fn of_some(alloc: Global, some: &[(Id, Record)]) -> Result<Page, OutOfMemory>
         ensures ok { IfOk result (λ p. p ≡ some.now) }
-        ensures memory { IfErr result (λ e. e ≡ Refusal.Memory) }
     {
         let mut entries = Vec::with_capacity(alloc, MOST)?;
         entries.extend_from_slice(some)?;
@@ -66,11 +65,10 @@ impl Page {
 
     /// An entry comes in at an index. `Memory` alone.
     #[inline(always)]
-    pub(crate) fn put(&mut self, index: usize, id: Id, value: Record) -> Result<(), Refusal>
+    pub(crate) fn put(&mut self, index: usize, id: Id, value: Record) -> Result<(), OutOfMemory>
         requires { index ≤ length self.old }
         ensures ok { OnOk result (self.new ≡ insert self.old index (id, value)) }
         ensures err { OnErr result (self.new ≡ self.old) }
-        ensures memory { IfErr result (λ e. e ≡ Refusal.Memory) }
     {
         if index == 0 {
             self.entries.insert(0, (id, value))?;
@@ -107,19 +105,17 @@ impl Page {
     }
 
     /// What stands from an index on, as a page of its own. `Memory` alone.
-    pub(crate) fn tail(&self, alloc: Global, from: usize) -> Result<Page, Refusal>
+    pub(crate) fn tail(&self, alloc: Global, from: usize) -> Result<Page, OutOfMemory>
         requires { from ≤ length self.now }
         ensures ok { IfOk result (λ p. p ≡ drop from self.now) }
-        ensures memory { IfErr result (λ e. e ≡ Refusal.Memory) }
     {
         Page::of_some(alloc, &self.entries.as_slice()[from..])
     }
 
     /// More entries come in behind those that there are. `Memory` alone.
-    pub(crate) fn extend(&mut self, more: &[(Id, Record)]) -> Result<(), Refusal>
+    pub(crate) fn extend(&mut self, more: &[(Id, Record)]) -> Result<(), OutOfMemory>
         ensures ok { OnOk result (self.new ≡ self.old ++ more.now) }
         ensures err { OnErr result (self.new ≡ self.old) }
-        ensures memory { IfErr result (λ e. e ≡ Refusal.Memory) }
     {
         self.entries.extend_from_slice(more)?;
         self.first = first_of(self.entries.as_slice());

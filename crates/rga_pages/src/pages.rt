@@ -13,8 +13,8 @@ use crate::putting::{has_room, insert, insert_in_full, overwrite, write};
 use crate::removing::remove_at;
 use crate::search::{end_for, find, find_record};
 use crate::spot::Spot;
-use rga_ops::{Id, Refusal};
-use std::alloc::Global;
+use rga_ops::{Id, OutOfMemory};
+use std::alloc::{AllocError, Global};
 use std::marker::Model;
 
 /// Records by identifier, in sorted pages. Callers see the entries in the order of their
@@ -80,14 +80,13 @@ impl Pages {
     /// An identifier gets its record. `Memory` alone, which changes nothing, and only where it had
     /// none.
     #[inline(always)]
-    pub fn insert(&mut self, id: Id, value: Record) -> Result<(), Refusal>
+    pub fn insert(&mut self, id: Id, value: Record) -> Result<(), OutOfMemory>
         ensures entries { OnOk result (self.new ≡ insert_entry id_cmp self.old id value) }
         ensures updates { OnOk result (Updates self.old self.new id (Some value)) }
         ensures err { OnErr result (self.new ≡ self.old) }
         ensures absent { OnErr result (record_of id self.old ≡ None) }
         ensures ordered { AreOrdered self.new }
         ensures was_ordered { AreOrdered self.old }
-        ensures memory { IfErr result (λ e. e ≡ Refusal.Memory) }
     {
         if let Some(end) = end_for(&self.pages, id) {
             write(&mut self.pages, end, id, value)?;
@@ -103,7 +102,7 @@ impl Pages {
     /// An identifier that has no record gets one, if others have some. Says whether it got it.
     /// `Memory` alone, which changes nothing, and only where it had none.
     #[inline(always)]
-    pub fn insert_absent(&mut self, id: Id, value: Record) -> Result<bool, Refusal>
+    pub fn insert_absent(&mut self, id: Id, value: Record) -> Result<bool, OutOfMemory>
         ensures updates { result ≡ Ok true → Updates self.old self.new id (Some value) }
         ensures absent { result ≡ Ok true → record_of id self.old ≡ None }
         ensures refused { OnErr result (record_of id self.old ≡ None) }
@@ -111,7 +110,6 @@ impl Pages {
         ensures err { OnErr result (self.new ≡ self.old) }
         ensures ordered { AreOrdered self.new }
         ensures was_ordered { AreOrdered self.old }
-        ensures memory { IfErr result (λ e. e ≡ Refusal.Memory) }
     {
         if self.pages.as_slice().len() == 0 {
             return Ok(false);
@@ -134,16 +132,15 @@ impl Pages {
     /// Entries come in behind all others, some few: what the last page has no room for begins one
     /// more. `Memory` alone, which changes nothing; it is answered too where the first of them is
     /// not above all others.
-    pub fn append(&mut self, entries: &[(Id, Record)]) -> Result<(), Refusal>
+    pub fn append(&mut self, entries: &[(Id, Record)]) -> Result<(), OutOfMemory>
         requires { AreOrdered entries.now }
         ensures entries { OnOk result (self.new ≡ self.old ++ entries.now) }
         ensures err { OnErr result (self.new ≡ self.old) }
         ensures ordered { AreOrdered self.new }
         ensures was_ordered { AreOrdered self.old }
-        ensures memory { IfErr result (λ e. e ≡ Refusal.Memory) }
     {
         if !can_follow(&self.pages, entries) {
-            return Err(Refusal::Memory);
+            return Err(OutOfMemory::from(AllocError));
         }
         append(self.alloc, &mut self.pages, entries)?;
         self.last = end_of(&self.pages);

@@ -10,7 +10,7 @@ use crate::entry::Record;
 use crate::page::{MOST, Page};
 use crate::search::place_for;
 use crate::spot::Spot;
-use rga_ops::{Id, Refusal};
+use rga_ops::{Id, OutOfMemory};
 use std::alloc::Global;
 
 /// How many entries each part of a full page has at least where it is cut.
@@ -25,14 +25,13 @@ pub(crate) fn insert(
     last: Spot,
     id: Id,
     value: Record,
-) -> Result<Spot, Refusal>
+) -> Result<Spot, OutOfMemory>
     requires { ArePages pages.old.items }
     ensures ok { OnOk result
         (entries_in pages.new.items ≡ insert_entry id_cmp (entries_in pages.old.items) id value) }
     ensures err { OnErr result (entries_in pages.new.items ≡ entries_in pages.old.items) }
     ensures absent { OnErr result (record_of id (entries_in pages.old.items) ≡ None) }
     ensures kept { ArePages pages.new.items }
-    ensures memory { IfErr result (λ e. e ≡ Refusal.Memory) }
 {
     if pages.as_slice().len() == 0 {
         put_own(alloc, pages, 0, id, value)?;
@@ -65,7 +64,12 @@ pub(crate) fn has_room(pages: &Vec<Page>, at: Spot) -> bool
 
 /// An identifier gets its record at its spot.
 #[inline(always)]
-pub(crate) fn write(pages: &mut Vec<Page>, at: Spot, id: Id, value: Record) -> Result<(), Refusal>
+pub(crate) fn write(
+    pages: &mut Vec<Page>,
+    at: Spot,
+    id: Id,
+    value: Record,
+) -> Result<(), OutOfMemory>
     requires kept { ArePages pages.old.items }
     requires page { at.page < vec_len pages.old }
     requires spot { IsSpot pages.old.items at.page at.index at.found id }
@@ -74,7 +78,6 @@ pub(crate) fn write(pages: &mut Vec<Page>, at: Spot, id: Id, value: Record) -> R
     ensures err { OnErr result (entries_in pages.new.items ≡ entries_in pages.old.items) }
     ensures absent { OnErr result (record_of id (entries_in pages.old.items) ≡ None) }
     ensures kept { ArePages pages.new.items }
-    ensures memory { IfErr result (λ e. e ≡ Refusal.Memory) }
 {
     if at.found {
         overwrite(pages, at, id, value);
@@ -109,7 +112,7 @@ pub(crate) fn insert_in_full(
     at: Spot,
     id: Id,
     value: Record,
-) -> Result<Spot, Refusal>
+) -> Result<Spot, OutOfMemory>
     requires kept { ArePages pages.old.items }
     requires page { at.page < vec_len pages.old }
     requires full { MOST ≤ length (slice_index_or pages.old.items at.page []) }
@@ -119,7 +122,6 @@ pub(crate) fn insert_in_full(
     ensures err { OnErr result (entries_in pages.new.items ≡ entries_in pages.old.items) }
     ensures absent { OnErr result (record_of id (entries_in pages.old.items) ≡ None) }
     ensures kept { ArePages pages.new.items }
-    ensures memory { IfErr result (λ e. e ≡ Refusal.Memory) }
 {
     if at.index >= pages[at.page].entries().len() {
         put_own(alloc, pages, at.page + 1, id, value)?;
@@ -143,13 +145,12 @@ fn put_own(
     index: usize,
     id: Id,
     value: Record,
-) -> Result<(), Refusal>
+) -> Result<(), OutOfMemory>
     requires filled { AreFilledPages pages.old.items }
     requires within { index ≤ vec_len pages.old }
     ensures ok { OnOk result (pages.new.items ≡ insert pages.old.items index ((id, value) ∷ [])) }
     ensures err { OnErr result (pages.new.items ≡ pages.old.items) }
     ensures filled { AreFilledPages pages.new.items }
-    ensures memory { IfErr result (λ e. e ≡ Refusal.Memory) }
 {
     let own = Page::of_some(alloc, &[(id, value)])?;
     pages.insert(index, own)?;
@@ -158,7 +159,12 @@ fn put_own(
 
 /// A full page loses what stands from an index on: to the page behind it if that has room, and else
 /// to one of its own.
-fn cut_page(alloc: Global, pages: &mut Vec<Page>, page: usize, cut: usize) -> Result<(), Refusal>
+fn cut_page(
+    alloc: Global,
+    pages: &mut Vec<Page>,
+    page: usize,
+    cut: usize,
+) -> Result<(), OutOfMemory>
     requires filled { AreFilledPages pages.old.items }
     requires page { page < vec_len pages.old }
     requires first { 0 < cut }
@@ -166,7 +172,6 @@ fn cut_page(alloc: Global, pages: &mut Vec<Page>, page: usize, cut: usize) -> Re
     ensures flat { entries_in pages.new.items ≡ entries_in pages.old.items }
     ensures filled { AreFilledPages pages.new.items }
     ensures some { 0 < vec_len pages.new }
-    ensures memory { IfErr result (λ e. e ≡ Refusal.Memory) }
 {
     if has_room_behind(pages, page, cut) {
         return spill(alloc, pages, page, cut);
@@ -187,7 +192,7 @@ fn has_room_behind(pages: &Vec<Page>, page: usize, cut: usize) -> bool
 }
 
 /// What stands in a full page from an index on goes to the front of the page behind it.
-fn spill(alloc: Global, pages: &mut Vec<Page>, page: usize, cut: usize) -> Result<(), Refusal>
+fn spill(alloc: Global, pages: &mut Vec<Page>, page: usize, cut: usize) -> Result<(), OutOfMemory>
     requires filled { AreFilledPages pages.old.items }
     requires page { page + 1 < vec_len pages.old }
     requires first { 0 < cut }
@@ -195,7 +200,6 @@ fn spill(alloc: Global, pages: &mut Vec<Page>, page: usize, cut: usize) -> Resul
     ensures flat { entries_in pages.new.items ≡ entries_in pages.old.items }
     ensures filled { AreFilledPages pages.new.items }
     ensures some { 0 < vec_len pages.new }
-    ensures memory { IfErr result (λ e. e ≡ Refusal.Memory) }
 {
     let mut tail = pages[page].tail(alloc, cut)?;
     tail.extend(pages[page + 1].entries())?;
@@ -205,7 +209,7 @@ fn spill(alloc: Global, pages: &mut Vec<Page>, page: usize, cut: usize) -> Resul
 }
 
 /// A full page becomes two.
-fn halve(alloc: Global, pages: &mut Vec<Page>, page: usize, cut: usize) -> Result<(), Refusal>
+fn halve(alloc: Global, pages: &mut Vec<Page>, page: usize, cut: usize) -> Result<(), OutOfMemory>
     requires filled { AreFilledPages pages.old.items }
     requires page { page < vec_len pages.old }
     requires first { 0 < cut }
@@ -213,7 +217,6 @@ fn halve(alloc: Global, pages: &mut Vec<Page>, page: usize, cut: usize) -> Resul
     ensures flat { entries_in pages.new.items ≡ entries_in pages.old.items }
     ensures filled { AreFilledPages pages.new.items }
     ensures some { 0 < vec_len pages.new }
-    ensures memory { IfErr result (λ e. e ≡ Refusal.Memory) }
 {
     let tail = pages[page].tail(alloc, cut)?;
     pages.insert(page + 1, tail)?;

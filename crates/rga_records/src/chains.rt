@@ -4,7 +4,7 @@ ghost use Rattle.rga_records.specs.Chains.{grown, latest_of, AreNewer, AreRows};
 ghost use Rattle.rga_records.specs.Records.{content_of_records, AreOrdered};
 
 use crate::entries::{short_index, short_name};
-use rga_ops::{Id, Refusal};
+use rga_ops::{Id, OutOfMemory};
 use rga_pages::{Pages, Record};
 use rga_sequence::{Entry, Near};
 use std::alloc::Global;
@@ -17,7 +17,7 @@ pub(crate) fn append_chain(
     parent: Id,
     near: Near,
     chain: &[Entry],
-) -> Result<(), Refusal>
+) -> Result<(), OutOfMemory>
     requires ordered { AreOrdered entries.old }
     requires newer { AreNewer (content_of_records entries.old) parent chain.now }
     ensures content { OnOk result (content_of_records entries.new
@@ -25,7 +25,6 @@ pub(crate) fn append_chain(
     ensures same { OnErr result
         (content_of_records entries.new ≡ content_of_records entries.old) }
     ensures ordered { AreOrdered entries.new }
-    ensures memory { IfErr result (λ e. e ≡ Refusal.Memory) }
 {
     let mut rows = Vec::with_capacity(alloc, chain.len())?;
     add_rows(parent, near, chain, &mut rows);

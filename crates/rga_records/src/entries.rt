@@ -8,7 +8,7 @@ ghost use Rattle.rga_ops.specs.declared.op.Op.TheVariants.{Insert, Delete};
 ghost use Rattle.rga_store.specs.Without.{without_insertion, without_deletion};
 ghost use Rattle.rga_records.specs.Records.{content_of_records, element_of_record, is_meaningful, AreOrdered};
 
-use rga_ops::{Id, Refusal};
+use rga_ops::{Id, OutOfMemory};
 use rga_pages::{Pages, Record};
 use rga_sequence::Near;
 
@@ -76,7 +76,7 @@ pub(crate) fn set_element(
     ch: char,
     near: Near,
     deleted: bool,
-) -> Result<(), Refusal>
+) -> Result<(), OutOfMemory>
     requires absent { finite_map.get (content_of_records entries.old).inserted id ≡ None }
     requires deleted { deleted
         ≡ finite_set.contains (content_of_records entries.old).deleted id }
@@ -85,7 +85,6 @@ pub(crate) fn set_element(
     ensures same { OnErr result
         (content_of_records entries.new ≡ content_of_records entries.old) }
     ensures ordered { AreOrdered entries.new }
-    ensures memory { IfErr result (λ e. e ≡ Refusal.Memory) }
 {
     let block = short_name(near.block);
     let index = short_index(near.index);
@@ -101,7 +100,7 @@ pub(crate) fn add_element(
     id: Id,
     parent: Id,
     ch: char,
-) -> Result<bool, Refusal>
+) -> Result<bool, OutOfMemory>
     ensures absent { let content = content_of_records entries.old in
         result ≡ Ok true → finite_map.get content.inserted id ≡ None }
     ensures unmarked { let content = content_of_records entries.old in
@@ -115,13 +114,12 @@ pub(crate) fn add_element(
     ensures same { OnErr result
         (content_of_records entries.new ≡ content_of_records entries.old) }
     ensures ordered { AreOrdered entries.new }
-    ensures memory { IfErr result (λ e. e ≡ Refusal.Memory) }
 {
     entries.insert_absent(id, Record::inserted(parent, ch, 0, 0, false))
 }
 
 /// An identifier gets its mark. Says whether it is inserted already. `Memory` only where it is not.
-pub(crate) fn mark(entries: &mut Pages, id: Id) -> Result<bool, Refusal>
+pub(crate) fn mark(entries: &mut Pages, id: Id) -> Result<bool, OutOfMemory>
     ensures inserted { let content = content_of_records entries.old in
         IfOk result (λ inserted. inserted ≡ finite_map.contains_key content.inserted id) }
     ensures content { OnOk result (content_of_records entries.new
@@ -131,7 +129,6 @@ pub(crate) fn mark(entries: &mut Pages, id: Id) -> Result<bool, Refusal>
     ensures growth { let content = content_of_records entries.old in
         OnErr result (finite_map.contains_key content.inserted id ≡ false) }
     ensures ordered { AreOrdered entries.new }
-    ensures memory { IfErr result (λ e. e ≡ Refusal.Memory) }
 {
     match entries.mark(id) {
         Some(record) => Ok(record.ch.is_some()),

@@ -7,7 +7,7 @@ ghost use Rattle.rga_pages.specs.Pages.{entries_in, AreFilledPages, Entries};
 ghost use Rattle.rga_records.specs.Links.{shown_if, with_link, AreHeads, AreLinks, AreSoundRecords, IsNodeOf};
 
 use crate::nodes::{link_at, node_of};
-use rga_ops::{Id, Refusal};
+use rga_ops::{Id, OutOfMemory};
 use rga_pages::{Page, Record};
 use std::alloc::Global;
 
@@ -29,9 +29,8 @@ pub(crate) struct Links {
 
 impl Links {
     /// The links of no elements, in room for so many. `Memory` alone.
-    fn new(alloc: Global, room: usize) -> Result<Links, Refusal>
+    fn new(alloc: Global, room: usize) -> Result<Links, OutOfMemory>
         ensures ok { IfOk result (λ l. AreLinks [] l.shown.items l.next.items) }
-        ensures memory { IfErr result (λ e. e ≡ Refusal.Memory) }
     {
         let mut next = Vec::with_capacity(alloc, room.saturating_add(1))?;
         next.push(0usize)?;
@@ -43,12 +42,11 @@ impl Links {
 }
 
 /// The links of the elements in pages, of which there are about so many records. `Memory` alone.
-pub(crate) fn links_of(alloc: Global, pages: &Vec<Page>, room: usize) -> Result<Links, Refusal>
+pub(crate) fn links_of(alloc: Global, pages: &Vec<Page>, room: usize) -> Result<Links, OutOfMemory>
     requires sound { AreSoundRecords (entries_in pages.now.items) }
     requires filled { AreFilledPages pages.now.items }
     ensures ok { IfOk result (λ l.
         AreLinks (entries_in pages.now.items) l.shown.items l.next.items) }
-    ensures memory { IfErr result (λ e. e ≡ Refusal.Memory) }
 {
     let mut links = Links::new(alloc, room)?;
     let mut heads = Vec::with_capacity(alloc, pages.as_slice().len())?;
@@ -65,7 +63,7 @@ fn link_page(
     pages: &Vec<Page>,
     heads: &[usize],
     page: usize,
-) -> Result<(), Refusal>
+) -> Result<(), OutOfMemory>
     requires sound { AreSoundRecords (entries_in pages.now.items) }
     requires filled { AreFilledPages pages.now.items }
     requires within { page < vec_len pages.now }
@@ -75,7 +73,6 @@ fn link_page(
         links.old.shown.items links.old.next.items }
     ensures ok { OnOk result (AreLinks (entries_in (take (page + 1) pages.now.items))
         links.new.shown.items links.new.next.items) }
-    ensures memory { IfErr result (λ e. e ≡ Refusal.Memory) }
 {
     let entries = pages[page].entries();
     for index in 0..entries.len() {
@@ -88,12 +85,15 @@ fn link_page(
 }
 
 /// The element of one more record comes in behind a node, if it has one.
-fn link_entry(links: &mut Links, above: Option<usize>, entry: &(Id, Record)) -> Result<(), Refusal>
+fn link_entry(
+    links: &mut Links,
+    above: Option<usize>,
+    entry: &(Id, Record),
+) -> Result<(), OutOfMemory>
     ensures ok { (es : Entries) → AreSoundRecords (es ++ entry.now ∷ []) →
         AreLinks es links.old.shown.items links.old.next.items →
         IsNodeOf entry.now.1.parent (keys_of es) above →
         OnOk result (AreLinks (es ++ entry.now ∷ []) links.new.shown.items links.new.next.items) }
-    ensures memory { IfErr result (λ e. e ≡ Refusal.Memory) }
 {
     let record = entry.1;
     let Some(ch) = record.ch else {
@@ -118,10 +118,9 @@ fn code_of(ch: char, hidden: bool) -> u32
 
 /// One more element is linked in directly behind a node, if there is one that does not wait; else
 /// it waits.
-fn link(next: &mut Vec<usize>, above: Option<usize>) -> Result<(), Refusal>
+fn link(next: &mut Vec<usize>, above: Option<usize>) -> Result<(), OutOfMemory>
     ensures ok { OnOk result (next.new.items ≡ with_link above next.old.items) }
     ensures room { OnOk result (length next.old.items < WAITS) }
-    ensures memory { IfErr result (λ e. e ≡ Refusal.Memory) }
 {
     let Some(above) = above else {
         return push_one(next, WAITS);
@@ -145,10 +144,9 @@ fn relink(next: &mut Vec<usize>, above: usize)
 
 /// One more at the end of a list. Where there is room for it, this is short enough to be inlined.
 #[inline(always)]
-fn push_one<T: Copy>(list: &mut Vec<T>, item: T) -> Result<(), Refusal>
+fn push_one<T: Copy>(list: &mut Vec<T>, item: T) -> Result<(), OutOfMemory>
     ensures ok { OnOk result (list.new.items ≡ list.old.items ++ item ∷ []) }
     ensures room { OnOk result (length list.old.items < WAITS) }
-    ensures memory { IfErr result (λ e. e ≡ Refusal.Memory) }
 {
     if list.as_slice().len() < list.capacity() {
         list.push_reserved(item);

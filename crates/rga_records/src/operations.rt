@@ -1,5 +1,5 @@
 //! A content as a list of operations.
-use rga_ops::{Op, Refusal};
+use rga_ops::{Op, OutOfMemory};
 use rga_pages::Page;
 use rga_store::Listener;
 use std::marker::Model;
@@ -29,7 +29,7 @@ impl Listener for Told {
 
     ghost hears_on = { λ s t u xs ys a b. lists_on s xs ys a b };
 
-    fn hear(&mut self, op: &Op) -> Result<(), Refusal> {
+    fn hear(&mut self, op: &Op) -> Result<(), OutOfMemory> {
         self.ops.push(*op)?;
         Ok(())
     }

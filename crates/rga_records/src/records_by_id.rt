@@ -24,7 +24,7 @@ use crate::operations::{Told, count_marked};
 use crate::taking::remove_from;
 use crate::telling::{Deaf, tell_pages};
 use crate::walking::text_of;
-use rga_ops::{Found, Id, Op, Refusal};
+use rga_ops::{Found, Id, Op, OutOfMemory, Refusal};
 use rga_pages::Pages;
 use rga_sequence::{Entry, Near};
 use rga_store::counts::{count_unless, raise, uncount_unless};
@@ -228,13 +228,12 @@ impl Records {
         ch: char,
         near: Near,
         deleted: bool,
-    ) -> Result<(), Refusal>
+    ) -> Result<(), OutOfMemory>
         requires new { answer self.old.limit self.old.content (Op.Insert id parent ch) ≡ Ok New }
         requires deleted { deleted ≡ finite_set.contains self.old.content.deleted id }
         ensures ok { OnOk result
             (self.new.content ≡ join self.old.content (single (Op.Insert id parent ch))) }
         ensures same { OnErr result (self.new.content ≡ self.old.content) }
-        ensures memory { IfErr result (λ e. e ≡ Refusal.Memory) }
         ensures limit { self.new.limit ≡ self.old.limit }
     {
         set_element(&mut self.entries, id, parent, ch, near, deleted)?;
@@ -273,14 +272,13 @@ impl Records {
     /// Takes an insertion that is newer than all that is known and than its parent, where there is
     /// room. `Memory` alone, which changes nothing.
     #[inline(always)]
-    pub(crate) fn insert_newer(&mut self, id: Id, parent: Id, ch: char) -> Result<(), Refusal>
+    pub(crate) fn insert_newer(&mut self, id: Id, parent: Id, ch: char) -> Result<(), OutOfMemory>
         requires newer { clock_of self.old.content < id.counter }
         requires rises { parent.counter < id.counter }
         requires room { known_count self.old.content < self.old.limit }
         ensures ok { OnOk result
             (self.new.content ≡ join self.old.content (single (Op.Insert id parent ch))) }
         ensures same { OnErr result (self.new.content ≡ self.old.content) }
-        ensures memory { IfErr result (λ e. e ≡ Refusal.Memory) }
         ensures limit { self.new.limit ≡ self.old.limit }
     {
         set_element(&mut self.entries, id, parent, ch, Near::FRONT, false)?;
@@ -294,7 +292,12 @@ impl Records {
     /// its identifier and something of others. Says whether it took it. `Memory` alone, which changes
     /// nothing.
     #[inline(never)]
-    pub(crate) fn insert_absent(&mut self, id: Id, parent: Id, ch: char) -> Result<bool, Refusal>
+    pub(crate) fn insert_absent(
+        &mut self,
+        id: Id,
+        parent: Id,
+        ch: char,
+    ) -> Result<bool, OutOfMemory>
         requires rises { parent.counter < id.counter }
         requires room { known_count self.old.content < self.old.limit }
         ensures answered { result ≡ Ok true →
@@ -305,7 +308,6 @@ impl Records {
             self.new.content ≡ join self.old.content (single (Op.Insert id parent ch)) }
         ensures known { result ≡ Ok false → self.new.content ≡ self.old.content }
         ensures same { OnErr result (self.new.content ≡ self.old.content) }
-        ensures memory { IfErr result (λ e. e ≡ Refusal.Memory) }
         ensures limit { self.new.limit ≡ self.old.limit }
     {
         if !add_element(&mut self.entries, id, parent, ch)? {
@@ -326,12 +328,11 @@ impl Records {
         parent: Id,
         near: Near,
         chain: &[Entry],
-    ) -> Result<(), Refusal>
+    ) -> Result<(), OutOfMemory>
         requires newer { AreNewer self.old.content parent chain.now }
         requires room { known_count self.old.content + length chain.now ≤ self.old.limit }
         ensures ok { OnOk result (self.new.content ≡ grown self.old.content parent chain.now) }
         ensures same { OnErr result (self.new.content ≡ self.old.content) }
-        ensures memory { IfErr result (λ e. e ≡ Refusal.Memory) }
         ensures limit { self.new.limit ≡ self.old.limit }
     {
         append_chain(alloc, &mut self.entries, parent, near, chain)?;
@@ -343,12 +344,11 @@ impl Records {
 
     /// Takes a deletion that is new. `Memory` alone, which changes nothing; never for an identifier
     /// that is inserted.
-    pub fn delete(&mut self, id: Id) -> Result<(), Refusal>
+    pub fn delete(&mut self, id: Id) -> Result<(), OutOfMemory>
         requires { answer self.old.limit self.old.content (Op.Delete id) ≡ Ok New }
         ensures ok { OnOk result
             (self.new.content ≡ join self.old.content (single (Op.Delete id))) }
         ensures same { OnErr result (self.new.content ≡ self.old.content) }
-        ensures memory { IfErr result (λ e. e ≡ Refusal.Memory) }
         ensures growth { OnErr result
             (finite_map.contains_key self.old.content.inserted id ≡ false) }
         ensures limit { self.new.limit ≡ self.old.limit }
@@ -430,9 +430,8 @@ impl Records {
     /// The content as operations: the insertions by rising identifier, and then the deletions by
     /// rising identifier. There is room for all at first, so that the list is not moved while it
     /// grows. `Memory` alone.
-    pub fn ops(&self, alloc: Global) -> Result<Vec<Op>, Refusal>
+    pub fn ops(&self, alloc: Global) -> Result<Vec<Op>, OutOfMemory>
         ensures ok { IfOk result (λ ops. ops.items ≡ operations self.now.content) }
-        ensures memory { IfErr result (λ e. e ≡ Refusal.Memory) }
     {
         let room = self
             .inserted
@@ -447,10 +446,9 @@ impl Records {
 
     /// The characters of the visible elements, in order, in UTF-8. The elements are put in order
     /// for it, in one pass by rising identifier. `Memory` alone.
-    pub fn text_string(&self, alloc: Global) -> Result<String, Refusal>
+    pub fn text_string(&self, alloc: Global) -> Result<String, OutOfMemory>
         ensures ok { IfOk result (λ string.
             string_bytes string ≡ encode_utf8_all (text self.now.content)) }
-        ensures memory { IfErr result (λ e. e ≡ Refusal.Memory) }
     {
         let _known = self.known();
         text_of(alloc, &self.entries, self.known)
@@ -458,20 +456,18 @@ impl Records {
 
     /// Tells the insertions by rising identifier, without a list of them. `Memory` where the listener
     /// answers it.
-    pub fn tell_insertions<L: Listener>(&self, listener: &mut L) -> Result<(), Refusal>
+    pub fn tell_insertions<L: Listener>(&self, listener: &mut L) -> Result<(), OutOfMemory>
         ensures ok { OnOk result
             (L.hears listener.old (insertions self.now.content) listener.new) }
-        ensures memory { IfErr result (λ e. e ≡ Refusal.Memory) }
     {
         self.tell_both(listener, &mut Deaf)
     }
 
     /// Tells the deletions by rising identifier, without a list of them. `Memory` where the listener
     /// answers it.
-    pub fn tell_deletions<L: Listener>(&self, listener: &mut L) -> Result<(), Refusal>
+    pub fn tell_deletions<L: Listener>(&self, listener: &mut L) -> Result<(), OutOfMemory>
         ensures ok { OnOk result
             (L.hears listener.old (deletions self.now.content) listener.new) }
-        ensures memory { IfErr result (λ e. e ≡ Refusal.Memory) }
     {
         self.tell_both(&mut Deaf, listener)
     }
@@ -482,12 +478,11 @@ impl Records {
         &self,
         of_insertions: &mut L,
         of_deletions: &mut M,
-    ) -> Result<(), Refusal>
+    ) -> Result<(), OutOfMemory>
         ensures insertions { OnOk result
             (L.hears of_insertions.old (insertions self.now.content) of_insertions.new) }
         ensures deletions { OnOk result
             (M.hears of_deletions.old (deletions self.now.content) of_deletions.new) }
-        ensures memory { IfErr result (λ e. e ≡ Refusal.Memory) }
     {
         tell_pages(self.entries.pages(), of_insertions, of_deletions)
     }

@@ -1,11 +1,12 @@
 //! Records as what takes operations: a log is read into them whose text is asked for at its end.
-ghost use Rattle.std.specs.Prelude.{◌≡◌, Ok, OnOk, OnErr};
+ghost use Rattle.std.specs.Prelude.{◌≡◌, ◌≢◌, Ok, Err, OnOk, OnErr, IfErr};
+ghost use Rattle.rga_ops.specs.Prelude.{Memory};
 ghost use Rattle.rga_ops.specs.Answer.{taken_one_by_one};
 
 use crate::records_by_id::Records;
-use crate::taking::{remove_from, take_each, take_op};
+use crate::taking::{remove_from, take_noted, take_op};
 use rga_ops::{Op, Refusal, Taken};
-use rga_store::{Step, Taker, answer_to_list};
+use rga_store::{Taker, answer_to_list};
 
 impl Taker for Records {
     ghost use Rattle.rga_store.specs.Growth.{NeedsRoom};
@@ -28,14 +29,12 @@ impl Taker for Records {
 
     fn apply_all(&mut self, ops: &[Op]) -> Result<(), Refusal> {
         let _known = self.known();
-        match take_whole(self, ops) {
-            Ok(()) => Ok(()),
-            Err(_) => {
-                // Which refusal comes first depends on the whole list, so it is looked for only now.
-                answer_to_list(self.alloc(), self, ops)?;
-                Err(Refusal::Memory)
-            }
-        }
+        let Err(refused) = take_whole(self, ops) else {
+            return Ok(());
+        };
+        // Which refusal comes first depends on the whole list, so it is looked for only now.
+        answer_to_list(self.alloc(), self, ops)?;
+        Err(refused)
     }
 }
 
@@ -44,15 +43,17 @@ impl Taker for Records {
 fn take_whole(records: &mut Records, ops: &[Op]) -> Result<(), Refusal>
     ensures ok { OnOk result (taken_one_by_one records.old.limit records.old.content ops.now
         ≡ Ok records.new.content) }
+    ensures refused { IfErr result (λ e. e ≢ Memory →
+        taken_one_by_one records.old.limit records.old.content ops.now ≡ Err e) }
     ensures same { OnErr result (records.new.content ≡ records.old.content) }
     ensures limit { records.new.limit ≡ records.old.limit }
 {
-    let mut steps: Vec<Step<'_>> = Vec::with_capacity(records.alloc(), ops.len())?;
-    match take_each(records, ops, &mut steps) {
-        Ok(()) => Ok(()),
-        Err(refusal) => {
+    let mut steps = Vec::with_capacity(records.alloc(), ops.len())?;
+    for op in ops {
+        if let Err(refusal) = take_noted(records, op, &mut steps) {
             remove_from(records, &mut steps, 0);
-            Err(refusal)
+            return Err(refusal);
         }
     }
+    Ok(())
 }

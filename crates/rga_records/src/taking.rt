@@ -1,7 +1,8 @@
 //! Operations that are taken into records, and that leave them again.
-ghost use Rattle.std.specs.Prelude.{◌≡◌, ◌≢◌, Ok, Err, OnOk, drop, take};
+ghost use Rattle.std.specs.Prelude.{◌≡◌, ◌≢◌, Ok, Err, OnOk, IfErr, drop, take};
+ghost use Rattle.rga_ops.specs.Prelude.{Memory};
 ghost use Rattle.rga_ops.specs.Content.{join, single};
-ghost use Rattle.rga_ops.specs.Answer.{answer, taken, taken_one_by_one};
+ghost use Rattle.rga_ops.specs.Answer.{answer, taken};
 ghost use Rattle.rga_store.specs.Growth.{NeedsRoom};
 ghost use Rattle.rga_store.specs.Back.{without_noted, CanTakeBack};
 
@@ -13,11 +14,11 @@ use rga_store::{Step, note};
 /// Takes an operation. `Memory` alone beside what is answered to it, and then nothing is changed.
 #[inline(always)]
 pub(crate) fn take_op(records: &mut Records, op: &Op) -> Result<Taken, Refusal>
-    ensures exact { result ≢ Err Refusal.Memory →
+    ensures exact { result ≢ Err Memory →
         result ≡ answer records.old.limit records.old.content op.now }
-    ensures memory { result ≡ Err Refusal.Memory →
+    ensures memory { result ≡ Err Memory →
         answer records.old.limit records.old.content op.now ≡ Ok Taken.New }
-    ensures growth { result ≡ Err Refusal.Memory → NeedsRoom records.old.content op.now }
+    ensures growth { result ≡ Err Memory → NeedsRoom records.old.content op.now }
     ensures new { result ≡ Ok Taken.New →
         records.new.content ≡ join records.old.content (single op.now) }
     ensures same { result ≢ Ok Taken.New → records.new.content ≡ records.old.content }
@@ -43,11 +44,11 @@ pub(crate) fn take_op(records: &mut Records, op: &Op) -> Result<Taken, Refusal>
 /// The same, by what is found of the operation's identifier.
 #[inline(always)]
 fn take_found(records: &mut Records, op: &Op) -> Result<Taken, Refusal>
-    ensures exact { result ≢ Err Refusal.Memory →
+    ensures exact { result ≢ Err Memory →
         result ≡ answer records.old.limit records.old.content op.now }
-    ensures memory { result ≡ Err Refusal.Memory →
+    ensures memory { result ≡ Err Memory →
         answer records.old.limit records.old.content op.now ≡ Ok Taken.New }
-    ensures growth { result ≡ Err Refusal.Memory → NeedsRoom records.old.content op.now }
+    ensures growth { result ≡ Err Memory → NeedsRoom records.old.content op.now }
     ensures new { result ≡ Ok Taken.New →
         records.new.content ≡ join records.old.content (single op.now) }
     ensures same { result ≢ Ok Taken.New → records.new.content ≡ records.old.content }
@@ -72,7 +73,7 @@ fn take_found(records: &mut Records, op: &Op) -> Result<Taken, Refusal>
 }
 
 /// Takes an operation, and notes it if it was new.
-fn take_noted<'a>(
+pub(crate) fn take_noted<'a>(
     records: &mut Records,
     op: &'a Op,
     steps: &mut Vec<Step<'a>>,
@@ -80,6 +81,8 @@ fn take_noted<'a>(
     requires { CanTakeBack steps.old.items records.old.content }
     ensures ok { OnOk result
         (taken records.old.limit records.old.content op.now ≡ Ok records.new.content) }
+    ensures refused { IfErr result (λ e. e ≢ Memory →
+        taken records.old.limit records.old.content op.now ≡ Err e) }
     ensures steps { CanTakeBack steps.new.items records.new.content }
     ensures start { without_noted steps.new.items records.new.content
         ≡ without_noted steps.old.items records.old.content }
@@ -94,26 +97,6 @@ fn take_noted<'a>(
             Ok(())
         }
     }
-}
-
-/// Takes operations one by one, up to the first that is refused, and notes those that were new.
-pub(crate) fn take_each<'a>(
-    records: &mut Records,
-    ops: &'a [Op],
-    steps: &mut Vec<Step<'a>>,
-) -> Result<(), Refusal>
-    requires { CanTakeBack steps.old.items records.old.content }
-    ensures ok { OnOk result (taken_one_by_one records.old.limit records.old.content ops.now
-        ≡ Ok records.new.content) }
-    ensures steps { CanTakeBack steps.new.items records.new.content }
-    ensures start { without_noted steps.new.items records.new.content
-        ≡ without_noted steps.old.items records.old.content }
-    ensures limit { records.new.limit ≡ records.old.limit }
-{
-    for op in ops {
-        take_noted(records, op, steps)?;
-    }
-    Ok(())
 }
 
 /// The operations of the steps from one on leave the records, the last first. Takes no memory.

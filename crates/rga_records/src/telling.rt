@@ -5,7 +5,7 @@ ghost use Rattle.rga_ops.specs.Operations.{insertion_of};
 ghost use Rattle.rga_pages.specs.Pages.{entries_in};
 ghost use Rattle.rga_records.specs.Records.{insertion_of_record, marked_record_ids};
 
-use rga_ops::{Id, Op, Refusal};
+use rga_ops::{Id, Op, OutOfMemory};
 use rga_pages::{Page, Record};
 use rga_store::Listener;
 
@@ -14,13 +14,12 @@ pub(crate) fn tell_pages<L: Listener, M: Listener>(
     pages: &Vec<Page>,
     of_insertions: &mut L,
     of_deletions: &mut M,
-) -> Result<(), Refusal>
+) -> Result<(), OutOfMemory>
     ensures insertions { let insertions = filter_map insertion_of_record
         (entries_in pages.now.items) in
         OnOk result (L.hears of_insertions.old (map insertion_of insertions) of_insertions.new) }
     ensures deletions { let ids = marked_record_ids (entries_in pages.now.items) in
         OnOk result (M.hears of_deletions.old (map Op.Delete ids) of_deletions.new) }
-    ensures memory { IfErr result (λ e. e ≡ Refusal.Memory) }
 {
     for page in pages {
         tell_entries(page.entries(), of_insertions, of_deletions)?;
@@ -33,12 +32,11 @@ fn tell_entries<L: Listener, M: Listener>(
     entries: &[(Id, Record)],
     of_insertions: &mut L,
     of_deletions: &mut M,
-) -> Result<(), Refusal>
+) -> Result<(), OutOfMemory>
     ensures insertions { let insertions = filter_map insertion_of_record entries.now in
         OnOk result (L.hears of_insertions.old (map insertion_of insertions) of_insertions.new) }
     ensures deletions { let ids = marked_record_ids entries.now in
         OnOk result (M.hears of_deletions.old (map Op.Delete ids) of_deletions.new) }
-    ensures memory { IfErr result (λ e. e ≡ Refusal.Memory) }
 {
     for entry in entries {
         tell_insertion(entry, of_insertions)?;
@@ -48,10 +46,9 @@ fn tell_entries<L: Listener, M: Listener>(
 }
 
 /// Tells the insertion of a record, if it has one.
-fn tell_insertion<L: Listener>(entry: &(Id, Record), listener: &mut L) -> Result<(), Refusal>
+fn tell_insertion<L: Listener>(entry: &(Id, Record), listener: &mut L) -> Result<(), OutOfMemory>
     ensures ok { let insertions = filter_map insertion_of_record (entry.now ∷ []) in
         OnOk result (L.hears listener.old (map insertion_of insertions) listener.new) }
-    ensures memory { IfErr result (λ e. e ≡ Refusal.Memory) }
 {
     if let Some((parent, ch)) = entry.1.element() {
         let id = entry.0;
@@ -61,10 +58,9 @@ fn tell_insertion<L: Listener>(entry: &(Id, Record), listener: &mut L) -> Result
 }
 
 /// Tells the deletion of a record, if it has one.
-fn tell_deletion<L: Listener>(entry: &(Id, Record), listener: &mut L) -> Result<(), Refusal>
+fn tell_deletion<L: Listener>(entry: &(Id, Record), listener: &mut L) -> Result<(), OutOfMemory>
     ensures ok { let ids = marked_record_ids (entry.now ∷ []) in
         OnOk result (L.hears listener.old (map Op.Delete ids) listener.new) }
-    ensures memory { IfErr result (λ e. e ≡ Refusal.Memory) }
 {
     if entry.1.deleted {
         listener.hear(&Op::Delete { id: entry.0 })?;
@@ -83,7 +79,7 @@ impl Listener for Deaf {
 
     ghost hears_on = { λ s t u xs ys a b. tt };
 
-    fn hear(&mut self, _op: &Op) -> Result<(), Refusal> {
+    fn hear(&mut self, _op: &Op) -> Result<(), OutOfMemory> {
         Ok(())
     }
 }

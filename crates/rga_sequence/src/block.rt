@@ -8,7 +8,7 @@ use crate::scans::{
     count_one, count_visible, id_at, is_larger, least_of, lesser, past_larger, push_id_range,
     push_visible, visible_at,
 };
-use rga_ops::{Id, Refusal};
+use rga_ops::{Id, OutOfMemory};
 use std::alloc::Global;
 use std::marker::Model;
 
@@ -49,12 +49,11 @@ fn room_for(len: usize, more: usize) -> usize
 }
 
 /// Entries come in at an index. Those from there on are moved in one go.
-fn insert_into(entries: &mut Vec<Entry>, index: usize, more: &[Entry]) -> Result<(), Refusal>
+fn insert_into(entries: &mut Vec<Entry>, index: usize, more: &[Entry]) -> Result<(), OutOfMemory>
     requires index { index ≤ vec_len entries.old }
     requires room { vec_len entries.old + length more.now ≤ MOST }
     ensures ok { OnOk result (entries.new.items ≡ insert_all entries.old.items index more.now) }
     ensures err { OnErr result (entries.new.items ≡ entries.old.items) }
-    ensures memory { IfErr result (λ e. e ≡ Refusal.Memory) }
 {
     let len = entries.as_slice().len();
     entries.reserve_exact(room_for(len, more.len()))?;
@@ -101,10 +100,9 @@ impl Block {
     }
 
     /// A block of some entries. `Memory` alone.
-    pub(crate) fn of_some(alloc: Global, name: usize, some: &[Entry]) -> Result<Block, Refusal>
+    pub(crate) fn of_some(alloc: Global, name: usize, some: &[Entry]) -> Result<Block, OutOfMemory>
         requires { length some.now ≤ MOST }
         ensures ok { IfOk result (λ b. b ≡ some.now) }
-        ensures memory { IfErr result (λ e. e ≡ Refusal.Memory) }
     {
         let mut entries = Vec::with_capacity(alloc, room_for(0, some.len()))?;
         entries.extend_from_slice(some)?;
@@ -165,11 +163,10 @@ impl Block {
         list: &mut Vec<Id>,
         lo: usize,
         hi: usize,
-    ) -> Result<(), Refusal>
+    ) -> Result<(), OutOfMemory>
         requires { lo < hi }
         ensures ok { OnOk result (list.new.items
             ≡ list.old.items ++ drop lo (take hi (visible_ids self.now))) }
-        ensures memory { IfErr result (λ e. e ≡ Refusal.Memory) }
     {
         if lo >= self.visible {
             return Ok(());
@@ -210,12 +207,11 @@ impl Block {
     }
 
     /// Entries come in at an index. `Memory` alone.
-    pub(crate) fn put(&mut self, index: usize, more: &[Entry]) -> Result<(), Refusal>
+    pub(crate) fn put(&mut self, index: usize, more: &[Entry]) -> Result<(), OutOfMemory>
         requires index { index ≤ length self.old }
         requires room { length self.old + length more.now ≤ MOST }
         ensures ok { OnOk result (self.new ≡ insert_all self.old index more.now) }
         ensures err { OnErr result (self.new ≡ self.old) }
-        ensures memory { IfErr result (λ e. e ≡ Refusal.Memory) }
     {
         let least = new_least(self.entries.as_slice(), self.least, more);
         let visible = self.visible + count_visible(more);
@@ -226,10 +222,9 @@ impl Block {
     }
 
     /// What stands from an index on, as a block of its own. `Memory` alone.
-    pub(crate) fn tail(&self, alloc: Global, from: usize, name: usize) -> Result<Block, Refusal>
+    pub(crate) fn tail(&self, alloc: Global, from: usize, name: usize) -> Result<Block, OutOfMemory>
         requires { from ≤ length self.now }
         ensures ok { IfOk result (λ b. b ≡ drop from self.now) }
-        ensures memory { IfErr result (λ e. e ≡ Refusal.Memory) }
     {
         let entries = Vec::from_slice(alloc, &self.entries.as_slice()[from..])?;
         Ok(Block::of(entries, name))

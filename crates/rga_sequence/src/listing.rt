@@ -8,7 +8,7 @@ use crate::counts::{count_before, group_with};
 use crate::groups::GROUP;
 use crate::place::Place;
 use crate::scans::{push_ids, push_text};
-use rga_ops::{Id, Refusal};
+use rga_ops::{Id, OutOfMemory};
 use std::alloc::Global;
 
 /// How many entries there are.
@@ -62,10 +62,14 @@ pub(crate) fn element_at(blocks: &Vec<Block>, counts: &Vec<usize>, k: usize) -> 
 }
 
 /// The visible entries of some blocks from the lo-th to the one before the hi-th go behind a list.
-fn push_elements(list: &mut Vec<Id>, blocks: &[Block], lo: usize, hi: usize) -> Result<(), Refusal>
+fn push_elements(
+    list: &mut Vec<Id>,
+    blocks: &[Block],
+    lo: usize,
+    hi: usize,
+) -> Result<(), OutOfMemory>
     ensures ok { OnOk result (list.new.items
         ≡ list.old.items ++ drop lo (take hi (visible_ids (flat blocks.now)))) }
-    ensures memory { IfErr result (λ e. e ≡ Refusal.Memory) }
 {
     let mut skip = lo;
     let mut end = hi;
@@ -87,11 +91,10 @@ pub(crate) fn elements(
     counts: &Vec<usize>,
     lo: usize,
     hi: usize,
-) -> Result<Vec<Id>, Refusal>
+) -> Result<Vec<Id>, OutOfMemory>
     requires { AreCounts counts.now.items blocks.now.items }
     ensures ok { IfOk result (λ list.
         list.items ≡ drop lo (take hi (visible_ids (flat blocks.now.items)))) }
-    ensures memory { IfErr result (λ e. e ≡ Refusal.Memory) }
 {
     let (group, rest) = group_with(counts.as_slice(), lo);
     let later = &blocks.as_slice()[group * GROUP..];
@@ -101,9 +104,8 @@ pub(crate) fn elements(
 }
 
 /// The identifiers.
-pub(crate) fn list_ids(alloc: Global, blocks: &Vec<Block>) -> Result<Vec<Id>, Refusal>
+pub(crate) fn list_ids(alloc: Global, blocks: &Vec<Block>) -> Result<Vec<Id>, OutOfMemory>
     ensures ok { IfOk result (λ list. list.items ≡ ids (flat blocks.now.items)) }
-    ensures memory { IfErr result (λ e. e ≡ Refusal.Memory) }
 {
     let mut list = Vec::new(alloc);
     for block in blocks {
@@ -113,9 +115,8 @@ pub(crate) fn list_ids(alloc: Global, blocks: &Vec<Block>) -> Result<Vec<Id>, Re
 }
 
 /// The characters of the visible entries.
-pub(crate) fn text(alloc: Global, blocks: &Vec<Block>) -> Result<Vec<char>, Refusal>
+pub(crate) fn text(alloc: Global, blocks: &Vec<Block>) -> Result<Vec<char>, OutOfMemory>
     ensures ok { IfOk result (λ chars. chars.items ≡ visible_text (flat blocks.now.items)) }
-    ensures memory { IfErr result (λ e. e ≡ Refusal.Memory) }
 {
     let mut chars = Vec::new(alloc);
     for block in blocks {

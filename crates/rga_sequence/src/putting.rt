@@ -13,7 +13,7 @@ use crate::groups::Groups;
 use crate::place::Place;
 use crate::scans::least_of;
 use crate::skipping::{behind_parent, skip};
-use rga_ops::{Id, Refusal};
+use rga_ops::{Id, OutOfMemory};
 use std::alloc::Global;
 
 /// How many entries may be put at once. So many fit into each part of a block that is cut.
@@ -32,7 +32,7 @@ pub(crate) fn put_behind(
     parent: Id,
     name: usize,
     entries: &[Entry],
-) -> Result<Place, Refusal>
+) -> Result<Place, OutOfMemory>
     requires kept { IsSequence blocks.old.items }
     requires groups { AreGroups groups.old blocks.old.items }
     requires some { 0 < length entries.now }
@@ -43,7 +43,6 @@ pub(crate) fn put_behind(
     ensures err { OnErr result (flat blocks.new.items ≡ flat blocks.old.items) }
     ensures kept { IsSequence blocks.new.items }
     ensures groups { AreGroups groups.new blocks.new.items }
-    ensures memory { IfErr result (λ e. e ≡ Refusal.Memory) }
 {
     if blocks.as_slice().len() == 0 {
         put_own(alloc, blocks, groups, 0, name, entries)?;
@@ -65,7 +64,7 @@ fn put_at(
     at: Place,
     name: usize,
     entries: &[Entry],
-) -> Result<Place, Refusal>
+) -> Result<Place, OutOfMemory>
     requires block { at.block < vec_len blocks.old }
     requires place { IsPlace blocks.old.items at.block at.index }
     requires some { 0 < length entries.now }
@@ -78,7 +77,6 @@ fn put_at(
     ensures err { OnErr result (flat blocks.new.items ≡ flat blocks.old.items) }
     ensures filled { AreFilled blocks.new.items }
     ensures groups { AreGroups groups.new blocks.new.items }
-    ensures memory { IfErr result (λ e. e ≡ Refusal.Memory) }
 {
     let count = entries.len();
     if let Some(block) = own_block(blocks, at, count) {
@@ -137,7 +135,7 @@ fn put_in_block(
     groups: &mut Groups,
     at: Place,
     entries: &[Entry],
-) -> Result<(), Refusal>
+) -> Result<(), OutOfMemory>
     requires block { at.block < vec_len blocks.old }
     requires place { IsPlace blocks.old.items at.block at.index }
     requires some { 0 < length entries.now }
@@ -150,7 +148,6 @@ fn put_in_block(
     ensures err { OnErr result (flat blocks.new.items ≡ flat blocks.old.items) }
     ensures filled { AreFilled blocks.new.items }
     ensures groups { AreGroups groups.new blocks.new.items }
-    ensures memory { IfErr result (λ e. e ≡ Refusal.Memory) }
 {
     lower(&mut groups.bounds, at.block, least_of(entries));
     let block = &mut blocks[at.block];
@@ -168,7 +165,7 @@ fn put_own(
     block: usize,
     name: usize,
     entries: &[Entry],
-) -> Result<(), Refusal>
+) -> Result<(), OutOfMemory>
     requires block { block ≤ vec_len blocks.old }
     requires some { 0 < length entries.now }
     requires few { length entries.now ≤ MOST_AT_ONCE }
@@ -178,7 +175,6 @@ fn put_own(
     ensures err { OnErr result (blocks.new.items ≡ blocks.old.items) }
     ensures filled { AreFilled blocks.new.items }
     ensures groups { AreGroups groups.new blocks.new.items }
-    ensures memory { IfErr result (λ e. e ≡ Refusal.Memory) }
 {
     let own = Block::of_some(alloc, name, entries)?;
     blocks.insert(block, own)?;
@@ -194,7 +190,7 @@ fn cut_block(
     block: usize,
     cut: usize,
     name: usize,
-) -> Result<(), Refusal>
+) -> Result<(), OutOfMemory>
     requires block { block < vec_len blocks.old }
     requires first { 0 < cut }
     requires second { cut < length (slice_index_or blocks.old.items block []) }
@@ -205,7 +201,6 @@ fn cut_block(
     ensures err { OnErr result (blocks.new.items ≡ blocks.old.items) }
     ensures filled { AreFilled blocks.new.items }
     ensures groups { AreGroups groups.new blocks.new.items }
-    ensures memory { IfErr result (λ e. e ≡ Refusal.Memory) }
 {
     let second = blocks[block].len() - cut;
     let old = blocks[block].name();

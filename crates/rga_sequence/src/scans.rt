@@ -6,7 +6,7 @@ ghost use Rattle.rga_sequence.specs.Entries.{ids, has, visible_count, visible_id
 ghost use Rattle.rga_sequence.specs.Blocks.{larger_at_front, AreFrom};
 
 use crate::entry::Entry;
-use rga_ops::{Id, Refusal};
+use rga_ops::{Id, OutOfMemory};
 
 /// Whether an identifier is larger than another.
 pub(crate) fn is_larger(id: Id, other: Id) -> bool
@@ -135,9 +135,8 @@ pub(crate) fn visible_at(entries: &[Entry], k: usize) -> Option<Id>
 }
 
 /// The identifiers go behind a list.
-pub(crate) fn push_ids(list: &mut Vec<Id>, entries: &[Entry]) -> Result<(), Refusal>
+pub(crate) fn push_ids(list: &mut Vec<Id>, entries: &[Entry]) -> Result<(), OutOfMemory>
     ensures ok { OnOk result (list.new.items ≡ list.old.items ++ ids entries.now) }
-    ensures memory { IfErr result (λ e. e ≡ Refusal.Memory) }
 {
     for entry in entries {
         list.push(entry.id)?;
@@ -151,20 +150,18 @@ pub(crate) fn push_id_range(
     entries: &[Entry],
     lo: usize,
     hi: usize,
-) -> Result<(), Refusal>
+) -> Result<(), OutOfMemory>
     requires some { lo < hi }
     requires within { lo < length entries.now }
     ensures ok { OnOk result (list.new.items
         ≡ list.old.items ++ drop lo (take hi (ids entries.now))) }
-    ensures memory { IfErr result (λ e. e ≡ Refusal.Memory) }
 {
     push_ids(list, &entries[lo..hi.min(entries.len())])
 }
 
 /// The characters of the visible entries go behind a text.
-pub(crate) fn push_text(chars: &mut Vec<char>, entries: &[Entry]) -> Result<(), Refusal>
+pub(crate) fn push_text(chars: &mut Vec<char>, entries: &[Entry]) -> Result<(), OutOfMemory>
     ensures ok { OnOk result (chars.new.items ≡ chars.old.items ++ visible_text entries.now) }
-    ensures memory { IfErr result (λ e. e ≡ Refusal.Memory) }
 {
     for entry in entries {
         if !entry.deleted {
@@ -175,10 +172,9 @@ pub(crate) fn push_text(chars: &mut Vec<char>, entries: &[Entry]) -> Result<(), 
 }
 
 /// An entry's identifier goes behind a list, where the entry is visible and none is to be skipped.
-fn push_one(list: &mut Vec<Id>, entry: Entry, skip: usize) -> Result<(), Refusal>
+fn push_one(list: &mut Vec<Id>, entry: Entry, skip: usize) -> Result<(), OutOfMemory>
     ensures ok { OnOk result (list.new.items
         ≡ list.old.items ++ drop skip (visible_ids (entry ∷ []))) }
-    ensures memory { IfErr result (λ e. e ≡ Refusal.Memory) }
 {
     if entry.deleted {
         return Ok(());
@@ -197,10 +193,9 @@ pub(crate) fn push_visible(
     entries: &[Entry],
     lo: usize,
     hi: usize,
-) -> Result<(), Refusal>
+) -> Result<(), OutOfMemory>
     ensures ok { OnOk result (list.new.items
         ≡ list.old.items ++ drop lo (take hi (visible_ids entries.now))) }
-    ensures memory { IfErr result (λ e. e ≡ Refusal.Memory) }
 {
     let mut skip = lo;
     let mut end = hi;

@@ -14,7 +14,7 @@ use crate::near::Near;
 use crate::place::Place;
 use crate::putting::{MOST_AT_ONCE, put_behind};
 use crate::removing::{mark_at, remove_at};
-use rga_ops::{Id, Refusal};
+use rga_ops::{Id, OutOfMemory};
 use std::alloc::Global;
 use std::marker::Model;
 
@@ -70,12 +70,11 @@ impl Sequence {
     /// An entry goes behind its parent, past those of larger identifiers that stand there: so a
     /// Replicated Growable Array that is one sequence takes an insertion (Roh and others 2011).
     /// `near` is where the parent may stand. `Memory` alone, and then nothing is changed.
-    pub fn put(&mut self, parent: Id, near: Near, entry: Entry) -> Result<Put, Refusal>
+    pub fn put(&mut self, parent: Id, near: Near, entry: Entry) -> Result<Put, OutOfMemory>
         requires parent { is_root parent || has parent self.old ≡ true }
         requires absent { has entry.id self.old ≡ false }
         ensures ok { OnOk result (self.new ≡ put_entry parent entry self.old) }
         ensures err { OnErr result (self.new ≡ self.old) }
-        ensures memory { IfErr result (λ e. e ≡ Refusal.Memory) }
     {
         self.put_chain(parent, near, &[entry])
     }
@@ -84,13 +83,17 @@ impl Sequence {
     /// Each identifier is larger than the one before it: so all of them stand behind the first.
     /// `near` is where the first one's parent may stand. `Memory` alone, and then nothing is
     /// changed.
-    pub fn put_chain(&mut self, parent: Id, near: Near, entries: &[Entry]) -> Result<Put, Refusal>
+    pub fn put_chain(
+        &mut self,
+        parent: Id,
+        near: Near,
+        entries: &[Entry],
+    ) -> Result<Put, OutOfMemory>
         requires some { 0 < length entries.now }
         requires chain { IsChain parent entries.now self.old }
         requires few { length entries.now ≤ MOST_AT_ONCE }
         ensures ok { OnOk result (self.new ≡ put_chain parent entries.now self.old) }
         ensures err { OnErr result (self.new ≡ self.old) }
-        ensures memory { IfErr result (λ e. e ≡ Refusal.Memory) }
     {
         self.names.reserve(1)?;
         let count = self.blocks.as_slice().len();
@@ -194,10 +197,9 @@ impl Sequence {
     }
 
     /// The visible entries from the lo-th to the one before the hi-th. `Memory` alone.
-    pub fn elements(&self, alloc: Global, lo: usize, hi: usize) -> Result<Vec<Id>, Refusal>
+    pub fn elements(&self, alloc: Global, lo: usize, hi: usize) -> Result<Vec<Id>, OutOfMemory>
         ensures ok { IfOk result (λ list.
             list.items ≡ drop lo (take hi (visible_ids self.now))) }
-        ensures memory { IfErr result (λ e. e ≡ Refusal.Memory) }
     {
         listing::elements(alloc, &self.blocks, &self.groups.counts, lo, hi)
     }
@@ -214,17 +216,15 @@ impl Sequence {
     }
 
     /// The identifiers, deleted entries' too. `Memory` alone.
-    pub fn ids(&self, alloc: Global) -> Result<Vec<Id>, Refusal>
+    pub fn ids(&self, alloc: Global) -> Result<Vec<Id>, OutOfMemory>
         ensures ok { IfOk result (λ list. list.items ≡ ids self.now) }
-        ensures memory { IfErr result (λ e. e ≡ Refusal.Memory) }
     {
         listing::list_ids(alloc, &self.blocks)
     }
 
     /// The characters of the visible entries. `Memory` alone.
-    pub fn text(&self, alloc: Global) -> Result<Vec<char>, Refusal>
+    pub fn text(&self, alloc: Global) -> Result<Vec<char>, OutOfMemory>
         ensures ok { IfOk result (λ chars. chars.items ≡ visible_text self.now) }
-        ensures memory { IfErr result (λ e. e ≡ Refusal.Memory) }
     {
         listing::text(alloc, &self.blocks)
     }

@@ -31,7 +31,7 @@ pub use Rattle.rga_ops.specs.Operation.{checked, id_of}
 pub use Rattle.rga_ops.specs.Operations.{alone, operations, rising}
 pub use Rattle.rga_ops.specs.declared.op.Op.{Op}
 pub use Rattle.rga_ops.specs.declared.op.Op.TheVariants.{Delete, Insert}
-pub use Rattle.rga_ops.specs.declared.refusal.Refusal.TheVariants.{Memory}
+pub use Rattle.rga_ops.specs.Memory.{Memory}
 pub use Rattle.rga_ops.specs.declared.refusal.Taken.TheVariants.{Known, New}
 pub use Rattle.rga_store.specs.Counted.{IsCounted}
 pub use Rattle.rga_store.specs.Reached.{Reaches}

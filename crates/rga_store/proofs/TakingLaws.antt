@@ -1,6 +1,9 @@
 -- What a replica took by a call, by what the call says of the content.
 use Rattle.rga_store.proofs.Prelude.{◌≡◌, ◌≢◌, ℕ, List, [], ◌∷◌, refl, sym, ◌∙◌, Ok, Err, OnOk, Content, join, single, content_of, answer, Verdict, Op, New, Known, Memory, Answer, ok, err, known-iff, held_adds_nothing}
+use Rattle.std.specs.Prelude.{Result}
 use Rattle.rga_ops.specs.Took.{one, list, merged}
+use Rattle.rga_ops.specs.declared.refusal.Refusal.{Refusal}
+use Rattle.rga_ops.specs.declared.refusal.Refusal.TheVariants.{Memory as OfMemory}
 use Rattle.rga_store.specs.Taking.{TakesMore, TakesAllOf}
 
 -- an operation, new or known
@@ -24,3 +27,9 @@ list_taken c d more (Err e) whole = tt
 pub all_taken : (c d e : Content) (r : Verdict) → (r ≡ Ok tt → e ≡ join c d) → OnOk r (TakesAllOf c d e)
 all_taken c d e (Ok u) joined = λ others u ops t. merged ops c others d t u refl (joined refl)
 all_taken c d e (Err fault) joined = tt
+
+-- what is not to be refused, is refused for want of memory alone
+pub memory_alone : {A : Type 0} (r answer : Result A Refusal) (a : A) (e : Refusal) → answer ≡ Ok a → r ≡ Err e → (r ≢ Err Memory → r ≡ answer) → e ≡ Memory
+memory_alone r answer a (OfMemory m) allowed is exact = refl
+memory_alone r answer a e allowed is exact =
+    let clash : Err e ≡ Ok a = sym is ∙ exact (λ k. let other : Err e ≡ Err Memory = sym is ∙ k in cc) ∙ allowed in cc

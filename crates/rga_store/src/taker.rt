@@ -1,6 +1,6 @@
 //! What takes operations.
 ghost use Rattle.std.specs.Prelude.{◌≡◌, ◌≢◌, ℕ, List, [], ◌∷◌, ◌++◌, None, Ok, Err, OnOk, MatchResult};
-ghost use Rattle.rga_ops.specs.Prelude.{Content, all_checked, answer, content_of, join, list_answer, single};
+ghost use Rattle.rga_ops.specs.Prelude.{Content, all_checked, answer, content_of, join, list_answer, single, Memory};
 ghost use Rattle.rga_ops.specs.ListAnswer.{early_conflict};
 ghost use Rattle.rga_ops.specs.declared.op.Op.{Op as Operation};
 ghost use Rattle.rga_store.specs.Taking.{TakesMore};
@@ -34,11 +34,11 @@ pub trait Taker {
     /// Refusals, in this order: `BadId`, `BadOrder`, `Conflict`, `Full`, `Memory`. A refusal
     /// changes nothing. `Known` and every refusal but `Memory` take no memory.
     fn apply(&mut self, op: Op) -> Result<Taken, Refusal>
-        ensures exact { result ≢ Err Refusal.Memory →
+        ensures exact { result ≢ Err Memory →
             result ≡ answer (limit self.old) (content self.old) op }
-        ensures memory { result ≡ Err Refusal.Memory →
+        ensures memory { result ≡ Err Memory →
             answer (limit self.old) (content self.old) op ≡ Ok Taken.New }
-        ensures growth { result ≡ Err Refusal.Memory → may_grow self.old op }
+        ensures growth { result ≡ Err Memory → may_grow self.old op }
 
         ensures new { result ≡ Ok Taken.New →
             content self.new ≡ join (content self.old) (single op) }
@@ -56,10 +56,10 @@ pub trait Taker {
     /// place of any answer but that to an ill-formed operation, and to a conflict in front of which
     /// nothing is inserted anew: these are found without memory. A refusal changes nothing.
     fn apply_all(&mut self, ops: &[Op]) -> Result<(), Refusal>
-        ensures exact { result ≢ Err Refusal.Memory →
+        ensures exact { result ≢ Err Memory →
             result ≡ list_answer (limit self.old) (content self.old) ops.now }
-        ensures memory { result ≡ Err Refusal.Memory → all_checked ops.now ≡ Ok tt }
-        ensures early { result ≡ Err Refusal.Memory →
+        ensures memory { result ≡ Err Memory → all_checked ops.now ≡ Ok tt }
+        ensures early { result ≡ Err Memory →
             early_conflict (content self.old) ops.now ≡ None }
 
         ensures whole { result ≡ Ok tt →

@@ -2,7 +2,7 @@
 ghost use Rattle.std.specs.Prelude.{◌≡◌, ◌≢◌, ◌≤◌, ◌↔◌, length, take, drop, slice_get, true, false, Ok, Err, IfOk, IfErr, OnOk, MatchResult, string_bytes, encode_utf8_all};
 ghost use Rattle.std.specs.FinMap as finite_map;
 ghost use Rattle.std.specs.FinSet as finite_set;
-ghost use Rattle.rga_ops.specs.Prelude.{Identifier, IsSound, clock_of, join, known_count, merge_answer, nothing, operations, order, place, text};
+ghost use Rattle.rga_ops.specs.Prelude.{Identifier, IsSound, clock_of, join, known_count, merge_answer, nothing, operations, order, place, text, Memory};
 ghost use Rattle.rga_ops.specs.Content.{element_at, Holds};
 ghost use Rattle.rga_ops.specs.Order.{waiting};
 ghost use Rattle.rga_ops.specs.Places.{visible};
@@ -11,7 +11,7 @@ ghost use Rattle.rga_store.specs.Limit.{is_limit};
 ghost use Rattle.rga_store.specs.Taking.{TakesAllOf};
 
 use crate::taker::Taker;
-use rga_ops::{Id, Op, Refusal};
+use rga_ops::{Id, Op, OutOfMemory, Refusal};
 use std::alloc::Global;
 
 /// The greatest limit of a store.
@@ -25,7 +25,7 @@ pub trait TextStore: Taker + Sized + Drop {
     fn new(alloc: Global, limit: usize) -> Result<Self, Refusal>
         ensures range { is_limit limit ≡ false → result ≡ Err Refusal.Range }
         ensures made { is_limit limit ≡ true → MatchResult result
-            (λ s. (Self.content s ≡ nothing) × (Self.limit s ≡ limit)) (λ e. e ≡ Refusal.Memory) };
+            (λ s. (Self.content s ≡ nothing) × (Self.limit s ≡ limit)) (λ e. e ≡ Memory) };
 
     /// The parent and the character of an element that is inserted. Takes no memory.
     fn get(&self, id: Id) -> Option<(Id, char)>
@@ -58,26 +58,22 @@ pub trait TextStore: Taker + Sized + Drop {
     /// The complete elements, deleted ones too, in the order of their root paths: a parent before
     /// its children, and of siblings the one with the larger identifier first (Attiya and others
     /// 2016). `Memory` alone.
-    fn order(&self) -> Result<Vec<Id>, Refusal>
-        ensures ok { IfOk result (λ ids. ids.items ≡ order (Self.content self.now)) }
-        ensures memory { IfErr result (λ e. e ≡ Refusal.Memory) };
+    fn order(&self) -> Result<Vec<Id>, OutOfMemory>
+        ensures ok { IfOk result (λ ids. ids.items ≡ order (Self.content self.now)) };
 
     /// The characters of the visible elements, in order. `Memory` alone.
-    fn text(&self, alloc: Global) -> Result<Vec<char>, Refusal>
-        ensures ok { IfOk result (λ chars. chars.items ≡ text (Self.content self.now)) }
-        ensures memory { IfErr result (λ e. e ≡ Refusal.Memory) };
+    fn text(&self, alloc: Global) -> Result<Vec<char>, OutOfMemory>
+        ensures ok { IfOk result (λ chars. chars.items ≡ text (Self.content self.now)) };
 
     /// The same in UTF-8. `Memory` alone.
-    fn text_string(&self, alloc: Global) -> Result<String, Refusal>
+    fn text_string(&self, alloc: Global) -> Result<String, OutOfMemory>
         ensures ok { IfOk result (λ string.
-            string_bytes string ≡ encode_utf8_all (text (Self.content self.now))) }
-        ensures memory { IfErr result (λ e. e ≡ Refusal.Memory) };
+            string_bytes string ≡ encode_utf8_all (text (Self.content self.now))) };
 
     /// The visible elements, in order, and their characters. `Memory` alone.
-    fn visible(&self, alloc: Global) -> Result<(Vec<Id>, Vec<char>), Refusal>
+    fn visible(&self, alloc: Global) -> Result<(Vec<Id>, Vec<char>), OutOfMemory>
         ensures elements { IfOk result (λ p. p.0.items ≡ visible (Self.content self.now)) }
-        ensures characters { IfOk result (λ p. p.1.items ≡ text (Self.content self.now)) }
-        ensures memory { IfErr result (λ e. e ≡ Refusal.Memory) };
+        ensures characters { IfOk result (λ p. p.1.items ≡ text (Self.content self.now)) };
 
     /// How many elements are visible. Takes no memory.
     fn visible_len(&self) -> usize
@@ -89,10 +85,9 @@ pub trait TextStore: Taker + Sized + Drop {
 
     /// The visible elements from index `lo` of the text to the one before `hi`, as far as there are
     /// any. `Memory` alone.
-    fn elements(&self, alloc: Global, lo: usize, hi: usize) -> Result<Vec<Id>, Refusal>
+    fn elements(&self, alloc: Global, lo: usize, hi: usize) -> Result<Vec<Id>, OutOfMemory>
         ensures ok { IfOk result
-            (λ ids. ids.items ≡ drop lo (take hi (visible (Self.content self.now)))) }
-        ensures memory { IfErr result (λ e. e ≡ Refusal.Memory) };
+            (λ ids. ids.items ≡ drop lo (take hi (visible (Self.content self.now)))) };
 
     /// How many visible elements are the element or stand before it; 0 for the root, and `None` for
     /// what is neither the root nor complete. Takes no memory.
@@ -101,21 +96,18 @@ pub trait TextStore: Taker + Sized + Drop {
 
     /// How many inserted elements wait for an ancestor, and so are not in the order. `Memory`
     /// alone.
-    fn waiting_count(&self) -> Result<usize, Refusal>
-        ensures ok { IfOk result (λ count. count ≡ length (waiting (Self.content self.now))) }
-        ensures memory { IfErr result (λ e. e ≡ Refusal.Memory) };
+    fn waiting_count(&self) -> Result<usize, OutOfMemory>
+        ensures ok { IfOk result (λ count. count ≡ length (waiting (Self.content self.now))) };
 
     /// The content as operations: the insertions by rising identifier, and then the deletions by
     /// rising identifier. `Memory` alone.
-    fn ops(&self) -> Result<Vec<Op>, Refusal>
-        ensures ok { IfOk result (λ ops. ops.items ≡ operations (Self.content self.now)) }
-        ensures memory { IfErr result (λ e. e ≡ Refusal.Memory) };
+    fn ops(&self) -> Result<Vec<Op>, OutOfMemory>
+        ensures ok { IfOk result (λ ops. ops.items ≡ operations (Self.content self.now)) };
 
     /// A store of its own with the same content and the same limit. `Memory` alone.
-    fn copy(&self) -> Result<Self, Refusal>
+    fn copy(&self) -> Result<Self, OutOfMemory>
         ensures ok { IfOk result (λ s. (Self.content s ≡ Self.content self.now)
-            × (Self.limit s ≡ Self.limit self.now)) }
-        ensures memory { IfErr result (λ e. e ≡ Refusal.Memory) };
+            × (Self.limit s ≡ Self.limit self.now)) };
 
     /// Takes all that another store holds, or nothing: the content becomes the join of both, the
     /// limit stays.
@@ -125,9 +117,9 @@ pub trait TextStore: Taker + Sized + Drop {
     /// refusal changes nothing. The first two take no memory.
     fn merge(&mut self, other: &Self) -> Result<(), Refusal>
         ensures exact { let answer = merge_answer (Self.limit self.old) (Self.content self.old)
-            (Self.content other.now) in result ≢ Err Refusal.Memory → result ≡ answer }
+            (Self.content other.now) in result ≢ Err Memory → result ≡ answer }
         ensures memory { let answer = merge_answer (Self.limit self.old) (Self.content self.old)
-            (Self.content other.now) in result ≡ Err Refusal.Memory → answer ≡ Ok tt }
+            (Self.content other.now) in result ≡ Err Memory → answer ≡ Ok tt }
 
         ensures joined { result ≡ Ok tt →
             Self.content self.new ≡ join (Self.content self.old) (Self.content other.now) }

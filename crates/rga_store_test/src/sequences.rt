@@ -46,12 +46,12 @@ fn put_below(
         return Err(Refusal::Range);
     }
     if parent == Id::ROOT {
-        return sequence.put(parent, near(name), *entry);
+        return Ok(sequence.put(parent, near(name), *entry)?);
     }
     if !sequence.contains(parent, near(name)) {
         return Err(Refusal::Range);
     }
-    sequence.put(parent, near(name), *entry)
+    Ok(sequence.put(parent, near(name), *entry)?)
 }
 
 /// The entries of a new block have its name.

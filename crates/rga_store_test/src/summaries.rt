@@ -29,7 +29,7 @@ fn claims_over<S: TextStore + Teller>(alloc: Global, store: &S) -> Result<Vec<Cl
 
 /// The summary of a store, by its claims.
 fn summary_over<S: TextStore + Teller>(alloc: Global, store: &S) -> Result<Summary, Refusal> {
-    summary_from(alloc, &claims_over(alloc, store)?)
+    Ok(summary_from(alloc, &claims_over(alloc, store)?)?)
 }
 
 /// The own operations, the other store's, and those that are missing there.

@@ -5,7 +5,7 @@ ghost use Rattle.rga_ops.specs.Identifier.{id_cmp};
 ghost use Rattle.rga_store.specs.Rising.{IsRising};
 ghost use Rattle.rga_tree.specs.Children.{has_child, AddsChild, RemovesChild, children_in, next_newer};
 
-use rga_ops::{Id, Refusal};
+use rga_ops::{Id, OutOfMemory};
 use smallvec::SmallVec;
 use std::alloc::Global;
 use std::cmp::Ordering;
@@ -32,13 +32,12 @@ impl ChildList {
     }
 
     /// A child that is not there goes in.
-    pub(crate) fn put(&mut self, alloc: Global, id: Id) -> Result<(), Refusal>
+    pub(crate) fn put(&mut self, alloc: Global, id: Id) -> Result<(), OutOfMemory>
         requires rising { IsRising (children_in self.old) }
         requires absent { has_child (children_in self.old) id ≡ false }
         ensures added { OnOk result (AddsChild (children_in self.old) (children_in self.new) id) }
         ensures rising { IsRising (children_in self.new) }
         ensures same { OnErr result (self.new ≡ self.old) }
-        ensures memory { IfErr result (λ e. e ≡ Refusal.Memory) }
     {
         match self {
             ChildList::Few(few) => {
@@ -102,34 +101,31 @@ fn insertion_index(few: &[Id], id: Id) -> usize
     }
 }
 
-fn put_among_few(few: &mut SmallVec<Id, 1>, id: Id) -> Result<(), Refusal>
+fn put_among_few(few: &mut SmallVec<Id, 1>, id: Id) -> Result<(), OutOfMemory>
     requires rising { IsRising few.old.items }
     requires absent { has_child few.old.items id ≡ false }
     ensures added { OnOk result (AddsChild few.old.items few.new.items id) }
     ensures rising { IsRising few.new.items }
     ensures same { OnErr result (few.new ≡ few.old) }
-    ensures memory { IfErr result (λ e. e ≡ Refusal.Memory) }
 {
     let index = insertion_index(few.as_slice(), id);
     few.insert(index, id)?;
     Ok(())
 }
 
-fn put_among_many(set: &mut BTreeSet<Id>, id: Id) -> Result<(), Refusal>
+fn put_among_many(set: &mut BTreeSet<Id>, id: Id) -> Result<(), OutOfMemory>
     ensures added { OnOk result (AddsChild set.old.keys set.new.keys id) }
     ensures rising { IsRising set.new.keys }
     ensures same { OnErr result (set.new ≡ set.old) }
-    ensures memory { IfErr result (λ e. e ≡ Refusal.Memory) }
 {
     set.insert(id)?;
     Ok(())
 }
 
 /// A tree of these children and one more.
-fn many_with(alloc: Global, few: &[Id], id: Id) -> Result<BTreeSet<Id>, Refusal>
+fn many_with(alloc: Global, few: &[Id], id: Id) -> Result<BTreeSet<Id>, OutOfMemory>
     ensures added { IfOk result (λ set. AddsChild few.now set.keys id) }
     ensures rising { IfOk result (λ set. IsRising set.keys) }
-    ensures memory { IfErr result (λ e. e ≡ Refusal.Memory) }
 {
     let mut set = BTreeSet::new(alloc);
     for child in few {

@@ -12,7 +12,7 @@ ghost use Rattle.rga_store.specs.Without.{without_insertion, without_deletion};
 
 use crate::child_list::ChildList;
 use indexmap::IndexMap;
-use rga_ops::{Found, Id, Op, Refusal};
+use rga_ops::{Found, Id, Op, OutOfMemory};
 use std::alloc::Global;
 
 /// What is kept of an identifier. A node may come before its element: for a deletion that came
@@ -32,7 +32,7 @@ pub(crate) fn ensure_node(
     alloc: Global,
     nodes: &mut IndexMap<Id, Node>,
     id: Id,
-) -> Result<usize, Refusal>
+) -> Result<usize, OutOfMemory>
     requires { AreDistinctNodes nodes.old.entries }
     ensures index { IfOk result (λ index. StandsAt nodes.new.entries index id) }
     ensures others { KeepsIndexes nodes.old.entries nodes.new.entries }
@@ -40,7 +40,6 @@ pub(crate) fn ensure_node(
     ensures children { KeepsChildren nodes.old.entries nodes.new.entries }
     ensures apart { AreDistinctNodes nodes.new.entries }
     ensures absent { OnErr result (lookup (is_id id) nodes.old.entries ≡ None) }
-    ensures memory { IfErr result (λ e. e ≡ Refusal.Memory) }
 {
     if let Some(index) = last_index(nodes, id) {
         return Ok(index);
@@ -56,7 +55,7 @@ pub(crate) fn ensure_node(
             nodes[index] = node;
             Ok(index)
         }
-        Err(_) => Err(Refusal::Memory),
+        Err(refused) => Err(OutOfMemory::from(refused)),
     }
 }
 
@@ -78,7 +77,7 @@ pub(crate) fn add_child(
     index: usize,
     parent: Id,
     id: Id,
-) -> Result<(), Refusal>
+) -> Result<(), OutOfMemory>
     requires apart { AreDistinctNodes nodes.old.entries }
     requires index { StandsAt nodes.old.entries index parent }
     requires rising { AreRising nodes.old.entries }
@@ -89,7 +88,6 @@ pub(crate) fn add_child(
     ensures content { content_of_nodes nodes.new.entries ≡ content_of_nodes nodes.old.entries }
     ensures apart { AreDistinctNodes nodes.new.entries }
     ensures same { OnErr result (KeepsChildren nodes.old.entries nodes.new.entries) }
-    ensures memory { IfErr result (λ e. e ≡ Refusal.Memory) }
 {
     nodes[index].children.put(alloc, id)
 }

@@ -8,7 +8,7 @@ ghost use Rattle.rga_tree.specs.Nodes.{content_of_nodes, ids_where, is_picked, A
 
 use crate::nodes::{Node, element_of};
 use indexmap::IndexMap;
-use rga_ops::{Id, Op, Refusal};
+use rga_ops::{Id, Op, OutOfMemory};
 use rga_store::Listener;
 use std::alloc::Global;
 
@@ -17,12 +17,11 @@ pub(crate) fn list_insertions(
     alloc: Global,
     ops: &mut Vec<Op>,
     nodes: &IndexMap<Id, Node>,
-) -> Result<(), Refusal>
+) -> Result<(), OutOfMemory>
     requires { AreDistinctNodes nodes.now.entries }
     ensures ok { let content = content_of_nodes nodes.now.entries in
         OnOk result (ops.new.items ≡ ops.old.items
         ++ filter_map (insertion_at content) (finite_map.keys content.inserted)) }
-    ensures memory { IfErr result (λ e. e ≡ Refusal.Memory) }
 {
     let mut ids = Vec::new(alloc);
     push_ids(&mut ids, nodes, false)?;
@@ -35,12 +34,11 @@ pub(crate) fn list_deletions(
     alloc: Global,
     ops: &mut Vec<Op>,
     nodes: &IndexMap<Id, Node>,
-) -> Result<(), Refusal>
+) -> Result<(), OutOfMemory>
     requires { AreDistinctNodes nodes.now.entries }
     ensures ok { let content = content_of_nodes nodes.now.entries in
         OnOk result (ops.new.items ≡ ops.old.items
         ++ map Op.Delete (rising (finite_set.items content.deleted))) }
-    ensures memory { IfErr result (λ e. e ≡ Refusal.Memory) }
 {
     let mut ids = Vec::new(alloc);
     push_ids(&mut ids, nodes, true)?;
@@ -49,10 +47,9 @@ pub(crate) fn list_deletions(
 }
 
 /// The identifiers of the nodes that are marked as deleted, or else of those that have an element.
-fn push_ids(ids: &mut Vec<Id>, nodes: &IndexMap<Id, Node>, marked: bool) -> Result<(), Refusal>
+fn push_ids(ids: &mut Vec<Id>, nodes: &IndexMap<Id, Node>, marked: bool) -> Result<(), OutOfMemory>
     ensures ok { OnOk result
         (ids.new.items ≡ ids.old.items ++ ids_where (is_picked marked) nodes.now.entries) }
-    ensures memory { IfErr result (λ e. e ≡ Refusal.Memory) }
 {
     for i in 0..nodes.len() {
         if let Some((id, node)) = nodes.get_index(i) {
@@ -74,11 +71,14 @@ fn is_picked(node: &Node, marked: bool) -> bool
     node.element.is_some()
 }
 
-fn push_insertions(ops: &mut Vec<Op>, nodes: &IndexMap<Id, Node>, ids: &[Id]) -> Result<(), Refusal>
+fn push_insertions(
+    ops: &mut Vec<Op>,
+    nodes: &IndexMap<Id, Node>,
+    ids: &[Id],
+) -> Result<(), OutOfMemory>
     requires { AreDistinctNodes nodes.now.entries }
     ensures ok { let content = content_of_nodes nodes.now.entries in OnOk result
         (ops.new.items ≡ ops.old.items ++ filter_map (insertion_at content) ids.now) }
-    ensures memory { IfErr result (λ e. e ≡ Refusal.Memory) }
 {
     for id in ids {
         if let Some(element) = element_of(nodes, *id) {
@@ -93,9 +93,8 @@ fn push_insertions(ops: &mut Vec<Op>, nodes: &IndexMap<Id, Node>, ids: &[Id]) ->
     Ok(())
 }
 
-fn push_deletions(ops: &mut Vec<Op>, ids: &[Id]) -> Result<(), Refusal>
+fn push_deletions(ops: &mut Vec<Op>, ids: &[Id]) -> Result<(), OutOfMemory>
     ensures ok { OnOk result (ops.new.items ≡ ops.old.items ++ map Op.Delete ids.now) }
-    ensures memory { IfErr result (λ e. e ≡ Refusal.Memory) }
 {
     for id in ids {
         ops.push(Op::Delete { id: *id })?;
@@ -104,9 +103,8 @@ fn push_deletions(ops: &mut Vec<Op>, ids: &[Id]) -> Result<(), Refusal>
 }
 
 /// Tells the operations of a list.
-pub(crate) fn tell_each<L: Listener>(ops: &[Op], listener: &mut L) -> Result<(), Refusal>
+pub(crate) fn tell_each<L: Listener>(ops: &[Op], listener: &mut L) -> Result<(), OutOfMemory>
     ensures ok { OnOk result (L.hears listener.old ops.now listener.new) }
-    ensures memory { IfErr result (λ e. e ≡ Refusal.Memory) }
 {
     for op in ops {
         listener.hear(op)?;

@@ -1,6 +1,7 @@
 //! A store as a tree: a node for each identifier, and under it its children.
 ghost use Rattle.std.specs.Prelude.{◌≡◌, ◌≢◌, ◌⊎◌, [], Ok, Err, OnOk, OnErr, true, false};
 ghost use Rattle.std.specs.FinMap as finite_map;
+ghost use Rattle.rga_ops.specs.Prelude.{Memory};
 ghost use Rattle.rga_ops.specs.Content.{join, single};
 ghost use Rattle.rga_ops.specs.Answer.{answer, facts};
 ghost use Rattle.rga_ops.specs.Order.{waiting};
@@ -15,7 +16,7 @@ use crate::nodes::{Node, add_child, element_of, ensure_node, found_at, mark, set
 use crate::operations::{list_deletions, list_insertions, tell_each};
 use crate::walk::{encoded, walked, walked_visible};
 use indexmap::IndexMap;
-use rga_ops::{Found, Id, Op, Refusal, Taken, answer_to};
+use rga_ops::{Found, Id, Op, OutOfMemory, Refusal, Taken, answer_to};
 use rga_store::counts::{count_unless, raise};
 use rga_store::{Listener, Lookup, MAX_LIMIT, Taker, Teller, TextStore, answer_to_list};
 use std::alloc::Global;
@@ -80,12 +81,12 @@ impl Taker for TreeStore {
 
     fn apply_all(&mut self, ops: &[Op]) -> Result<(), Refusal> {
         let alloc = self.alloc;
-        if self.take_whole(ops).is_ok() {
+        let Err(refused) = self.take_whole(ops) else {
             return Ok(());
-        }
+        };
         // Which refusal comes first depends on the whole list, so it is looked for only now.
         answer_to_list(alloc, self, ops)?;
-        Err(Refusal::Memory)
+        Err(refused)
     }
 }
 
@@ -145,7 +146,7 @@ impl TreeStore {
     /// Memory may be wanting before any other answer is found. Until the element is there, a refusal
     /// leaves no more than nodes that mean nothing.
     fn insert(&mut self, id: Id, parent: Id, ch: char) -> Result<Taken, Refusal>
-        ensures exact { result ≢ Err Refusal.Memory →
+        ensures exact { result ≢ Err Memory →
             result ≡ answer self.old.limit self.old.content (Op.Insert id parent ch) }
         ensures new { result ≡ Ok Taken.New →
             self.new.content ≡ join self.old.content (single (Op.Insert id parent ch)) }
@@ -173,8 +174,8 @@ impl TreeStore {
         ensures ok { OnOk result
             (self.new.content ≡ join self.old.content (single (Op.Delete id))) }
         ensures same { OnErr result (self.new.content ≡ self.old.content) }
-        ensures answer { (result ≡ Ok Taken.New) ⊎ (result ≡ Err Refusal.Memory) }
-        ensures growth { result ≡ Err Refusal.Memory →
+        ensures answer { (result ≡ Ok Taken.New) ⊎ (result ≡ Err Memory) }
+        ensures growth { result ≡ Err Memory →
             finite_map.contains_key self.old.content.inserted id ≡ false }
         ensures limit { self.new.limit ≡ self.old.limit }
     {
@@ -232,21 +233,21 @@ impl TextStore for TreeStore {
         self.limit
     }
 
-    fn order(&self) -> Result<Vec<Id>, Refusal> {
+    fn order(&self) -> Result<Vec<Id>, OutOfMemory> {
         walked(self.alloc, &self.nodes)
     }
 
-    fn text(&self, alloc: Global) -> Result<Vec<char>, Refusal> {
+    fn text(&self, alloc: Global) -> Result<Vec<char>, OutOfMemory> {
         let (_ids, chars) = walked_visible(alloc, &self.nodes)?;
         Ok(chars)
     }
 
-    fn text_string(&self, alloc: Global) -> Result<String, Refusal> {
+    fn text_string(&self, alloc: Global) -> Result<String, OutOfMemory> {
         let chars = self.text(alloc)?;
         encoded(alloc, &chars)
     }
 
-    fn visible(&self, alloc: Global) -> Result<(Vec<Id>, Vec<char>), Refusal> {
+    fn visible(&self, alloc: Global) -> Result<(Vec<Id>, Vec<char>), OutOfMemory> {
         walked_visible(alloc, &self.nodes)
     }
 
@@ -258,7 +259,7 @@ impl TextStore for TreeStore {
         element_at(&self.nodes, k)
     }
 
-    fn elements(&self, alloc: Global, lo: usize, hi: usize) -> Result<Vec<Id>, Refusal> {
+    fn elements(&self, alloc: Global, lo: usize, hi: usize) -> Result<Vec<Id>, OutOfMemory> {
         let (mut ids, _chars) = walked_visible(alloc, &self.nodes)?;
         ids.truncate(hi);
         ids.drain(..lo.min(ids.len()));
@@ -272,7 +273,7 @@ impl TextStore for TreeStore {
         Some(count_up_to(&self.nodes, id))
     }
 
-    fn waiting_count(&self) -> Result<usize, Refusal> {
+    fn waiting_count(&self) -> Result<usize, OutOfMemory> {
         if self.is_rooted() {
             return Ok(0);
         }
@@ -280,19 +281,22 @@ impl TextStore for TreeStore {
         Ok(self.inserted - order.as_slice().len())
     }
 
-    fn ops(&self) -> Result<Vec<Op>, Refusal> {
+    fn ops(&self) -> Result<Vec<Op>, OutOfMemory> {
         let mut ops = Vec::new(self.alloc);
         list_insertions(self.alloc, &mut ops, &self.nodes)?;
         list_deletions(self.alloc, &mut ops, &self.nodes)?;
         Ok(ops)
     }
 
-    fn copy(&self) -> Result<TreeStore, Refusal> {
-        let mut copy = TreeStore::new(self.alloc, self.limit)?;
-        if copy.merge(self).is_ok() {
-            return Ok(copy);
+    fn copy(&self) -> Result<TreeStore, OutOfMemory> {
+        let mut copy = match TreeStore::new(self.alloc, self.limit) {
+            Ok(copy) => copy,
+            Err(refused) => return Err(refused.memory()),
+        };
+        match copy.merge(self) {
+            Ok(()) => Ok(copy),
+            Err(refused) => Err(refused.memory()),
         }
-        Err(Refusal::Memory)
     }
 
     fn merge(&mut self, other: &TreeStore) -> Result<(), Refusal> {
@@ -308,13 +312,13 @@ impl TextStore for TreeStore {
 }
 
 impl Teller for TreeStore {
-    fn tell_insertions<L: Listener>(&self, listener: &mut L) -> Result<(), Refusal> {
+    fn tell_insertions<L: Listener>(&self, listener: &mut L) -> Result<(), OutOfMemory> {
         let mut told = Vec::new(self.alloc);
         list_insertions(self.alloc, &mut told, &self.nodes)?;
         tell_each(&told, listener)
     }
 
-    fn tell_deletions<L: Listener>(&self, listener: &mut L) -> Result<(), Refusal> {
+    fn tell_deletions<L: Listener>(&self, listener: &mut L) -> Result<(), OutOfMemory> {
         let mut told = Vec::new(self.alloc);
         list_deletions(self.alloc, &mut told, &self.nodes)?;
         tell_each(&told, listener)

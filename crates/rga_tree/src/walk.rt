@@ -10,16 +10,15 @@ ghost use Rattle.rga_tree.specs.Tree.{HasFamilies};
 use crate::counting_back::{last_element, step_back};
 use crate::nodes::Node;
 use indexmap::IndexMap;
-use rga_ops::{Id, Refusal};
+use rga_ops::{Id, OutOfMemory};
 use std::alloc::Global;
 
 /// The complete elements in order.
-pub(crate) fn walked(alloc: Global, nodes: &IndexMap<Id, Node>) -> Result<Vec<Id>, Refusal>
+pub(crate) fn walked(alloc: Global, nodes: &IndexMap<Id, Node>) -> Result<Vec<Id>, OutOfMemory>
     requires apart { AreDistinctNodes nodes.now.entries }
     requires family { HasFamilies nodes.now.entries }
     requires sound { IsSound (content_of_nodes nodes.now.entries) }
     ensures ok { IfOk result (λ ids. ids.items ≡ order (content_of_nodes nodes.now.entries)) }
-    ensures memory { IfErr result (λ e. e ≡ Refusal.Memory) }
 {
     let mut order = Vec::with_capacity(alloc, nodes.len())?;
     let mut near = 0;
@@ -36,7 +35,7 @@ pub(crate) fn walked(alloc: Global, nodes: &IndexMap<Id, Node>) -> Result<Vec<Id
 pub(crate) fn walked_visible(
     alloc: Global,
     nodes: &IndexMap<Id, Node>,
-) -> Result<(Vec<Id>, Vec<char>), Refusal>
+) -> Result<(Vec<Id>, Vec<char>), OutOfMemory>
     requires apart { AreDistinctNodes nodes.now.entries }
     requires family { HasFamilies nodes.now.entries }
     requires sound { IsSound (content_of_nodes nodes.now.entries) }
@@ -44,7 +43,6 @@ pub(crate) fn walked_visible(
         (λ p. p.0.items ≡ visible (content_of_nodes nodes.now.entries)) }
     ensures characters { IfOk result
         (λ p. p.1.items ≡ text (content_of_nodes nodes.now.entries)) }
-    ensures memory { IfErr result (λ e. e ≡ Refusal.Memory) }
 {
     let mut ids = Vec::with_capacity(alloc, nodes.len())?;
     let mut chars = Vec::with_capacity(alloc, nodes.len())?;
@@ -66,11 +64,10 @@ fn push_visible(
     chars: &mut Vec<char>,
     id: Id,
     ch: Option<char>,
-) -> Result<(), Refusal>
+) -> Result<(), OutOfMemory>
     ensures elements { OnOk result
         (ids.new.items ≡ ids.old.items ++ (if is_some ch then id ∷ [] else [])) }
     ensures characters { OnOk result (chars.new.items ≡ chars.old.items ++ cons_option ch []) }
-    ensures memory { IfErr result (λ e. e ≡ Refusal.Memory) }
 {
     if let Some(ch) = ch {
         ids.push(id)?;
@@ -80,9 +77,8 @@ fn push_visible(
 }
 
 /// The characters in UTF-8.
-pub(crate) fn encoded(alloc: Global, chars: &[char]) -> Result<String, Refusal>
+pub(crate) fn encoded(alloc: Global, chars: &[char]) -> Result<String, OutOfMemory>
     ensures ok { IfOk result (λ text. string_bytes text ≡ encode_utf8_all chars.now) }
-    ensures memory { IfErr result (λ e. e ≡ Refusal.Memory) }
 {
     let mut text = String::with_capacity(alloc, chars.len())?;
     for ch in chars {

@@ -4,7 +4,8 @@ use Rattle.std.specs.Prelude.{Result, Ok, Err, OnOk}
 use Rattle.std.proofs.lemmas.List.{map-set, map-append}
 use Rattle.std.proofs.lemmas.Option.{slice_get-get_or, slice_get_within, same_Some, none-some}
 use Rattle.rga_ops.specs.declared.refusal.Refusal.{Refusal}
-use Rattle.rga_ops.specs.declared.refusal.Refusal.TheVariants.{Range, Memory, Conflict}
+use Rattle.rga_ops.specs.declared.refusal.Refusal.TheVariants.{Range, Conflict}
+use Rattle.rga_ops.specs.Prelude.{Memory}
 use Rattle.rga_store.specs.Limit.{is_limit}
 use Rattle.rga_ops.specs.Content.{nothing}
 use Rattle.rga_world.specs.Sites.{Site, site, World, world}

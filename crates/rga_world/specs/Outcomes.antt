@@ -1,7 +1,7 @@
 -- What calls leave.
 use Rattle.std.specs.Prelude.{◌≡◌, ◌<◌, ◌≤◌, ◌⊎◌, ℕ, nat_le, ◌&&◌, Bool, Some, Result, Ok, Err, MatchResult, length, slice_get}
 use Rattle.rga_ops.specs.Content.{Content}
-use Rattle.rga_ops.specs.declared.refusal.Refusal.TheVariants.{Memory}
+use Rattle.rga_ops.specs.Prelude.{Memory}
 use Rattle.rga_doc.specs.LocalEdit.{room_answer}
 use Rattle.rga_world.specs.Sites.{Site, World}
 use Rattle.rga_world.specs.Steps.{Outcome}

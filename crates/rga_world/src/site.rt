@@ -1,6 +1,6 @@
 //! A site.
 ghost use Rattle.std.specs.Prelude.{◌≡◌, ◌≤◌, ◌⊎◌, Some, None, IfOk, IfErr, MatchResult, true, false, length, slice_get};
-ghost use Rattle.rga_ops.specs.Prelude.{operations, text};
+ghost use Rattle.rga_ops.specs.Prelude.{operations, text, Memory};
 ghost use Rattle.rga_store.specs.Limit.{is_limit};
 ghost use Rattle.rga_world.specs.Outcomes.{Happens, HasRoomAlone};
 ghost use Rattle.rga_world.specs.SiteStates.{new_site};
@@ -10,7 +10,7 @@ ghost use Rattle.std.specs.Prelude.{Ok, Err};
 use crate::event::Event;
 use crate::refusal::WorldRefusal;
 use rga_doc::Doc;
-use rga_ops::{Op, Refusal};
+use rga_ops::{Op, OutOfMemory, Refusal};
 use rga_store::{Taker, TextStore};
 use std::alloc::Global;
 use std::marker::Model;
@@ -44,7 +44,7 @@ impl<S: TextStore> Site<S> {
         requires { 1 ≤ replica }
         ensures range { is_limit limit ≡ false → result ≡ Err Refusal.Range }
         ensures made { is_limit limit ≡ true → MatchResult result
-            (λ s. s ≡ new_site replica limit) (λ e. e ≡ Refusal.Memory) }
+            (λ s. s ≡ new_site replica limit) (λ e. e ≡ Memory) }
     {
         let document = Doc::new(alloc, S::new(alloc, limit)?, replica)?;
         let saved = S::new(alloc, limit)?;
@@ -55,7 +55,7 @@ impl<S: TextStore> Site<S> {
     pub(crate) fn step(&mut self, alloc: Global, event: &Event) -> Result<(), WorldRefusal>
         ensures happens { Happens result self.old.site self.new.site
             (alone self.old.limit self.old.replica event.now self.old.site) }
-        ensures memory { result ≡ Err (WorldRefusal.Store Refusal.Memory) →
+        ensures memory { result ≡ Err (WorldRefusal.Store Memory) →
             HasRoomAlone self.old.limit self.old.site.content event.now }
         ensures rest { self.new ≡ record self.old { site = self.new.site } }
     {
@@ -115,17 +115,15 @@ impl<S: TextStore> Site<S> {
     }
 
     /// The characters that are shown.
-    pub(crate) fn text(&self) -> Result<Vec<char>, Refusal>
+    pub(crate) fn text(&self) -> Result<Vec<char>, OutOfMemory>
         ensures ok { IfOk result (λ chars. chars.items ≡ text self.now.site.content) }
-        ensures memory { IfErr result (λ e. e ≡ Refusal.Memory) }
     {
         self.document.text()
     }
 
     /// The operations that are saved.
-    pub(crate) fn saved_ops(&self) -> Result<Vec<Op>, Refusal>
+    pub(crate) fn saved_ops(&self) -> Result<Vec<Op>, OutOfMemory>
         ensures ok { IfOk result (λ ops. ops.items ≡ operations self.now.site.saved) }
-        ensures memory { IfErr result (λ e. e ≡ Refusal.Memory) }
     {
         self.saved.ops()
     }
@@ -134,7 +132,7 @@ impl<S: TextStore> Site<S> {
     pub(crate) fn saved_operation(&self, place: usize) -> Result<Op, WorldRefusal>
         ensures { let op = slice_get (operations self.now.site.saved) place in MatchResult result
             (λ o. op ≡ Some o)
-            (λ e. (e ≡ WorldRefusal.Store Refusal.Memory)
+            (λ e. (e ≡ WorldRefusal.Store Memory)
             ⊎ ((e ≡ WorldRefusal.NoOperation) × (op ≡ None))) }
     {
         let ops = self.saved_ops()?;
@@ -153,8 +151,8 @@ impl<S: TextStore> Site<S> {
     ) -> Result<Vec<Op>, WorldRefusal>
         ensures exact { let list = saved_list self.now.site lo hi in MatchResult result
             (λ ops. list ≡ Ok ops.items)
-            (λ e. (e ≡ WorldRefusal.Store Refusal.Memory) ⊎ (list ≡ Err e)) }
-        ensures memory { result ≡ Err (WorldRefusal.Store Refusal.Memory) → lo ≤ hi }
+            (λ e. (e ≡ WorldRefusal.Store Memory) ⊎ (list ≡ Err e)) }
+        ensures memory { result ≡ Err (WorldRefusal.Store Memory) → lo ≤ hi }
     {
         if lo > hi {
             return Err(WorldRefusal::NoOperation);
@@ -165,7 +163,7 @@ impl<S: TextStore> Site<S> {
         }
         match Vec::from_slice(alloc, &all[lo..hi]) {
             Ok(list) => Ok(list),
-            Err(_) => Err(WorldRefusal::Store(Refusal::Memory)),
+            Err(refused) => Err(WorldRefusal::Store(Refusal::from(refused))),
         }
     }
 }

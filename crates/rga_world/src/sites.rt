@@ -4,7 +4,7 @@ ghost use Rattle.rga_store.specs.Limit.{is_limit};
 ghost use Rattle.rga_world.specs.Outcomes.{Happens, MayWantMemory};
 ghost use Rattle.rga_world.specs.Sites.{new_world};
 ghost use Rattle.rga_world.specs.Steps.{alone, own_site, delivered, list_delivered, replica_of, changed, given, stepped, saved_operation, saved_list};
-ghost use Rattle.rga_ops.specs.declared.refusal.Refusal.TheVariants.{Memory};
+ghost use Rattle.rga_ops.specs.Prelude.{Memory};
 ghost use Rattle.rga_world.specs.declared.refusal.WorldRefusal.TheVariants.{Store};
 
 use crate::event::Event;
@@ -45,7 +45,7 @@ impl<S: TextStore> Sites<S> {
         requires few { count ≤ MAX_SITES }
         ensures range { is_limit limit ≡ false → result ≡ Err Refusal.Range }
         ensures made { is_limit limit ≡ true → MatchResult result
-            (λ w. w ≡ new_world count limit) (λ e. e ≡ Refusal.Memory) }
+            (λ w. w ≡ new_world count limit) (λ e. e ≡ Memory) }
     {
         let mut all = Vec::new(alloc);
         for number in 0..count {

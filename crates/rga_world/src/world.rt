@@ -1,12 +1,12 @@
 //! A world.
 ghost use Rattle.std.specs.Prelude.{◌≡◌, ◌≢◌, ◌<◌, ◌⊎◌, ℕ, Some, None, Ok, Err, IfOk, IfErr, OnOk, OnErr, MatchResult, true, false, length, take, slice_get};
-ghost use Rattle.rga_ops.specs.Prelude.{Identifier, operations, text};
+ghost use Rattle.rga_ops.specs.Prelude.{Identifier, operations, text, Memory};
 ghost use Rattle.rga_store.specs.Limit.{is_limit};
 ghost use Rattle.rga_world.specs.Outcomes.{MayWantMemory, is_count};
 ghost use Rattle.rga_world.specs.Sites.{Site, new_world};
 ghost use Rattle.rga_world.specs.Steps.{stepped, ran};
 ghost use Rattle.rga_world.specs.Together.{IsReached};
-ghost use Rattle.rga_ops.specs.declared.refusal.Refusal.TheVariants.{Memory, Conflict, Range};
+ghost use Rattle.rga_ops.specs.declared.refusal.Refusal.TheVariants.{Conflict, Range};
 ghost use Rattle.rga_world.specs.declared.refusal.WorldRefusal.TheVariants.{NoSite, Store};
 ghost use Rattle.rga_world.specs.declared.event.Event.{Event};
 

@@ -61,7 +61,7 @@ impl<S: TextStore> Simulation<S> {
     fn count(&mut self, stepped: Result<(), WorldRefusal>) -> Result<(), WorldRefusal> {
         match stepped {
             Ok(()) => self.counts.done = self.counts.done.saturating_add(1),
-            Err(WorldRefusal::Store(Refusal::Memory)) => return stepped,
+            Err(WorldRefusal::Store(Refusal::Memory(_))) => return stepped,
             Err(WorldRefusal::Store(Refusal::Conflict(_))) => self.differs(),
             Err(_) => self.counts.refused = self.counts.refused.saturating_add(1),
         }
@@ -73,7 +73,9 @@ impl<S: TextStore> Simulation<S> {
         self.counts.looks = self.counts.looks.saturating_add(1);
         match joined(alloc, &self.world) {
             Ok(store) => self.compare(alloc, &store),
-            Err(WorldRefusal::Store(Refusal::Memory)) => Err(WorldRefusal::Store(Refusal::Memory)),
+            Err(WorldRefusal::Store(Refusal::Memory(memory))) => {
+                Err(WorldRefusal::Store(Refusal::Memory(memory)))
+            }
             Err(_) => {
                 self.differs();
                 Ok(())

@@ -13,7 +13,8 @@ ghost use Rattle.rga_ops.specs.Took.{Took};
 ghost use Rattle.rga_ops.specs.declared.op.Op.{Op as Operation};
 ghost use Rattle.rga_ops.specs.declared.refusal.Taken.TheVariants.{Known, New};
 ghost use Rattle.rga_ops.specs.declared.refusal.Refusal.{Refusal as Refused};
-ghost use Rattle.rga_ops.specs.declared.refusal.Refusal.TheVariants.{BadId, BadOrder, Conflict, Full, Range, Clock, Memory};
+ghost use Rattle.rga_ops.specs.declared.refusal.Refusal.TheVariants.{BadId, BadOrder, Conflict, Full, Range, Clock};
+ghost use Rattle.rga_ops.specs.Memory.{Memory};
 
 /// The answers to an operation, each exactly where it comes. A store that knows as many
 /// identifiers as its limit takes no operation of another one.

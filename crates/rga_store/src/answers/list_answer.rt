@@ -1,11 +1,11 @@
 //! The answer to a list of operations that is taken whole or not at all.
 ghost use Rattle.std.specs.Prelude.{◌≡◌, ◌≢◌, ◌+◌, ℕ, None, Ok, Err, OnErr, IfOk, IfErr};
 ghost use Rattle.std.specs.FinSet as finite_set;
-ghost use Rattle.rga_ops.specs.Prelude.{Content, all_checked, content_of, element_at, join, known_count, known_ids, list_answer};
+ghost use Rattle.rga_ops.specs.Prelude.{Content, all_checked, content_of, element_at, join, known_count, known_ids, list_answer, Memory};
 ghost use Rattle.rga_ops.specs.ListAnswer.{early_conflict, first_conflict};
 
 use crate::answers::early_answer::check_each;
-use rga_ops::{Id, Op, Refusal};
+use rga_ops::{Id, Op, OutOfMemory, Refusal};
 use std::alloc::Global;
 use std::collections::{BTreeMap, BTreeSet};
 
@@ -39,10 +39,10 @@ pub trait Lookup {
 /// place of any answer but that to an ill-formed operation, and to a conflict in front of which
 /// nothing is inserted anew: these are found without memory.
 pub fn answer_to_list<L: Lookup>(alloc: Global, held: &L, ops: &[Op]) -> Result<(), Refusal>
-    ensures exact { result ≢ Err Refusal.Memory →
+    ensures exact { result ≢ Err Memory →
         result ≡ list_answer (L.may_know held.now) (L.holds held.now) ops.now }
-    ensures memory { result ≡ Err Refusal.Memory → all_checked ops.now ≡ Ok tt }
-    ensures early { result ≡ Err Refusal.Memory →
+    ensures memory { result ≡ Err Memory → all_checked ops.now ≡ Ok tt }
+    ensures early { result ≡ Err Memory →
         early_conflict (L.holds held.now) ops.now ≡ None }
 {
     check_each(ops)?;
@@ -57,9 +57,8 @@ pub fn answer_to_list<L: Lookup>(alloc: Global, held: &L, ops: &[Op]) -> Result<
 
 /// The identifier of the first operation that conflicts with what is held or with one before it in
 /// the list. `Memory` alone, and only behind an insertion that is new.
-fn first_conflict<L: Lookup>(alloc: Global, held: &L, ops: &[Op]) -> Result<Option<Id>, Refusal>
+fn first_conflict<L: Lookup>(alloc: Global, held: &L, ops: &[Op]) -> Result<Option<Id>, OutOfMemory>
     ensures ok { IfOk result (λ conflict. conflict ≡ first_conflict (L.holds held.now) ops.now) }
-    ensures memory { IfErr result (λ e. e ≡ Refusal.Memory) }
     ensures early { OnErr result (early_conflict (L.holds held.now) ops.now ≡ None) }
 {
     let mut added = BTreeMap::new(alloc);
@@ -78,10 +77,9 @@ fn first_conflict<L: Lookup>(alloc: Global, held: &L, ops: &[Op]) -> Result<Opti
 }
 
 /// How many identifiers the list makes known that are not. `Memory` alone.
-fn count_new_ids<L: Lookup>(alloc: Global, held: &L, ops: &[Op]) -> Result<usize, Refusal>
+fn count_new_ids<L: Lookup>(alloc: Global, held: &L, ops: &[Op]) -> Result<usize, OutOfMemory>
     ensures ok { IfOk result (λ count. known_count (L.holds held.now) + count
         ≡ known_count (join (L.holds held.now) (content_of ops.now))) }
-    ensures memory { IfErr result (λ e. e ≡ Refusal.Memory) }
 {
     let mut added = BTreeSet::new(alloc);
     for op in ops {

@@ -6,7 +6,7 @@ ghost use Rattle.rga_store.specs.Reached.{Reaches, ReachesElements, ReachesDelet
 
 use crate::text_store::TextStore;
 use indexmap::{IndexMap, IndexSet};
-use rga_ops::{Id, Op, Refusal};
+use rga_ops::{Id, Op, OutOfMemory};
 use std::alloc::Global;
 
 /// The operations of a list that are new where a store takes it one by one, in their order: those
@@ -15,9 +15,8 @@ pub fn new_operations_at<S: TextStore>(
     alloc: Global,
     store: &S,
     ops: &[Op],
-) -> Result<Vec<Op>, Refusal>
+) -> Result<Vec<Op>, OutOfMemory>
     ensures ok { IfOk result (λ new. new.items ≡ new_operations (S.content store.now) ops.now) }
-    ensures memory { IfErr result (λ e. e ≡ Refusal.Memory) }
 {
     let mut inserted = IndexMap::new(alloc);
     let mut deleted = IndexSet::new(alloc);
@@ -33,11 +32,10 @@ fn pick_new<S: TextStore>(
     deleted: &mut IndexSet<Id>,
     ops: &[Op],
     picked: &mut Vec<Op>,
-) -> Result<(), Refusal>
+) -> Result<(), OutOfMemory>
     requires reached { Reaches (S.content store.now) inserted.old deleted.old (S.content store.now) }
     requires none { picked.old.items ≡ [] }
     ensures ok { OnOk result (picked.new.items ≡ new_operations (S.content store.now) ops.now) }
-    ensures memory { IfErr result (λ e. e ≡ Refusal.Memory) }
 {
     for op in ops {
         if !is_new(store, inserted, deleted, op)? {
@@ -55,13 +53,12 @@ fn is_new<S: TextStore>(
     inserted: &mut IndexMap<Id, (Id, char)>,
     deleted: &mut IndexSet<Id>,
     op: &Op,
-) -> Result<bool, Refusal>
+) -> Result<bool, OutOfMemory>
     ensures new { IfOk result (λ new. (d : Content) →
         Reaches (S.content store.now) inserted.old deleted.old d → new ≡ not (holds d op.now)) }
     ensures added { OnOk result ((d : Content) →
         Reaches (S.content store.now) inserted.old deleted.old d →
         Reaches (S.content store.now) inserted.new deleted.new (join d (single op.now))) }
-    ensures memory { IfErr result (λ e. e ≡ Refusal.Memory) }
 {
     match op {
         Op::Insert { id, parent, ch } => insertion_is_new(store, inserted, *id, (*parent, *ch)),
@@ -76,7 +73,7 @@ fn insertion_is_new<S: TextStore>(
     added: &mut IndexMap<Id, (Id, char)>,
     id: Id,
     element: (Id, char),
-) -> Result<bool, Refusal>
+) -> Result<bool, OutOfMemory>
     ensures new { IfOk result (λ new. (d : Content) →
         ReachesElements (S.content store.now) added.old d →
         new ≡ not (holds d (Op.Insert id element.0 element.1))) }
@@ -84,7 +81,6 @@ fn insertion_is_new<S: TextStore>(
         ReachesElements (S.content store.now) added.old d →
         ReachesElements (S.content store.now) added.new
         (join d (single (Op.Insert id element.0 element.1)))) }
-    ensures memory { IfErr result (λ e. e ≡ Refusal.Memory) }
 {
     match store.get(id).or(added.get(&id).copied()) {
         Some(first) => Ok(first != element),
@@ -101,13 +97,12 @@ fn deletion_is_new<S: TextStore>(
     store: &S,
     added: &mut IndexSet<Id>,
     id: Id,
-) -> Result<bool, Refusal>
+) -> Result<bool, OutOfMemory>
     ensures new { IfOk result (λ new. (d : Content) →
         ReachesDeletions (S.content store.now) added.old d → new ≡ not (holds d (Op.Delete id))) }
     ensures added { OnOk result ((d : Content) →
         ReachesDeletions (S.content store.now) added.old d →
         ReachesDeletions (S.content store.now) added.new (join d (single (Op.Delete id)))) }
-    ensures memory { IfErr result (λ e. e ≡ Refusal.Memory) }
 {
     if store.is_deleted(id) {
         return Ok(false);

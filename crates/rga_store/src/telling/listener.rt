@@ -2,7 +2,7 @@
 ghost use Rattle.std.specs.Prelude.{◌≡◌, List, [], ◌∷◌, ◌++◌, OnOk, IfErr};
 ghost use Rattle.rga_ops.specs.declared.op.Op.{Op as Operation};
 
-use rga_ops::{Op, Refusal};
+use rga_ops::{Op, OutOfMemory};
 
 /// Something that is told operations, one by one.
 pub trait Listener {
@@ -17,7 +17,6 @@ pub trait Listener {
         hears s xs t → hears t ys u → hears s (xs ++ ys) u };
 
     /// Is told an operation. `Memory` alone.
-    fn hear(&mut self, op: &Op) -> Result<(), Refusal>
-        ensures ok { OnOk result (hears self.old (op.now ∷ []) self.new) }
-        ensures memory { IfErr result (λ e. e ≡ Refusal.Memory) };
+    fn hear(&mut self, op: &Op) -> Result<(), OutOfMemory>
+        ensures ok { OnOk result (hears self.old (op.now ∷ []) self.new) };
 }

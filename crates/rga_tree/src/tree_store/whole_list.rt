@@ -1,6 +1,7 @@
 //! Lists of operations, taken whole or not at all. What was taken of a list is removed again where
 //! one of it is refused, and that takes no memory.
 ghost use Rattle.std.specs.Prelude.{◌≡◌, ◌≢◌, Ok, Err, OnOk, OnErr, IfErr};
+ghost use Rattle.rga_ops.specs.Prelude.{Memory};
 ghost use Rattle.rga_ops.specs.Content.{join, single};
 ghost use Rattle.rga_ops.specs.Answer.{answer, taken, taken_one_by_one};
 ghost use Rattle.rga_store.specs.Back.{without_noted, CanTakeBack};
@@ -15,7 +16,7 @@ impl TreeStore {
     pub(super) fn take_whole(&mut self, ops: &[Op]) -> Result<(), Refusal>
         ensures ok { OnOk result
             (taken_one_by_one self.old.limit self.old.content ops.now ≡ Ok self.new.content) }
-        ensures refused { IfErr result (λ e. e ≢ Refusal.Memory →
+        ensures refused { IfErr result (λ e. e ≢ Memory →
             taken_one_by_one self.old.limit self.old.content ops.now ≡ Err e) }
         ensures same { OnErr result (self.new.content ≡ self.old.content) }
         ensures limit { self.new.limit ≡ self.old.limit }
@@ -35,7 +36,7 @@ impl TreeStore {
         requires { CanTakeBack steps.old.items self.old.content }
         ensures ok { OnOk result
             (taken self.old.limit self.old.content op.now ≡ Ok self.new.content) }
-        ensures refused { IfErr result (λ e. e ≢ Refusal.Memory →
+        ensures refused { IfErr result (λ e. e ≢ Memory →
             taken self.old.limit self.old.content op.now ≡ Err e) }
         ensures steps { CanTakeBack steps.new.items self.new.content }
         ensures start { without_noted steps.new.items self.new.content
@@ -56,7 +57,7 @@ impl TreeStore {
     /// Takes an operation as `apply` does, an insertion by one search less. For an insertion
     /// `Memory` may come in the place of any answer.
     fn take(&mut self, op: &Op) -> Result<Taken, Refusal>
-        ensures exact { result ≢ Err Refusal.Memory →
+        ensures exact { result ≢ Err Memory →
             result ≡ answer self.old.limit self.old.content op.now }
         ensures new { result ≡ Ok Taken.New →
             self.new.content ≡ join self.old.content (single op.now) }

@@ -1,5 +1,5 @@
 use Rattle.mg_buffer.proofs.Prelude.{◌∙◌}
-use Rattle.rga_ops.specs.declared.refusal.Refusal.TheVariants.{Memory}
+use Rattle.rga_ops.specs.Prelude.{Memory}
 use Rattle.rga_ops.proofs.ListAnswerLaws.{no_other_list_refusal}
 use Rattle.mg_buffer.proofs.taking.take_all.Goals as goal
 

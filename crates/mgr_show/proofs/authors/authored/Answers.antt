@@ -4,9 +4,11 @@ use Rattle.rga_ops.specs.Identifier.{Identifier}
 use Rattle.mgr_show.proofs.AuthorLaws.{authored_is}
 use Rattle.mgr_show.proofs.authors.authored.Goals as goal
 
-pub returns-clause-ok : goal.returns-clause-ok
-returns-clause-ok c =
-    c.in_ok-written.ensures
-    ∙ (λ k. zip (map (λ (id : Identifier). id.replica) (c.deref.ensures.value k)) (c.deref-2.ensures.value k))
-    ∙ (λ k. zip (map (λ (id : Identifier). id.replica) (c.in_ok-ids.ensures.elements k)) (c.in_ok-ids.ensures.characters k))
-    ∙ authored_is c.args.store.now.content
+pub returns : goal.returns
+returns c = record {
+  ok =
+      c.in_ok-written.ensures
+      ∙ (λ k. zip (map (λ (id : Identifier). id.replica) (c.deref.ensures.value k)) (c.deref-2.ensures.value k))
+      ∙ (λ k. zip (map (λ (id : Identifier). id.replica) (c.in_ok-ids.ensures.elements k)) (c.in_ok-ids.ensures.characters k))
+      ∙ authored_is c.args.store.now.content;
+}

@@ -1,7 +1,7 @@
 use Rattle.std.proofs.Common.{◌≡◌, ◌∙◌, subst, inr}
 use Rattle.std.proofs.lemmas.Result.{on_ok_weaker}
 use Rattle.rga_exchange.specs.Counting.{Writes, WritesFront}
-use Rattle.mgr_show.proofs.CompactedLaws.{on_err}
+use Rattle.rga_ops.proofs.CaseSteps.{on_err_always}
 use Rattle.mgr_show.specs.Told.{numbers_bytes}
 use Rattle.mgr_show.proofs.BesideLaws.{write_failed}
 use Rattle.mgr_show.proofs.log.write_numbers.Goals as goal
@@ -18,7 +18,7 @@ returns-clause-written g c =
 pub returns-clause-begun : goal.returns-clause-begun
 returns-clause-begun g c =
     let text : c.deref.result.now ≡ numbers_bytes c.args.json c.args.name.now c.in_ok-numbers.numbers = c.deref.ensures ∙ c.in-Ok.ensures in
-    on_err c.write_text.result (inr (record {
+    on_err_always c.write_text.result (inr (record {
       numbers = c.in_ok-numbers.numbers;
       are = record { numbers = c.in_ok-numbers.ensures.numbers; text = c.in_ok-numbers.ensures.text };
       begun = subst (λ l. WritesFront g.W.Write.contents c.args.writer.now c.write_text.new.writer l) text c.write_text.ensures.begun;

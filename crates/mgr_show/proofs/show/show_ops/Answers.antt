@@ -1,7 +1,7 @@
 use Rattle.std.proofs.Common.{◌∙◌, refl}
 use Rattle.std.proofs.lemmas.Result.{on_ok_weaker, err_from_is_err_and}
+use Rattle.rga_ops.proofs.CaseSteps.{on_err_always}
 use Rattle.mgr_show.proofs.ShownLaws.{content_of_input, made_of_nothing, shows, begins_to_show, read_failed, whole_from}
-use Rattle.mgr_show.proofs.CompactedLaws.{on_err}
 use Rattle.mgr_show.proofs.show.show_ops.Goals as goal
 
 pub returns-clause-shown : goal.returns-clause-shown
@@ -14,7 +14,7 @@ pub returns-clause-begun : goal.returns-clause-begun
 returns-clause-begun g c =
     let made = made_of_nothing c.in-Ok.records (c.in-Ok.ensures.made refl) in
     let content = content_of_input _ _ _ _ made.1 made.0 c.in_ok-take_whole_log.ensures.ok in
-    on_err c.write_text.result (begins_to_show _ _ _ _ _ _ content (c.as_str.ensures.value ∙ c.in-Ok-text_string.ensures.ok) c.write_text.ensures.begun)
+    on_err_always c.write_text.result (begins_to_show _ _ _ _ _ _ content (c.as_str.ensures.value ∙ c.in-Ok-text_string.ensures.ok) c.write_text.ensures.begun)
 
 pub returns-in_err-take_whole_log-clause-whole_lines : goal.returns-in_err-take_whole_log-clause-whole_lines
 returns-in_err-take_whole_log-clause-whole_lines g c =

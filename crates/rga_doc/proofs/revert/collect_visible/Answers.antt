@@ -63,9 +63,11 @@ loop-id-preserved g c =
     ∙ kept_new (is_visible content) seen x rest now (λ k. complete k && not (stays k)) new c.in_ok-put_in.ensures.members))
     ∙ c.loop-id.invariant
 
-pub returns-clause-ok : goal.returns-clause-ok
-returns-clause-ok g c =
-    let content : Content = g.S.Taker.content c.args.store.now in
-    sym (append-nil c.loop-id.kept.items)
-    ∙ ap (λ xs. c.loop-id.kept.items ++ new_only (contains is_id c.loop-id.seen) (distinct_elements (filter (is_visible content) xs))) (sym (drop_all c.loop-id.id-index c.args.ids.now c.loop-id-test.false))
-    ∙ c.loop-id.invariant
+pub returns : goal.returns
+returns g c = record {
+  ok =
+      let content : Content = g.S.Taker.content c.args.store.now in
+      sym (append-nil c.loop-id.kept.items)
+      ∙ ap (λ xs. c.loop-id.kept.items ++ new_only (contains is_id c.loop-id.seen) (distinct_elements (filter (is_visible content) xs))) (sym (drop_all c.loop-id.id-index c.args.ids.now c.loop-id-test.false))
+      ∙ c.loop-id.invariant;
+}

@@ -59,13 +59,24 @@ put_behind-requires-clause-parent c = place_parent _ _ _ _ _ [] _ refl (starts _
 pub put_behind-requires-clause-absent : goal.put_behind-requires-clause-absent
 put_behind-requires-clause-absent c = place_absent _ _ _ _ _ [] _ refl (starts _ c.known-known.ensures.sound _ _ _ c.requires.element _ _ _ c.requires.flat (sym c.requires.above ∙ c.if-not-above.false))
 
-pub returns-clause-ok : goal.returns-clause-ok
-returns-clause-ok c =
+pub returns-then-not-is_next-clause-ok : goal.returns-then-not-is_next-clause-ok
+returns-then-not-is_next-clause-ok c =
     placed_flat _ _ _ _
     (place_step _ _ _ _ _ _ [] _ refl (starts _ c.known-known.ensures.sound _ _ _ c.requires.element _ _ _ c.requires.flat (sym c.requires.above ∙ c.if-not-above.false))
     (ap (λ b. b && not (contains id_cmp c.args.done.now c.args.entry.now.id)) (sym c.has_list.ensures ∙ c.if-has_list.false)) (λ k f. refl)
     _ [] _ c.requires.element (sym (under_none c.args.waiting.now _ (sym c.has_list.ensures ∙ c.if-has_list.false)))
     (c.in_ok-own.ensures.put ∙ (λ i. put_entry c.args.parent (record { id = c.args.entry.now.id; ch = c.args.entry.now.ch; deleted = c.requires.deleted i }) c.args.sequence.now)))
 
-pub returns-clause-based : goal.returns-clause-based
-returns-clause-based c = λ base b. based_then _ _ _ _ c.requires.element _ _ (under c.args.waiting.now) _ (has_list c.args.waiting.now) b
+pub returns-else-not-is_next-clause-ok : goal.returns-else-not-is_next-clause-ok
+returns-else-not-is_next-clause-ok c =
+    placed_flat _ _ _ _
+    (place_step _ _ _ _ _ _ [] _ refl (starts _ c.known-known.ensures.sound _ _ _ c.requires.element _ _ _ c.requires.flat (sym c.requires.above ∙ c.if-not-above.false))
+    (ap (λ b. b && not (contains id_cmp c.args.done.now c.args.entry.now.id)) (sym c.has_list.ensures ∙ c.if-has_list.false)) (λ k f. refl)
+    _ [] _ c.requires.element (sym (under_none c.args.waiting.now _ (sym c.has_list.ensures ∙ c.if-has_list.false)))
+    (c.in_ok-own.ensures.put ∙ (λ i. put_entry c.args.parent (record { id = c.args.entry.now.id; ch = c.args.entry.now.ch; deleted = c.requires.deleted i }) c.args.sequence.now)))
+
+pub returns-then-not-is_next-clause-based : goal.returns-then-not-is_next-clause-based
+returns-then-not-is_next-clause-based c = λ base b. based_then _ _ _ _ c.requires.element _ _ (under c.args.waiting.now) _ (has_list c.args.waiting.now) b
+
+pub returns-else-not-is_next-clause-based : goal.returns-else-not-is_next-clause-based
+returns-else-not-is_next-clause-based c = λ base b. based_then _ _ _ _ c.requires.element _ _ (under c.args.waiting.now) _ (has_list c.args.waiting.now) b

@@ -2,7 +2,7 @@ use Rattle.std.proofs.Common.{◌≡◌, ◌≢◌, sym, ◌∙◌, subst}
 use Rattle.std.proofs.lemmas.Result.{err_from_is_err_and}
 use Rattle.std.specs.Prelude.{Ok, Err}
 use Rattle.rga_ops.specs.Answer.{taken, taken_one_by_one}
-use Rattle.rga_ops.specs.declared.refusal.Refusal.TheVariants.{Memory}
+use Rattle.rga_ops.specs.Prelude.{Memory}
 use Rattle.rga_flat.proofs.FlatLaws.{based_more}
 use Rattle.rga_store.proofs.BackLaws.{next_taken}
 use Rattle.rga_flat.proofs.ChainLaws.{gathered_start, next_refused, at_err}

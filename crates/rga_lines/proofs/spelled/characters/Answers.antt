@@ -10,5 +10,5 @@ chars-preserved c =
 pub chars-smaller : goal.chars-smaller
 chars-smaller c = shorter c.chars.rest.now c.in-Some.behind.now c.in-Some.ch c.in-Some.ensures.0
 
-pub returns-clause-read : goal.returns-clause-read
-returns-clause-read c = λ e. let last = rw e at c.is_literal.ensures in read_to_end c.args.id c.args.parent c.args.bytes.now c.chars.ops.items c.chars.counter c.chars.above c.chars.rest.now c.chars.invariant last
+pub returns : goal.returns
+returns c = record { read = λ e. let last = rw e at c.is_literal.ensures in read_to_end c.args.id c.args.parent c.args.bytes.now c.chars.ops.items c.chars.counter c.chars.above c.chars.rest.now c.chars.invariant last }

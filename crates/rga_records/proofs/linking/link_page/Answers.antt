@@ -34,12 +34,14 @@ loop-index-preserved c =
     subst (λ es. AreLinks es c.link_entry.new.links.shown.items c.link_entry.new.links.next.items) more
     (c.in_ok-link_entry.ensures.ok (entries_before ps p i) (subst AreSoundRecords (sym more) sound) c.loop-index.invariant node)
 
-pub returns-clause-ok : goal.returns-clause-ok
-returns-clause-ok c =
-    let ps : List Entries = c.args.pages.now.items in
-    let p : ℕ = c.args.page in
-    let i : ℕ = c.loop-index.index in
-    let w : p < length ps = subst (λ n. p < n) c.args.pages.now.ok.0 c.requires.within in
-    let page : c.entries-entries.result.now ≡ slice_index_or ps p c.index.result.now = c.entries-entries.ensures ∙ c.index.ensures in
-    let past : length (slice_index_or ps p c.index.result.now) ≤ i = subst (λ y. length y ≤ i) page (omega (arith, c.loop-index-test.false)) in
-    subst (λ es. AreLinks es c.loop-index.links.shown.items c.loop-index.links.next.items) (page_before ps p i c.index.result.now w past) c.loop-index.invariant
+pub returns : goal.returns
+returns c = record {
+  ok =
+      let ps : List Entries = c.args.pages.now.items in
+      let p : ℕ = c.args.page in
+      let i : ℕ = c.loop-index.index in
+      let w : p < length ps = subst (λ n. p < n) c.args.pages.now.ok.0 c.requires.within in
+      let page : c.entries-entries.result.now ≡ slice_index_or ps p c.index.result.now = c.entries-entries.ensures ∙ c.index.ensures in
+      let past : length (slice_index_or ps p c.index.result.now) ≤ i = subst (λ y. length y ≤ i) page (omega (arith, c.loop-index-test.false)) in
+      subst (λ es. AreLinks es c.loop-index.links.shown.items c.loop-index.links.next.items) (page_before ps p i c.index.result.now w past) c.loop-index.invariant;
+}

@@ -7,11 +7,13 @@ use Rattle.rga_sequence.specs.Blocks.{Blocks, flat}
 use Rattle.rga_sequence.proofs.CountLaws.{range_both, none_left, rest_of, ids_both, count_ids}
 use Rattle.rga_sequence.proofs.listing.push_elements.Goals as goal
 
-pub returns-then-end-skip-clause-ok : goal.returns-then-end-skip-clause-ok
-returns-then-end-skip-clause-ok c =
-    sym (append-nil c.loop-block.list.items)
-    ∙ ap (λ xs. c.loop-block.list.items ++ xs) (sym (none_left c.loop-block.skip c.loop-block.end (visible_ids (flat (drop c.loop-block.block-index c.args.blocks.now))) c.if-end-skip.true))
-    ∙ c.loop-block.invariant
+pub returns-then-end-skip : goal.returns-then-end-skip
+returns-then-end-skip c = record {
+  ok =
+      sym (append-nil c.loop-block.list.items)
+      ∙ ap (λ xs. c.loop-block.list.items ++ xs) (sym (none_left c.loop-block.skip c.loop-block.end (visible_ids (flat (drop c.loop-block.block-index c.args.blocks.now))) c.if-end-skip.true))
+      ∙ c.loop-block.invariant;
+}
 
 pub loop-block-preserved : goal.loop-block-preserved
 loop-block-preserved c =

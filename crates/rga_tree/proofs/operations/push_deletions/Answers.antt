@@ -15,5 +15,5 @@ loop-id-preserved c =
     ∙ append_assoc c.args.ops.now.items (map Delete (take i ids)) (Delete id ∷ [])
     ∙ ap (λ ops. c.args.ops.now.items ++ ops) (sym (map-append Delete (take i ids) (id ∷ [])) ∙ ap (map Delete) (sym more))
 
-pub returns-clause-ok : goal.returns-clause-ok
-returns-clause-ok c = c.loop-id.invariant ∙ ap (λ ids. c.args.ops.now.items ++ map Delete ids) (take_all c.loop-id.id-index c.args.ids.now c.loop-id-test.false)
+pub returns : goal.returns
+returns c = record { ok = c.loop-id.invariant ∙ ap (λ ids. c.args.ops.now.items ++ map Delete ids) (take_all c.loop-id.id-index c.args.ids.now c.loop-id-test.false) }

@@ -27,8 +27,10 @@ loop-step-preserved c =
           ∙ c.loop-step.invariant.listed;
     }
 
-pub returns-clause-ok : goal.returns-clause-ok
-returns-clause-ok c =
-    c.reverse.ensures.items
-    ∙ ap (λ xs. xs ++ reverse c.loop-step.order.items) (sym (none_up_to (content_of_nodes c.args.nodes.now.entries) c.loop-step.at (c.in_default.ensures.root refl)))
-    ∙ c.loop-step.invariant.listed
+pub returns : goal.returns
+returns c = record {
+  ok =
+      c.reverse.ensures.items
+      ∙ ap (λ xs. xs ++ reverse c.loop-step.order.items) (sym (none_up_to (content_of_nodes c.args.nodes.now.entries) c.loop-step.at (c.in_default.ensures.root refl)))
+      ∙ c.loop-step.invariant.listed;
+}

@@ -49,16 +49,18 @@ loop-left-preserved c =
     }
 
 -- all are done, and what is behind them is kept
-pub returns-clause-ok : goal.returns-clause-ok
-returns-clause-ok c =
-    let splices : List Splice = c.args.splices.now in
-    let characters : List ℕ = c.args.self.now.items in
-    let none : c.loop-left.left ≡ 0 = omega (arith, c.loop-left-test.false) in
-    let all : drop c.loop-left.left splices ≡ splices = ap (λ n. drop n splices) none in
-    let within : c.loop-left.end ≤ length characters =
-    omega (arith, c.loop-left.invariant.end, ap end_of all, falling_end splices (length characters) c.requires) in
-    c.in_ok-extend_part-2.ensures.items
-    ∙ ap (λ xs. c.loop-left.next.items ++ drop c.loop-left.end xs) (take_all (length c.as_slice-old.result.now) c.as_slice-old.result.now (omega arith) ∙ c.as_slice-old.ensures)
-    ∙ text_whole characters c.loop-left.next.items splices c.loop-left.end
-    (c.loop-left.invariant.characters ∙ ap (text_after (take c.loop-left.end characters)) all)
-    (ap (are_falling c.loop-left.end) (sym all) ∙ c.loop-left.invariant.falling) within
+pub returns : goal.returns
+returns c = record {
+  ok =
+      let splices : List Splice = c.args.splices.now in
+      let characters : List ℕ = c.args.self.now.items in
+      let none : c.loop-left.left ≡ 0 = omega (arith, c.loop-left-test.false) in
+      let all : drop c.loop-left.left splices ≡ splices = ap (λ n. drop n splices) none in
+      let within : c.loop-left.end ≤ length characters =
+      omega (arith, c.loop-left.invariant.end, ap end_of all, falling_end splices (length characters) c.requires) in
+      c.in_ok-extend_part-2.ensures.items
+      ∙ ap (λ xs. c.loop-left.next.items ++ drop c.loop-left.end xs) (take_all (length c.as_slice-old.result.now) c.as_slice-old.result.now (omega arith) ∙ c.as_slice-old.ensures)
+      ∙ text_whole characters c.loop-left.next.items splices c.loop-left.end
+      (c.loop-left.invariant.characters ∙ ap (text_after (take c.loop-left.end characters)) all)
+      (ap (are_falling c.loop-left.end) (sym all) ∙ c.loop-left.invariant.falling) within;
+}

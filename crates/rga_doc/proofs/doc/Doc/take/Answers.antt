@@ -19,13 +19,13 @@ pub returns-then-splices-gt-MOST_IN_PLACE-clause-text : goal.returns-then-splice
 returns-then-splices-gt-MOST_IN_PLACE-clause-text g c =
     let old : Document = c.args.self.now in
     splices_taken_text old.limit old.replica old.content (g.S.Taker.content c.take_all.new.store) c.args.splices.now c.args.ops.now c.requires.allowed c.requires.operations
-    (c.take_all.ensures.content c.if-not-take_all.false ∙ ap (λ (d : Document). join d.content (content_of c.args.ops.now)) c.self.view_is)
+    (c.in_ok-take_all.ensures.content ∙ ap (λ (d : Document). join d.content (content_of c.args.ops.now)) c.self.view_is)
 
 pub returns-clause-text : goal.returns-clause-text
 returns-clause-text g c =
     let old : Document = c.args.self.now in
     splices_taken_text old.limit old.replica old.content (g.S.Taker.content c.take_all-2.new.store) c.args.splices.now c.args.ops.now c.requires.allowed c.requires.operations
-    (c.take_all-2.ensures.content c.if-not-take_all-2.false ∙ ap (λ (d : Document). join d.content (content_of c.args.ops.now)) c.self.view_is)
+    (c.in_ok-take_all-2.ensures.content ∙ ap (λ (d : Document). join d.content (content_of c.args.ops.now)) c.self.view_is)
 
 -- the characters are spliced with the text
 pub invariant_of-self-then-splices-gt-MOST_IN_PLACE : goal.invariant_of-self-then-splices-gt-MOST_IN_PLACE

@@ -28,7 +28,7 @@ follow-front-requires g c =
     let allowed : revert_answer limit content back ≡ Ok tt = ap (λ (d : Document). revert_answer d.limit d.content back) c.self.view_is ∙ c.requires.allowed in
     let ops : c.args.ops.now ≡ revert_operations replica content gone back = c.requires.operations ∙ sym (ap (λ (d : Document). revert_operations d.replica d.content gone back) c.self.view_is) in
     let joined : g.S.Taker.content c.take_all.new.store ≡ join content (content_of (revert_operations replica content gone back)) =
-    c.take_all.ensures.content c.if-not-take_all.false ∙ ap (λ xs. join content (content_of xs)) ops in
+    c.in_ok-take_all.ensures.content ∙ ap (λ xs. join content (content_of xs)) ops in
     let deletions = c.split_at.ensures.front ∙ ap (λ (xs : List Op). take (length xs - length back) xs) ops ∙ revert_deletions limit replica content gone back allowed in
     let insertions = c.split_at.ensures.back ∙ ap (λ (xs : List Op). drop (length xs - length back) xs) ops ∙ revert_insertions limit replica content gone back allowed in
     both_say c.margins-margins.result _ _ _ c.margins-margins.ensures.listed c.margins-margins.ensures.between

@@ -31,19 +31,19 @@ invariant_of-self-2 g c =
       λ listed. c.splice.ensures.characters listed
           ∙ ap (λ xs. spliced xs c.args.lo c.args.hi c.args.put.now) (c.make_room.ensures.characters (sym c.splice.ensures.listed ∙ listed) ∙ all)
           ∙ sym (splice_text (g.S.Taker.limit c.self.inside.store) c.self.inside.replica c.args.lo c.args.hi content c.args.put.now allowed)
-          ∙ ap (λ done. text (join content (content_of done))) (sym ops) ∙ ap text (sym (c.take_all.ensures.content c.if-not-take_all.false)),
+          ∙ ap (λ done. text (join content (content_of done))) (sym ops) ∙ ap text (sym c.in_ok-take_all.ensures.content),
     )
 
 pub returns-clause-text : goal.returns-clause-text
 returns-clause-text g c =
     let now : Content = c.args.self.now.content in
-    ap text (c.take_all.ensures.content c.if-not-take_all.false ∙ ap (λ (d : Document). join d.content (content_of c.deref.result.now)) c.self.view_is)
+    ap text (c.in_ok-take_all.ensures.content ∙ ap (λ (d : Document). join d.content (content_of c.deref.result.now)) c.self.view_is)
     ∙ ap (λ done. text (join now (content_of done))) (c.deref.ensures.value ∙ c.requires.operations)
     ∙ splice_text c.args.self.now.limit c.args.self.now.replica c.args.lo c.args.hi now c.args.put.now c.requires.allowed
 
 pub returns-clause-place : goal.returns-clause-place
 returns-clause-place g c =
     let now : Content = c.args.self.now.content in
-    ap order (c.take_all.ensures.content c.if-not-take_all.false ∙ ap (λ (d : Document). join d.content (content_of c.deref.result.now)) c.self.view_is)
+    ap order (c.in_ok-take_all.ensures.content ∙ ap (λ (d : Document). join d.content (content_of c.deref.result.now)) c.self.view_is)
     ∙ ap (λ done. order (join now (content_of done))) (c.deref.ensures.value ∙ c.requires.operations)
     ∙ splice_order c.args.self.now.limit c.args.self.now.replica c.args.lo c.args.hi now c.args.put.now c.requires.allowed

@@ -22,12 +22,14 @@ splice-requires-clause-in_text g c =
     omega (arith, ap (λ (e : Excerpted). length e.items) c.in_ok-elements.ensures.ok, excerpt_long (visible content) c.args.lo c.args.hi places.0 within)
 
 -- what is drafted is the splice's operations
-pub returns-clause-operations : goal.returns-clause-operations
-returns-clause-operations g c =
-    let content : Content = g.S.Taker.content c.self.inside.store in
-    let places = splice_places c.args.self.now.limit c.args.lo c.args.hi c.args.self.now.content c.args.put.now c.requires.allowed in
-    let within : c.args.hi ≤ length (visible content) = omega (arith, places.1, ap (λ (d : Document). length (text d.content)) c.self.view_is, text_long content) in
-    let made : c.splice.new.self.ops.items ≡ c.new-draft.result.ops.items ++ splice_operations_at c.in_ok-elements.elements.items c.new-draft.result.replica c.new-draft.result.last c.args.lo c.args.hi c.args.put.now = search rules in
-    splice_by_excerpt c.self.inside.replica c.args.lo c.args.hi content c.args.put.now c.splice.new.self.ops.items c.new-draft.result.ops.items c.in_ok-elements.elements c.new-draft.result.replica c.new-draft.result.last
-    places.0 within c.new-draft.ensures.ops c.new-draft.ensures.replica (c.new-draft.ensures.last ∙ c.clock.ensures) c.in_ok-elements.ensures.ok made
-    ∙ ap (λ (d : Document). splice_operations d.replica d.content c.args.lo c.args.hi c.args.put.now) c.self.view_is
+pub returns : goal.returns
+returns g c = record {
+  operations =
+      let content : Content = g.S.Taker.content c.self.inside.store in
+      let places = splice_places c.args.self.now.limit c.args.lo c.args.hi c.args.self.now.content c.args.put.now c.requires.allowed in
+      let within : c.args.hi ≤ length (visible content) = omega (arith, places.1, ap (λ (d : Document). length (text d.content)) c.self.view_is, text_long content) in
+      let made : c.splice.new.self.ops.items ≡ c.new-draft.result.ops.items ++ splice_operations_at c.in_ok-elements.elements.items c.new-draft.result.replica c.new-draft.result.last c.args.lo c.args.hi c.args.put.now = search rules in
+      splice_by_excerpt c.self.inside.replica c.args.lo c.args.hi content c.args.put.now c.splice.new.self.ops.items c.new-draft.result.ops.items c.in_ok-elements.elements c.new-draft.result.replica c.new-draft.result.last
+      places.0 within c.new-draft.ensures.ops c.new-draft.ensures.replica (c.new-draft.ensures.last ∙ c.clock.ensures) c.in_ok-elements.ensures.ok made
+      ∙ ap (λ (d : Document). splice_operations d.replica d.content c.args.lo c.args.hi c.args.put.now) c.self.view_is;
+}

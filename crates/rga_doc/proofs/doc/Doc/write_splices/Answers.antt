@@ -26,14 +26,16 @@ splices-requires-clause-counters g c = λ some.
     counters_suffice content (new_characters splices) (allowed_counters limit content (are_falling (length (text content)) splices) (new_characters splices) allowed_here) some in
     omega (arith, most, c.new-draft.ensures.last, c.clock.ensures)
 
-pub returns-clause-operations : goal.returns-clause-operations
-returns-clause-operations g c =
-    let content : Content = g.S.Taker.content c.self.inside.store in
-    let limit : ℕ = g.S.Taker.limit c.self.inside.store in
-    let splices : List Splice = c.args.splices.now in
-    let allowed_here : splices_answer limit content splices ≡ Ok tt = ap (λ (d : Document). splices_answer d.limit d.content splices) c.self.view_is ∙ c.requires.allowed in
-    IfOk-weaker c.splices.result _ _ (λ ops drafted.
-    splices_by_excerpt limit c.self.inside.replica content splices ops.items c.new-draft.result.ops.items c.in_ok-elements.elements c.new-draft.result.replica c.new-draft.result.last
-    allowed_here c.new-draft.ensures.ops c.new-draft.ensures.replica (c.new-draft.ensures.last ∙ c.clock.ensures)
-    (c.in_ok-elements.ensures.ok ∙ (λ k. excerpt (visible content) (c.begin_of-lo.ensures k) (c.end_of-hi.ensures k))) drafted
-    ∙ ap (λ (d : Document). splices_operations d.replica d.content splices) c.self.view_is) c.splices.ensures.ops
+pub returns : goal.returns
+returns g c = record {
+  operations =
+      let content : Content = g.S.Taker.content c.self.inside.store in
+      let limit : ℕ = g.S.Taker.limit c.self.inside.store in
+      let splices : List Splice = c.args.splices.now in
+      let allowed_here : splices_answer limit content splices ≡ Ok tt = ap (λ (d : Document). splices_answer d.limit d.content splices) c.self.view_is ∙ c.requires.allowed in
+      IfOk-weaker c.splices.result _ _ (λ ops drafted.
+      splices_by_excerpt limit c.self.inside.replica content splices ops.items c.new-draft.result.ops.items c.in_ok-elements.elements c.new-draft.result.replica c.new-draft.result.last
+      allowed_here c.new-draft.ensures.ops c.new-draft.ensures.replica (c.new-draft.ensures.last ∙ c.clock.ensures)
+      (c.in_ok-elements.ensures.ok ∙ (λ k. excerpt (visible content) (c.begin_of-lo.ensures k) (c.end_of-hi.ensures k))) drafted
+      ∙ ap (λ (d : Document). splices_operations d.replica d.content splices) c.self.view_is) c.splices.ensures.ops;
+}

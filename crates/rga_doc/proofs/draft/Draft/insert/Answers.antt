@@ -10,11 +10,11 @@ loop-ch-preserved c =
     let parent : Identifier = c.loop-ch.parent in
     let ch : ℕ = c.ch-item.result in
     let rest : List ℕ = drop (c.loop-ch.ch-index + 1) c.args.put.now in
-    let id : c.in_ok-id.id ≡ identifier (last + 1) replica = made_as_asked (is_in_range (last + 1) replica) c.in_ok-id.was c.new.ensures in
+    let id : c.in-Ok.id ≡ identifier (last + 1) replica = made_as_asked (is_in_range (last + 1) replica) c.in-Ok.is c.new.ensures in
     record {
       ops =
-          ap (λ ops. ops ++ chain replica (last + 1) c.in_ok-id.id rest) c.push_reserved.ensures.items
-          ∙ append_assoc old (Insert c.in_ok-id.id parent ch ∷ []) (chain replica (last + 1) c.in_ok-id.id rest)
+          ap (λ ops. ops ++ chain replica (last + 1) c.in-Ok.id rest) c.push_reserved.ensures.items
+          ∙ append_assoc old (Insert c.in-Ok.id parent ch ∷ []) (chain replica (last + 1) c.in-Ok.id rest)
           ∙ ap (λ k. old ++ Insert k parent ch ∷ chain replica (last + 1) k rest) id
           ∙ ap (λ xs. old ++ chain replica last parent xs) (sym (from c.args.put.now c.loop-ch.ch-index ch c.loop-ch-test.true c.ch-item.is))
           ∙ c.loop-ch.invariant.ops;

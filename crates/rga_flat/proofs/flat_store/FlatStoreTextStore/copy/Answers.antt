@@ -1,12 +1,11 @@
 use Rattle.std.proofs.Common.{◌≡◌, ◌≢◌, ◌≤◌, List, Result, refl, sym, ap, ◌∙◌, subst, arith}
-use Rattle.std.proofs.lemmas.Result.{err_from_is_err_and}
 use Rattle.std.specs.FinSet as finite_set
 use Rattle.rga_ops.specs.Content.{Content, known_ids, nothing}
-use Rattle.rga_ops.specs.Prelude.{operations, IsSound}
+use Rattle.rga_ops.specs.Prelude.{operations, IsSound, Memory}
 use Rattle.rga_ops.specs.declared.op.Op.{Op}
 use Rattle.rga_ops.specs.Answer.{taken_one_by_one}
 use Rattle.rga_ops.specs.declared.refusal.Refusal.{Refusal}
-use Rattle.rga_ops.specs.declared.refusal.Refusal.TheVariants.{Memory}
+use Rattle.rga_ops.specs.declared.refusal.Refusal.TheVariants.{Memory as OfMemory}
 use Rattle.rga_ops.proofs.OperationsLaws.{operations_taken}
 use Rattle.rga_ops.proofs.TakenLaws.{took, refused}
 use Rattle.rga_store.specs.Kept.{Kept}
@@ -23,24 +22,25 @@ module _ (t : Result Content Refusal) (d : Content) (all : t ≡ took d) where
   never e fails = let clash : refused e ≡ took d = sym fails ∙ all in cc
 
   memory_alone : (e : Refusal) → (e ≢ Memory → t ≡ refused e) → e ≡ Memory
-  memory_alone Memory h = refl
+  memory_alone (OfMemory m) h = refl
   memory_alone e h = grind (arith, never e)
 
-pub returns-in_err-take_whole-clause-memory : goal.returns-in_err-take_whole-clause-memory
-returns-in_err-take_whole-clause-memory c =
-    let empty = c.in_ok-copy.ensures.made c.limit.ensures.range in
+pub memory-requires-in-Err-taken : goal.memory-requires-in-Err-taken
+memory-requires-in-Err-taken c =
+    let empty = c.in-Ok.ensures.made c.limit.ensures.range in
     let fits : finite_set.len (known_ids c.self.inside.records.content) ≤ c.self.inside.records.limit = subst (λ n. n ≤ c.self.inside.records.limit) c.known-known.ensures.known c.known-known.ensures.within in
     let all : taken_one_by_one c.copy.inside.records.limit c.copy.inside.records.content c.deref.result.now ≡ took c.self.inside.records.content =
     taken c.self.inside.records c.copy.inside.records _ c.deref.result.now c.copy.view_is (empty.0, empty.1 ∙ c.limit.ensures.limit) (c.deref.ensures.value ∙ c.in_ok-ops.ensures.ok) c.known-known.ensures.sound fits in
-    let p = err_from_is_err_and c.from_residual-in_err-take_whole.result c.from_residual-in_err-take_whole.ensures.1 in
-    rw (p.1, p.2) (memory_alone _ _ all _ c.in_err-take_whole.ensures.refused)
+    memory_alone _ _ all c.in-Err-taken.refused c.in-Err-taken.ensures.refused
 
-pub returns-clause-ok : goal.returns-clause-ok
-returns-clause-ok c =
-    let empty = c.in_ok-copy.ensures.made c.limit.ensures.range in
-    let fits : finite_set.len (known_ids c.self.inside.records.content) ≤ c.self.inside.records.limit = subst (λ n. n ≤ c.self.inside.records.limit) c.known-known.ensures.known c.known-known.ensures.within in
-    let all : taken_one_by_one c.copy.inside.records.limit c.copy.inside.records.content c.deref.result.now ≡ took c.self.inside.records.content =
-    taken c.self.inside.records c.copy.inside.records _ c.deref.result.now c.copy.view_is (empty.0, empty.1 ∙ c.limit.ensures.limit) (c.deref.ensures.value ∙ c.in_ok-ops.ensures.ok) c.known-known.ensures.sound fits in
-    let same : took c.take_whole.new.records.content ≡ took c.self.inside.records.content = sym c.in_ok-take_whole.ensures.ok ∙ all in
-    let there : c.take_whole.new.records.content ≡ c.self.inside.records.content = cc in
-    (there ∙ ap (λ (v : Kept). v.content) c.self.view_is, c.take_whole.ensures.limit ∙ ap (λ (v : Kept). v.limit) c.copy.view_is ∙ empty.1 ∙ c.limit.ensures.limit ∙ ap (λ (v : Kept). v.limit) c.self.view_is)
+pub returns-in-Ok-taken : goal.returns-in-Ok-taken
+returns-in-Ok-taken c = record {
+  ok =
+      let empty = c.in-Ok.ensures.made c.limit.ensures.range in
+      let fits : finite_set.len (known_ids c.self.inside.records.content) ≤ c.self.inside.records.limit = subst (λ n. n ≤ c.self.inside.records.limit) c.known-known.ensures.known c.known-known.ensures.within in
+      let all : taken_one_by_one c.copy.inside.records.limit c.copy.inside.records.content c.deref.result.now ≡ took c.self.inside.records.content =
+      taken c.self.inside.records c.copy.inside.records _ c.deref.result.now c.copy.view_is (empty.0, empty.1 ∙ c.limit.ensures.limit) (c.deref.ensures.value ∙ c.in_ok-ops.ensures.ok) c.known-known.ensures.sound fits in
+      let same : took c.take_whole-taken.new.records.content ≡ took c.self.inside.records.content = sym c.in-Ok-taken.ensures.ok ∙ all in
+      let there : c.take_whole-taken.new.records.content ≡ c.self.inside.records.content = cc in
+      (there ∙ ap (λ (v : Kept). v.content) c.self.view_is, c.take_whole-taken.ensures.limit ∙ ap (λ (v : Kept). v.limit) c.copy.view_is ∙ empty.1 ∙ c.limit.ensures.limit ∙ ap (λ (v : Kept). v.limit) c.self.view_is);
+}

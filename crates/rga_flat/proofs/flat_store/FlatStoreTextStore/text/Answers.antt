@@ -4,5 +4,5 @@ use Rattle.rga_store.specs.Kept.{Kept}
 use Rattle.rga_flat.proofs.ReadingLaws.{text_shown}
 use Rattle.rga_flat.proofs.flat_store.FlatStoreTextStore.text.Goals as goal
 
-pub returns-clause-ok : goal.returns-clause-ok
-returns-clause-ok c = rw (← (text_shown _ _ c.self.invariant.listed c.self.invariant.shown ∙ ap (λ (v : Kept). text v.content) c.self.view_is)) c.text.ensures.ok
+pub returns : goal.returns
+returns c = record { ok = rw (← (text_shown _ _ c.self.invariant.listed c.self.invariant.shown ∙ ap (λ (v : Kept). text v.content) c.self.view_is)) c.text.ensures.ok }

@@ -4,6 +4,8 @@ use Rattle.rga_store.specs.Kept.{Kept}
 use Rattle.rga_flat.proofs.ReadingLaws.{text_shown}
 use Rattle.rga_flat.proofs.flat_store.FlatStoreTextStore.text_string.Goals as goal
 
-pub returns-clause-ok : goal.returns-clause-ok
-returns-clause-ok c =
-    rw (← (c.as_slice.ensures.value ∙ c.in_ok-chars.ensures.ok ∙ text_shown _ _ c.self.invariant.listed c.self.invariant.shown ∙ ap (λ (v : Kept). text v.content) c.self.view_is)) c.string_of.ensures.ok
+pub returns : goal.returns
+returns c = record {
+  ok =
+      rw (← (c.as_slice.ensures.value ∙ c.in_ok-chars.ensures.ok ∙ text_shown _ _ c.self.invariant.listed c.self.invariant.shown ∙ ap (λ (v : Kept). text v.content) c.self.view_is)) c.string_of.ensures.ok;
+}

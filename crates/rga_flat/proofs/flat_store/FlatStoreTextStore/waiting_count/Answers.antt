@@ -19,7 +19,9 @@ pub overflow_sub-result : goal.overflow_sub-result
 overflow_sub-result c =
     below _ _ _ _ _ (all_listed c.self.inside.records.content c.self.inside.sequence c.self.invariant.listed c.self.invariant.shown) c.count_inserted-count.ensures.count c.len.ensures
 
-pub returns-clause-ok : goal.returns-clause-ok
-returns-clause-ok c =
-    rest _ _ _ _ _ (all_listed c.self.inside.records.content c.self.inside.sequence c.self.invariant.listed c.self.invariant.shown) c.count_inserted-count.ensures.count c.len.ensures
-    ∙ ap (λ (v : Kept). length (waiting v.content)) c.self.view_is
+pub returns : goal.returns
+returns c = record {
+  ok =
+      rest _ _ _ _ _ (all_listed c.self.inside.records.content c.self.inside.sequence c.self.invariant.listed c.self.invariant.shown) c.count_inserted-count.ensures.count c.len.ensures
+      ∙ ap (λ (v : Kept). length (waiting v.content)) c.self.view_is;
+}

@@ -1,27 +1,38 @@
-use Rattle.std.proofs.Common.{◌≤◌, sym, ap, ◌∙◌, subst}
-use Rattle.std.specs.Prelude.{Ok}
+use Rattle.std.proofs.Common.{◌≡◌, ◌≤◌, sym, ap, ◌∙◌, subst}
+use Rattle.std.specs.Prelude.{Ok, Err}
 use Rattle.std.specs.FinSet as finite_set
-use Rattle.rga_ops.specs.Content.{known_ids}
+use Rattle.rga_ops.specs.Content.{known_ids, join, content_of}
 use Rattle.rga_ops.specs.ListAnswer.{list_answer}
-use Rattle.rga_ops.proofs.ListAnswerLaws.{one_by_one_list}
+use Rattle.rga_ops.proofs.ListAnswerLaws.{one_by_one_list, list_one_by_one}
 use Rattle.rga_ops.proofs.EarlyLaws.{no_early_if_taken}
-use Rattle.rga_ops.proofs.TakenLaws.{taken_list_is}
+use Rattle.rga_ops.proofs.TakenLaws.{taken_list_is, took, refused}
 use Rattle.rga_store.proofs.BackLaws.{not_refused}
 use Rattle.rga_store.proofs.TakingLaws.{list_taken}
 use Rattle.rga_records.proofs.taker.RecordsTaker.apply_all.Goals as goal
 
-pub returns-in-Ok-clause-exact : goal.returns-in-Ok-clause-exact
-returns-in-Ok-clause-exact c = λ _.
+pub returns-in_default-clause-exact : goal.returns-in_default-clause-exact
+returns-in_default-clause-exact c = λ _.
     let fits : finite_set.len (known_ids c.args.self.now.content) ≤ c.args.self.now.limit = subst (λ n. n ≤ c.args.self.now.limit) c.known-known.ensures.known c.known-known.ensures.within in
-    sym (one_by_one_list c.args.self.now.limit c.args.self.now.content c.take_whole.new.records.content c.args.ops.now fits c.in-Ok.ensures.ok)
+    sym (one_by_one_list c.args.self.now.limit c.args.self.now.content c.take_whole.new.records.content c.args.ops.now fits c.in_default.ensures.ok)
 
-pub returns-in-Ok-clause-whole : goal.returns-in-Ok-clause-whole
-returns-in-Ok-clause-whole c = λ _. (taken_list_is c.args.self.now.limit c.args.self.now.content c.args.ops.now c.take_whole.new.records.content c.in-Ok.ensures.ok).joined
+pub returns-in_default-clause-whole : goal.returns-in_default-clause-whole
+returns-in_default-clause-whole c = λ _. (taken_list_is c.args.self.now.limit c.args.self.now.content c.args.ops.now c.take_whole.new.records.content c.in_default.ensures.ok).joined
 
-pub returns-in-Ok-clause-took : goal.returns-in-Ok-clause-took
-returns-in-Ok-clause-took c = list_taken _ _ c.args.ops.now (Ok tt) (returns-in-Ok-clause-whole c)
+pub returns-in_default-clause-took : goal.returns-in_default-clause-took
+returns-in_default-clause-took c = list_taken _ _ c.args.ops.now (Ok tt) (returns-in_default-clause-whole c)
 
-pub returns-in_ok-answer_to_list-in-Err-clause-early : goal.returns-in_ok-answer_to_list-in-Err-clause-early
-returns-in_ok-answer_to_list-in-Err-clause-early c = λ _.
-    no_early_if_taken c.args.self.now.content c.take_whole.new.records.limit c.args.ops.now
-    (ap (λ d. list_answer c.take_whole.new.records.limit d c.args.ops.now) (sym c.in-Err.ensures.same) ∙ sym (c.in_ok-answer_to_list-in-Err.ensures.exact not_refused))
+-- ---- the list was refused, and could be taken
+
+takeable : (c : goal.In_ok-answer_to_list) → list_answer c.args.self.now.limit c.args.self.now.content c.args.ops.now ≡ Ok tt
+takeable c =
+    (λ i. list_answer (sym c.take_whole.ensures.limit i) (sym c.in-Err.ensures.same i) c.args.ops.now) ∙ sym (c.in_ok-answer_to_list.ensures.exact not_refused)
+
+-- so it was refused for want of memory
+pub returns-clause-exact : goal.returns-clause-exact
+returns-clause-exact c = λ other.
+    let clash : refused c.in-Err.refused ≡ took (join c.args.self.now.content (content_of c.args.ops.now)) =
+    sym (c.in-Err.ensures.refused (λ m. other (ap Err m))) ∙ list_one_by_one _ _ _ (takeable c) in
+    absurd (cc)
+
+pub returns-clause-early : goal.returns-clause-early
+returns-clause-early c = λ _. no_early_if_taken c.args.self.now.content c.args.self.now.limit c.args.ops.now (takeable c)

@@ -19,5 +19,5 @@ pick_new-requires-clause-reached g c =
 pub pick_new-requires-clause-none : goal.pick_new-requires-clause-none
 pick_new-requires-clause-none g c = c.new-picked.ensures.items
 
-pub returns-clause-ok : goal.returns-clause-ok
-returns-clause-ok g c = c.in_ok-pick_new.ensures.ok
+pub returns : goal.returns
+returns g c = record { ok = c.in_ok-pick_new.ensures.ok }

@@ -47,6 +47,8 @@ loop-op-preserved g c =
       new = c.in_ok-push.ensures.items ∙ ap (λ xs. xs ++ op ∷ []) c.loop-op.invariant.new ∙ sym (ap (new_operations s) more ∙ new_then s before op absent);
     }
 
-pub returns-clause-ok : goal.returns-clause-ok
-returns-clause-ok g c =
-    c.loop-op.invariant.new ∙ ap (new_operations (g.S.Taker.content c.args.store.now)) (take_all c.loop-op.op-index c.args.ops.now c.loop-op-test.false)
+pub returns : goal.returns
+returns g c = record {
+  ok =
+      c.loop-op.invariant.new ∙ ap (new_operations (g.S.Taker.content c.args.store.now)) (take_all c.loop-op.op-index c.args.ops.now c.loop-op-test.false);
+}

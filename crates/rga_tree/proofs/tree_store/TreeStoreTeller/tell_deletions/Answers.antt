@@ -8,8 +8,10 @@ use Rattle.rga_store.specs.Kept.{Kept}
 use Rattle.rga_tree.specs.Nodes.{content_of_nodes}
 use Rattle.rga_tree.proofs.tree_store.TreeStoreTeller.tell_deletions.Goals as goal
 
-pub returns-clause-ok : goal.returns-clause-ok
-returns-clause-ok g c =
-    let held : Content = content_of_nodes c.self.inside.nodes.entries in
-    rw (← (c.deref.ensures.value ∙ c.in_ok-list_deletions.ensures.ok ∙ ap (λ xs. xs ++ map Delete (rising (finite_set.items held.deleted))) c.new-told.ensures.items ∙ ap (λ (v : Kept). deletions v.content) c.self.view_is))
-    c.tell_each.ensures.ok
+pub returns : goal.returns
+returns g c = record {
+  ok =
+      let held : Content = content_of_nodes c.self.inside.nodes.entries in
+      rw (← (c.deref.ensures.value ∙ c.in_ok-list_deletions.ensures.ok ∙ ap (λ xs. xs ++ map Delete (rising (finite_set.items held.deleted))) c.new-told.ensures.items ∙ ap (λ (v : Kept). deletions v.content) c.self.view_is))
+      c.tell_each.ensures.ok;
+}

@@ -9,8 +9,10 @@ use Rattle.rga_store.specs.Kept.{Kept}
 use Rattle.rga_tree.specs.Nodes.{content_of_nodes}
 use Rattle.rga_tree.proofs.tree_store.TreeStoreTeller.tell_insertions.Goals as goal
 
-pub returns-clause-ok : goal.returns-clause-ok
-returns-clause-ok g c =
-    let held : Content = content_of_nodes c.self.inside.nodes.entries in
-    rw (← (c.deref.ensures.value ∙ c.in_ok-list_insertions.ensures.ok ∙ ap (λ xs. xs ++ filter_map (insertion_at held) (finite_map.keys held.inserted)) c.new-told.ensures.items ∙ insertions_by_keys held ∙ ap (λ (v : Kept). insertions v.content) c.self.view_is))
-    c.tell_each.ensures.ok
+pub returns : goal.returns
+returns g c = record {
+  ok =
+      let held : Content = content_of_nodes c.self.inside.nodes.entries in
+      rw (← (c.deref.ensures.value ∙ c.in_ok-list_insertions.ensures.ok ∙ ap (λ xs. xs ++ filter_map (insertion_at held) (finite_map.keys held.inserted)) c.new-told.ensures.items ∙ insertions_by_keys held ∙ ap (λ (v : Kept). insertions v.content) c.self.view_is))
+      c.tell_each.ensures.ok;
+}

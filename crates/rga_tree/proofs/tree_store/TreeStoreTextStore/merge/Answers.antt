@@ -5,7 +5,7 @@ use Rattle.rga_ops.specs.Operations.{operations}
 use Rattle.rga_ops.specs.Answer.{taken_one_by_one}
 use Rattle.rga_ops.specs.ListAnswer.{Verdict, least_conflict, merge_answer}
 use Rattle.rga_ops.specs.declared.refusal.Refusal.{Refusal}
-use Rattle.rga_ops.specs.declared.refusal.Refusal.TheVariants.{Memory}
+use Rattle.rga_ops.specs.Prelude.{Memory}
 use Rattle.rga_ops.proofs.ListAnswerLaws.{union_taken-iff}
 use Rattle.rga_ops.proofs.TakenLaws.{took, refused}
 use Rattle.rga_store.specs.Kept.{Kept}

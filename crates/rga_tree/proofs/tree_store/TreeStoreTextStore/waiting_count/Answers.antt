@@ -16,7 +16,9 @@ pub overflow_sub-result : goal.overflow_sub-result
 overflow_sub-result c =
     omega (arith, all (content_of_nodes c.self.inside.nodes.entries), c.self.invariant.counted.inserted, ap length (c.as_slice.ensures.value ∙ c.in_ok-order.ensures.ok))
 
-pub returns-clause-ok : goal.returns-clause-ok
-returns-clause-ok c =
-    omega (arith, all (content_of_nodes c.self.inside.nodes.entries), c.self.invariant.counted.inserted, ap length (c.as_slice.ensures.value ∙ c.in_ok-order.ensures.ok))
-    ∙ ap (λ (v : Kept). length (waiting v.content)) c.self.view_is
+pub returns : goal.returns
+returns c = record {
+  ok =
+      omega (arith, all (content_of_nodes c.self.inside.nodes.entries), c.self.invariant.counted.inserted, ap length (c.as_slice.ensures.value ∙ c.in_ok-order.ensures.ok))
+      ∙ ap (λ (v : Kept). length (waiting v.content)) c.self.view_is;
+}
