@@ -5,8 +5,8 @@ ghost use Rattle.rga_ops.specs.Memory.{out_of_memory};
 use std::alloc::{AllocError, AllocFailed};
 use std::fmt;
 
-/// A growth of memory was refused. It is made of what the allocator, or a library, answered, and of
-/// nothing else, so no call can say it of its own accord.
+/// A growth of memory was refused: it holds what the allocator answered. The places where code still
+/// makes such an answer of its own accord are counted by `scripts/made_refusals.py`.
 #[derive(Clone, Copy, PartialEq, Eq)]
 pub struct OutOfMemory {
     refused: AllocError,
