@@ -168,7 +168,7 @@ help:
 	@echo "               has four write in one note, in terminals of tmux, by a hub, a folder, a branch of git and a stream of"
 	@echo "               Redis, which are away, emptied, put back, cut off or slow meanwhile, while writers are killed or leave"
 	@echo "               (needs python3 and tmux; sshd; git; redis-server and python3-redis; faketime: what is not there is said)"
-	@echo "make test      looks up each name in the documents, looks for refusals of memory that sources make, proves all that"
+	@echo "make test      looks up each name in the documents, looks for AllocErrors that sources make, proves all that"
 	@echo "               the kit does not have as proved, runs every test and plays every scene; the last line counts all"
 	@echo "               (needs python3)"
 	@echo "make gate      the same, and tries the wrong bodies of the gate: each must be refused (needs python3)"

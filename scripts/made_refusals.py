@@ -1,10 +1,11 @@
 #!/usr/bin/env python3
 """Says which sources make a refusal of memory of their own accord.
 
-Whoever answers `Memory` is to hold what an allocator, or a library, answered. So outside of tests no
-code names `AllocError`, `AllocFailed` or `ErrorKind::OutOfMemory` as a value, and none gives them
-another name: they are types, are compared with, are matched, and `AllocError::from` takes what was
-answered. Exits with 1 where another place is found, or where one of those in `STILL` is gone.
+Who refuses by `Refusal::Memory`, or answers an `OutOfMemory`, is to hold what an allocator answered;
+other faults say `Memory` without, which this does not see. So outside of tests no code names
+`AllocError`, `AllocFailed` or `ErrorKind::OutOfMemory` as a value, and none gives them another name:
+they are types, are compared with, are matched, and `AllocError::from` takes what was answered. Exits
+with 1 where another place is found, or where one of those in `STILL` is gone.
 """
 
 import collections
