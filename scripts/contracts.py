@@ -14,6 +14,7 @@ contracts of its table reach, by file; and behind them, by file, those that no s
 
 import pathlib
 import re
+import signal
 import sys
 import textwrap
 
@@ -224,4 +225,6 @@ def main():
 
 
 if __name__ == "__main__":
+    # Who reads it may stop early, as `head` does.
+    signal.signal(signal.SIGPIPE, signal.SIG_DFL)
     main()

@@ -33,6 +33,9 @@ def played(mgr, names=()):
         except Unreadable as fault:
             print(fault)
             misread += 1
+        except OSError as fault:
+            print(f"{path}: {fault.strerror}")
+            misread += 1
     outcomes = play_all(mgr, scenes)
     for line in (line for outcome in outcomes for line in outcome.faults):
         print(line)
