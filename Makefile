@@ -19,7 +19,7 @@ NEED_RT = command -v rt >/dev/null || { \
 
 NEED_PYTHON = command -v python3 >/dev/null || { echo "python3 is not installed" >&2; exit 1; }
 
-.PHONY: build try scenes test-front try-live try-hub try-exchange try-sharing try-engines crash hostile files test gate wrong-bodies other-store contracts bench bench-growth bench-live install clean help
+.PHONY: build try scenes test-front try-live try-hub try-exchange try-sharing try-engines crash hostile files test gate wrong-bodies other-store contracts bench bench-growth bench-live install uninstall clean help
 
 build: build/mgr
 	@echo "build/mgr is up to date"
@@ -147,6 +147,15 @@ install: build/mgr
 	ln -sf mgr "$(DESTDIR)$(COMPDIR)/mgr-live"
 	ln -sf mgr "$(DESTDIR)$(COMPDIR)/mgr-hub"
 
+# What install put there, and no folder that has something else.
+uninstall:
+	for program in mgr mgr-live mgr-hub; do \
+		rm -f "$(DESTDIR)$(BINDIR)/$$program" "$(DESTDIR)$(MANDIR)/man1/$$program.1" "$(DESTDIR)$(COMPDIR)/$$program" || exit 1; done
+	rm -rf "$(DESTDIR)$(DATADIR)/mgr_front"
+	rm -f "$(DESTDIR)$(DOCDIR)/guide.md" "$(DESTDIR)$(DOCDIR)/commands.md"
+	for folder in "$(DESTDIR)$(DATADIR)" "$(DESTDIR)$(DOCDIR)"; do \
+		if [ -d "$$folder" ]; then rmdir --ignore-fail-on-non-empty "$$folder"; fi; done
+
 clean:
 	rm -rf build crates/*/out
 
@@ -202,4 +211,6 @@ help:
 	@echo "               (BINDIR=$(BINDIR), DATADIR=$(DATADIR), MANDIR=$(MANDIR),"
 	@echo "               DOCDIR=$(DOCDIR) and COMPDIR=$(COMPDIR), by PREFIX=$(PREFIX);"
 	@echo "               DESTDIR is put before them)"
+	@echo "make uninstall"
+	@echo "               removes what make install put there, with the same words"
 	@echo "make clean     removes what was built and proved"
