@@ -70,17 +70,26 @@ impl Page {
         ensures ok { OnOk result (self.new ≡ insert self.old index (id, value)) }
         ensures err { OnErr result (self.new ≡ self.old) }
     {
-        if index == 0 {
-            self.entries.insert(0, (id, value))?;
-            self.first = id;
-            return Ok(());
-        }
-        if index < self.entries.as_slice().len() {
-            self.entries.insert(index, (id, value))?;
-            return Ok(());
+        if index == 0 || index < self.entries.as_slice().len() {
+            return self.put_before(index, id, value);
         }
         self.entries.reserve(1)?;
         self.entries.push_reserved((id, value));
+        Ok(())
+    }
+
+    /// The same before others, or as the first. Those from there on are moved in one go, which LLVM
+    /// does not make of `Vec::insert`.
+    fn put_before(&mut self, index: usize, id: Id, value: Record) -> Result<(), OutOfMemory>
+        requires { index ≤ length self.old }
+        ensures ok { OnOk result (self.new ≡ insert self.old index (id, value)) }
+        ensures err { OnErr result (self.new ≡ self.old) }
+    {
+        self.entries.push((id, value))?;
+        self.entries.as_mut_slice()[index..].rotate_right(1);
+        if index == 0 {
+            self.first = id;
+        }
         Ok(())
     }
 
