@@ -77,7 +77,10 @@ def costs_of(log, count):
 def print_costs(count, size, costs):
     for name, (user, system) in costs.items():
         row = f"{count:>10,}  {name:<10} {user * 1e6 / count:>9.3f} {system * 1e6 / count:>9.3f}"
-        print(f"{row} {count / (user + system):>14,.0f} {size / (user + system) / 1e6:>9,.0f}", flush=True)
+        seconds = user + system
+        # The clock may be too coarse to see a short one.
+        rates = (f"{count / seconds:,.0f}", f"{size / seconds / 1e6:,.0f}") if seconds else ("-", "-")
+        print(f"{row} {rates[0]:>14} {rates[1]:>9}", flush=True)
 
 
 def spelling_ratio(count, spelling):
