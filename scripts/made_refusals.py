@@ -1,11 +1,11 @@
 #!/usr/bin/env python3
 """Says which sources make a refusal of memory of their own accord.
 
-Who refuses by `Refusal::Memory`, or answers an `OutOfMemory`, is to hold what an allocator answered;
-other faults say `Memory` without, which this does not see. So outside of tests no code names
-`AllocError`, `AllocFailed` or `ErrorKind::OutOfMemory` as a value, and none gives them another name:
-they are types, are compared with, are matched, and `AllocError::from` takes what was answered. Exits
-with 1 where another place is found, or where one of those in `STILL` is gone.
+Whoever answers that memory was refused, in whatever fault, holds what an allocator answered: an
+`OutOfMemory`. So outside of tests no code names `AllocError`, `AllocFailed` or
+`ErrorKind::OutOfMemory` as a value, and none gives them another name: they are types, are compared
+with, are matched, and `AllocError::from` takes what was answered. Exits with 1 if another place is
+found, or if one of those in `STILL` is gone.
 """
 
 import collections
@@ -15,23 +15,19 @@ import sys
 
 ROOT = pathlib.Path(__file__).resolve().parent.parent
 TESTS = re.compile(r"test_|bench_|\w+_test$")
-# How often sources still make one: dead ends, views of what is listed, and faults that hold no refusal yet.
+# How often sources make one, since what was answered is kept by nobody, or since they hide what can't happen.
 STILL = {
-    "crates/mg_buffer/src/fault.rt": 1,
-    "crates/mg_buffer/src/running.rt": 1,
-    "crates/mg_editor/src/live_status.rt": 1,
-    "crates/mg_files/src/lines.rt": 1,
-    "crates/mg_live/src/changes.rt": 1,
-    "crates/mg_live/src/picture.rt": 1,
-    "crates/mg_workspace/src/workspace.rt": 1,
-    "crates/mgr_mend/src/judging.rt": 2,
-    "crates/mgr_mend/src/mended.rt": 1,
-    "crates/mgr_mend/src/reading.rt": 4,
-    "crates/mgr_port/src/files.rt": 1,
-    "crates/rga_brief/src/reading.rt": 1,
-    "crates/rga_lines/src/deletion_run.rt": 1,
-    "crates/rga_lines/src/run.rt": 1,
-    "crates/rga_pages/src/pages.rt": 1,
+    "crates/mg_buffer/src/buffer.rt": 1,  # a buffer that is not listed
+    "crates/mg_files/src/fault.rt": 1,  # a read of bytes in memory that fails
+    "crates/mg_live/src/reports.rt": 1,  # what a report made was not noted
+    "crates/mg_workspace/src/fault.rt": 1,  # a buffer that refuses what no command asks of it
+    "crates/mgr_args/src/job.rt": 1,  # clap says that it found no memory
+    "crates/mgr_show/src/join.rt": 1,  # a read of bytes in memory that fails
+    "crates/mgr_show/src/missing.rt": 1,  # the same
+    "crates/mgr_show/src/note.rt": 1,  # the same
+    "crates/rga_exchange/src/fault.rt": 1,  # a Vec that is written to says that it found no memory
+    "crates/rga_lines/src/fault.rt": 1,  # serde_json says that it found no memory
+    "crates/rga_ops/src/out_of_memory.rt": 2,  # a device says so; counts beyond the greatest number
 }
 
 NAMES = ("AllocError", "AllocFailed", "OutOfMemory")

@@ -5,7 +5,9 @@ They stand in crates/NAME/wrong, in the form of those in crates/NAME/must-fail, 
 The arguments are names of crates; without any, all are tried. It works in a copy of the tree, in
 mgr-wrong-bodies of the folder for temporary files, whose proofs are kept for the next run. Several
 edits are tried in one check: as many as are of different functions, each of which must then be
-refused for itself. What is not refused so is tried once more, alone.
+refused for itself. What is not refused so is tried once more, alone. A body that gives up for a
+refusal of memory that nobody answered is proved; an edit with a line `by: made_refusals` has such
+a body, which scripts/made_refusals.py must find.
 
 It prints what became of each, and at last how many were refused, of these how many only for a name
 that the edit takes away from a proof, which shows little of a contract, and ends with an error
@@ -21,6 +23,8 @@ import subprocess
 import sys
 import tempfile
 
+from made_refusals import makings
+
 TOP = pathlib.Path(__file__).resolve().parent.parent
 TREE = pathlib.Path(tempfile.gettempdir()) / "mgr-wrong-bodies"
 SOURCES = ("src", "specs", "proofs")
@@ -35,11 +39,13 @@ GONE = re.compile(r"has no field|is not in scope|has no `|was not admitted|was n
 
 @dataclasses.dataclass
 class Edit:
-    """A wrong body: the file that it is of, what replaces what there, and the functions that this stands in."""
+    """A wrong body: the file that it is of, what replaces what there, the functions that this stands in, and whether
+    it makes a refusal of memory."""
 
     path: pathlib.Path
     pairs: list
     functions: set
+    makes: bool
 
     def __str__(self):
         return f"{self.path.parent.parent.name}/{self.path.stem}"
@@ -63,17 +69,19 @@ def function_at(text, old):
 
 
 def read_edit(path, crate):
-    file, old, pairs, functions = None, None, [], set()
+    file, old, pairs, functions, makes = None, None, [], set(), False
     for line in path.read_text().splitlines():
         word, _, rest = line.partition(": " if not line.startswith("new:") else ":")
         if word == "file":
             file = rest.strip()
+        elif word == "by":
+            makes = rest.strip() == "made_refusals"
         elif word == "old":
             old = rest
         elif word == "new":
             pairs.append((file, old, rest.removeprefix(" ")))
             functions.add(function_at((crate / file).read_text(), old))
-    return Edit(path, pairs, functions)
+    return Edit(path, pairs, functions, makes)
 
 
 def copy_tree():
@@ -149,10 +157,24 @@ def verdict(edit, found):
 
 def tried(crate, edits):
     """Yields each edit of a crate with what became of it."""
-    for taken, texts in rounds(edits, crate):
+    for edit in edits:
+        if edit.makes:
+            yield edit, looked_at(crate, edit)
+    for taken, texts in rounds([edit for edit in edits if not edit.makes], crate):
         found = refused(check(crate, texts), texts, crate)
         for edit in taken:
             yield edit, verdict(edit, found) or alone(crate, edit)
+
+
+def looked_at(crate, edit):
+    """Returns what the look for refusals of memory says of an edit."""
+    texts = edit.applied({}, crate)
+    if texts is None:
+        sys.exit(f"{edit}: what it replaces does not stand once in its file")
+    for file, text in texts.items():
+        if more := set(makings(text)) - set(makings((crate / file).read_text())):
+            return f"refused, by what is made at {file}:{min(more)}"
+    return "NOT REFUSED"
 
 
 def alone(crate, edit):

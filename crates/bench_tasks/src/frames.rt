@@ -11,7 +11,8 @@ ghost use Rattle.mg_screen.specs.Lines as spec;
 use crate::fault::Fault;
 use crate::text::{Task, number_at, task_of};
 use mg_buffer::line_of;
-use mg_screen::{FrameFault, Pane, Screen, WindowFault, Windows, cursor, first_line, frame};
+use mg_screen::{Pane, Screen, WindowFault, Windows, cursor, first_line, frame};
+use rga_ops::OutOfMemory;
 use std::alloc::{AllocError, Global};
 
 const ROWS: usize = 24;
@@ -72,7 +73,7 @@ fn lines(alloc: Global, line: usize, size: usize) -> Result<Vec<char>, AllocErro
     Ok(text)
 }
 
-fn shown(alloc: Global, text: &[char], task: &Task<Work>) -> Result<usize, FrameFault> {
+fn shown(alloc: Global, text: &[char], task: &Task<Work>) -> Result<usize, OutOfMemory> {
     let line = line_of(text, text.len());
     let first = first_line(line, 0, HEIGHT);
     let mut sum: usize = 0;
@@ -90,7 +91,7 @@ fn work_at(
     text: &[char],
     line: usize,
     old: usize,
-) -> Result<usize, FrameFault>
+) -> Result<usize, OutOfMemory>
     requires { line ≡ spec.line_index text.now (length text.now) }
 {
     let first = match work {
@@ -104,7 +105,7 @@ fn work_at(
 }
 
 /// A sum over the rows, the place of the cursor, or both.
-fn look(alloc: Global, work: Work, screen: &Screen<'_>) -> Result<usize, FrameFault>
+fn look(alloc: Global, work: Work, screen: &Screen<'_>) -> Result<usize, OutOfMemory>
     requires { screen_rows screen.now ≡ 24 }
 {
     match work {
@@ -115,7 +116,7 @@ fn look(alloc: Global, work: Work, screen: &Screen<'_>) -> Result<usize, FrameFa
 }
 
 /// How long the rows are together.
-fn row_sum(alloc: Global, screen: &Screen<'_>) -> Result<usize, FrameFault>
+fn row_sum(alloc: Global, screen: &Screen<'_>) -> Result<usize, OutOfMemory>
     requires { screen_rows screen.now ≡ 24 }
 {
     let mut sum: usize = 0;
@@ -141,7 +142,7 @@ fn screen_over<'a>(
     text: &'a [char],
     line: usize,
     first: usize,
-) -> Result<Screen<'a>, FrameFault>
+) -> Result<Screen<'a>, OutOfMemory>
     requires { line ≡ spec.line_index text.now (length text.now) }
     ensures { IfOk result (λ s. screen_rows s ≡ 24) }
 {

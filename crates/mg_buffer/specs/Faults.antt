@@ -14,7 +14,7 @@ use Rattle.mg_buffer.specs.Sight.{CommandCall, Notes, effect_of_call}
 
 -- the fault of a notice: want of memory is the store's
 abbrev pub fault_of : Notice → BufferFault
-fault_of NoMemory = Store Memory
+fault_of (NoMemory _) = Store Memory
 fault_of notice = Noticed notice
 
 abbrev pub FaultVerdict : Type 0

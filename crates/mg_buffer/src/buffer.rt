@@ -17,7 +17,7 @@ use mg_plain::{Kind, View};
 use rga_doc::Doc;
 use rga_ops::{Id, Op, OutOfMemory};
 use rga_store::TextStore;
-use std::alloc::Global;
+use std::alloc::{AllocError, Global};
 use std::marker::Model;
 
 /// A document that commands run on, over any store.
@@ -65,6 +65,11 @@ impl<S: TextStore> Model for Buffer<S> {
     } };
 
     ghost invariant = { λ b. IsKeptBuffer b.doc b.point b.line b.mark b.history b.listed };
+}
+
+/// What stands for the list of a buffer that is not listed: it was refused, or not asked for.
+fn unlisted() -> OutOfMemory {
+    OutOfMemory::from(AllocError)
 }
 
 impl<S: TextStore> Buffer<S> {
@@ -149,15 +154,15 @@ impl<S: TextStore> Buffer<S> {
     }
 
     /// What a command sees: the text, lent, the places of point and mark, and what the memo keeps.
-    /// `None` where the buffer is not listed. Takes no memory.
+    /// Out of memory if the buffer is not listed. Takes no memory.
     #[tactic(auto, using(crate::proofs::PlaceLaws::placed_within, crate::proofs::PlaceLaws::mark_placed_within))]
-    pub fn view<'a>(&'a self, memo: &'a Memo) -> Option<View<'a>>
-        ensures { IfSome result (λ view. view ≡ situation_of self.now memo.now) }
+    pub fn view<'a>(&'a self, memo: &'a Memo) -> Result<View<'a>, OutOfMemory>
+        ensures { IfOk result (λ view. view ≡ situation_of self.now memo.now) }
     {
         if !self.listed {
-            return None;
+            return Err(unlisted());
         }
-        Some(View {
+        Ok(View {
             text: self.doc.characters(),
             point: self.point.place,
             mark: self.mark.map(|marker| marker.place),
@@ -167,16 +172,16 @@ impl<S: TextStore> Buffer<S> {
         })
     }
 
-    /// The line of point, from 0. `None` where the buffer is not listed. Takes no memory, and counts
-    /// nothing.
-    pub fn line(&self) -> Option<usize>
-        ensures { let b = self.now in IfSome result
+    /// The line of point, from 0. Out of memory if the buffer is not listed. Takes no memory, and
+    /// counts nothing.
+    pub fn line(&self) -> Result<usize, OutOfMemory>
+        ensures { let b = self.now in IfOk result
             (λ line. line ≡ lines.line_of (text b.content) (place_of b.content b.point)) }
     {
         if self.listed {
-            Some(self.line.number)
+            Ok(self.line.number)
         } else {
-            None
+            Err(unlisted())
         }
     }
 
@@ -187,28 +192,29 @@ impl<S: TextStore> Buffer<S> {
         self.point.element
     }
 
-    /// The text, lent. `None` if the buffer is not listed. Takes no memory.
-    pub fn text(&self) -> Option<&[char]>
-        ensures { IfSome result (λ characters. characters.now ≡ text self.now.content) }
+    /// The text, lent. Out of memory if the buffer is not listed. Takes no memory.
+    pub fn text(&self) -> Result<&[char], OutOfMemory>
+        ensures { IfOk result (λ characters. characters.now ≡ text self.now.content) }
     {
         if self.listed {
-            Some(self.doc.characters())
+            Ok(self.doc.characters())
         } else {
-            None
+            Err(unlisted())
         }
     }
 
-    /// How many characters stand before point. `None` if the buffer is not listed. Takes no memory.
+    /// How many characters stand before point. Out of memory if the buffer is not listed. Takes no
+    /// memory.
     #[tactic(auto, using(crate::proofs::PlaceLaws::placed_within))]
-    pub fn place(&self) -> Option<usize>
+    pub fn place(&self) -> Result<usize, OutOfMemory>
         ensures exact { let b = self.now in
-            IfSome result (λ place. place ≡ place_of b.content b.point) }
-        ensures within { IfSome result (λ place. place ≤ length (text self.now.content)) }
+            IfOk result (λ place. place ≡ place_of b.content b.point) }
+        ensures within { IfOk result (λ place. place ≤ length (text self.now.content)) }
     {
         if self.listed {
-            Some(self.point.place)
+            Ok(self.point.place)
         } else {
-            None
+            Err(unlisted())
         }
     }
 

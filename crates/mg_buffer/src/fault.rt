@@ -5,7 +5,6 @@ ghost use Rattle.mg_buffer.specs.declared.fault.BufferFault.TheVariants.{Store a
 
 use mg_plain::Notice;
 use rga_ops::{OutOfMemory, Refusal};
-use std::alloc::AllocError;
 
 /// Why a command or an undo was refused. Nothing changed then.
 #[derive(Clone, Copy, PartialEq, Eq)]
@@ -24,7 +23,7 @@ impl From<Notice> for BufferFault {
 
     fn from(notice: Notice) -> BufferFault {
         match notice {
-            Notice::Memory => BufferFault::Store(Refusal::from(AllocError)),
+            Notice::Memory(memory) => BufferFault::Store(Refusal::Memory(memory)),
             _ => BufferFault::Notice(notice),
         }
     }

@@ -26,7 +26,7 @@ use mg_plain::{Command, Plan, plan};
 use rga_doc::Doc;
 use rga_ops::{Op, Refusal, Splice};
 use rga_store::TextStore;
-use std::alloc::{AllocError, Global};
+use std::alloc::Global;
 
 impl<S: TextStore> Buffer<S> {
     /// Runs a command with its argument and the fill column: the text, point, mark and the memo
@@ -83,9 +83,7 @@ impl<S: TextStore> Buffer<S> {
         ensures same { self.new ≡ self.old }
     {
         self.list()?;
-        let Some(view) = self.view(memo) else {
-            return Err(BufferFault::Store(Refusal::from(AllocError)));
-        };
+        let view = self.view(memo)?;
         Ok(plan(self.alloc, command, arg, &view, fill)?)
     }
 

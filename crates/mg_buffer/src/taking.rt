@@ -1,18 +1,19 @@
 //! Operations that a buffer takes from elsewhere.
-ghost use Rattle.std.specs.Prelude.{◌≡◌, ◌≢◌, ◌++◌, [], ◌∷◌, Ok, Err, None};
+ghost use Rattle.std.specs.Prelude.{◌≡◌, ◌≢◌, ◌++◌, [], ◌∷◌, true, Ok, Err, None};
 ghost use Rattle.rga_ops.specs.Answer.{answer};
 ghost use Rattle.rga_ops.specs.Content.{join, content_of, single};
 ghost use Rattle.rga_ops.specs.ListAnswer.{all_checked, early_conflict, list_answer};
 ghost use Rattle.rga_ops.specs.NewOperations.{new_operations};
 ghost use Rattle.rga_ops.specs.Prelude.{Memory};
 ghost use Rattle.rga_ops.specs.declared.refusal.Taken.TheVariants.{New};
+ghost use Rattle.rga_store.specs.Growth.{has_unknown};
 
 use crate::buffer::Buffer;
 use crate::line_numbers::KnownLine;
 use crate::room::add_all;
 use rga_doc::Doc;
 use rga_ops::{Op, Refusal, Taken};
-use rga_store::{Taker, TextStore, answer_at, early_answer_at, new_operations_at};
+use rga_store::{Taker, TextStore, answer_at, early_answer_at, has_unknown, new_operations_at};
 use std::alloc::Global;
 
 impl<S: TextStore> Taker for Buffer<S> {
@@ -84,6 +85,7 @@ fn take_all<S: TextStore>(
         result ≡ list_answer doc.old.limit doc.old.content ops.now }
     ensures early { result ≡ Err Memory → (all_checked ops.now ≡ Ok tt)
         × (early_conflict doc.old.content ops.now ≡ None) }
+    ensures growth { result ≡ Err Memory → has_unknown doc.old.content ops.now ≡ true }
     ensures whole { result ≡ Ok tt → doc.new ≡ record doc.old
         { content = join doc.old.content (content_of ops.now); listed = doc.new.listed } }
     ensures listed { result ≡ Ok tt → ops.now ≡ [] → doc.new.listed ≡ doc.old.listed }
@@ -94,6 +96,10 @@ fn take_all<S: TextStore>(
 {
     if let Err(refusal) = early_answer_at(doc.store(), ops) {
         return Err(refusal);
+    }
+    let _known = doc.store().known();
+    if !has_unknown(doc, ops) {
+        return Ok(());
     }
     let new = new_operations_at(alloc, doc.store(), ops)?;
     unsaved.reserve(new.len())?;

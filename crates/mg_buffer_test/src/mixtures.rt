@@ -19,7 +19,7 @@ struct Plain {
 /// What a buffer shows.
 fn shown<S: TextStore>(s: &mut Session<S>) -> Result<Plain, Refusal> {
     s.buffer.list()?;
-    let Some(view) = s.buffer.view(&s.memo) else {
+    let Ok(view) = s.buffer.view(&s.memo) else {
         return Err(Refusal::from(AllocError));
     };
     Ok(Plain {

@@ -81,7 +81,7 @@ saves_spare name b other = by (is_changed b)
 
 refused_spare : (name : List ℕ) (fault : PortFault) (c : Call) → Spares name (refused c) → AllSpare name (refusals fault c)
 refused_spare name File c spare = (spare, tt)
-refused_spare name Memory c spare = tt
+refused_spare name (Memory _) c spare = tt
 
 pub failed_spare : (name : List ℕ) (step : SaveStep) (fault : PortFault) (b : OpenState) → b.buffer.name ≢ name → AllSpare name (failed_calls step fault b)
 failed_spare name AtLog fault b other = refused_spare name fault (log_call b) (inl (λ e. other (sym (log_name b) ∙ e)))
@@ -93,9 +93,9 @@ opening_spares name Waits = inr (λ f g e. e)
 
 pub unopened_spare : (name : List ℕ) (role : Role) (fault : LinkFault) → AllSpare name (link_refusals fault (opening role))
 unopened_spare name Connects link.Socket = (inr (λ f g e. e), tt)
-unopened_spare name role link.Memory = tt
+unopened_spare name role (link.Memory _) = tt
 unopened_spare name role fault = (inr (λ f g e. e), tt)
 
 pub unended_spare : (name : List ℕ) (fault : LinkFault) → AllSpare name (link_refusals fault (link_call Finish))
-unended_spare name link.Memory = tt
+unended_spare name (link.Memory _) = tt
 unended_spare name fault = (inr (λ f g e. e), tt)

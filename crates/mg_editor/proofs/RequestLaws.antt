@@ -108,7 +108,7 @@ nothing_opened None old now is = by (is_full old.work) is
 loads_spare : (name other : List ℕ) (given : Result Files PortFault) → AllSpare other (load_told given name)
 loads_spare name other (Ok found) = (inr (λ f g e. e), tt)
 loads_spare name other (Err File) = (inr (λ f g e. e), tt)
-loads_spare name other (Err Memory) = tt
+loads_spare name other (Err (Memory _)) = tt
 
 -- a load leaves all files, whatever was answered
 load_leaves : (name : List ℕ) (given : Result Files PortFault) (before made : List Call) (s t : Held) → Adds (Some before) (Some (before ++ made)) (load_told given name) → MayLead made s t → (other : List ℕ) → t other ≡ s other

@@ -7,7 +7,7 @@ use Rattle.std.proofs.lemmas.Option.{same_Some}
 use Rattle.mg_files.specs.Calls.{Call, Adds}
 use Rattle.mg_files.specs.Saving.{SaveStep, AtLog, AtText, SaveFailed, SavesTo, LogsTo, log_calls, failed_state, logged, saved, unlogged, written}
 use Rattle.mg_files.specs.declared.port.PortFault.{PortFault}
-use Rattle.mg_files.specs.declared.port.PortFault.TheVariants.{Memory}
+use Rattle.mg_files.specs.Memory.{PortMemory as Memory}
 use Rattle.mg_buffer.specs.OpenState.{OpenState, has_made, has_unsaved, is_changed, is_touched}
 use Rattle.mg_workspace.specs.Buffers.{no_buffer}
 use Rattle.mg_workspace.specs.Workspaces.{Workspace, with_buffer_at}

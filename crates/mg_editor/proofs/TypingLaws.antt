@@ -22,7 +22,6 @@ use Rattle.mg_workspace.specs.Workspaces.{scene_of}
 use Rattle.mg_editor.specs.Editors.{Editor}
 use Rattle.mg_editor.specs.Pasting.{PasteAnswer, Types}
 use Rattle.mg_editor.specs.Presses.{Ended, FollowsReaction, editor_reaction}
-use Rattle.mg_editor.specs.declared.fault.Fault.TheVariants as fault
 use Rattle.mg_editor.proofs.ActionCases.{IsQuiet, RunsOne, ended_so, quiet_runs}
 
 -- ---- one character

@@ -15,20 +15,20 @@ use Rattle.mg_editor.specs.declared.fault.CarryFault.TheVariants.{Port, Exchange
 
 abbrev pub port_failure : PortFault → Failure
 port_failure port.File = Device
-port_failure port.Memory = Memory
+port_failure (port.Memory _) = Memory
 
 -- a peer that ended early, or named another number of operations, failed as its device would
 abbrev pub peer_failure : ReceiveFault → Failure
 peer_failure (receive.Line line fault) = Line line fault
 peer_failure (receive.Refused line refusal) = Refused line refusal
-peer_failure receive.Memory = Memory
+peer_failure (receive.Memory _) = Memory
 peer_failure fault = Device
 
 -- with nowhere to meet a peer there is no device
 abbrev pub exchange_failure : ExchangeFault → Failure
 exchange_failure (exchange.Save fault) = port_failure fault
-exchange_failure (exchange.Link link.Memory) = Memory
-exchange_failure (exchange.Send send.Memory) = Memory
+exchange_failure (exchange.Link (link.Memory _)) = Memory
+exchange_failure (exchange.Send (send.Memory _)) = Memory
 exchange_failure (exchange.Receive fault) = peer_failure fault
 exchange_failure fault = Device
 

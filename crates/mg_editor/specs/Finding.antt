@@ -6,7 +6,7 @@ use Rattle.mg_files.specs.Calls.{Call, load_told, Adds}
 use Rattle.mg_files.specs.Files.{Files}
 use Rattle.mg_files.specs.Loading.{load_outcome, MayWantMemory}
 use Rattle.mg_files.specs.declared.fault.LoadFault.{LoadFault}
-use Rattle.mg_files.specs.declared.fault.LoadFault.TheVariants.{Memory}
+use Rattle.mg_files.specs.Memory.{LoadMemory as Memory}
 use Rattle.mg_files.specs.declared.port.PortFault.{PortFault}
 use Rattle.mg_minibuffer.specs.declared.message.Message.TheVariants as message
 use Rattle.mg_workspace.specs.Actions.{gone_to}

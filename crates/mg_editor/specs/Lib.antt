@@ -13,3 +13,4 @@ pub mod Holding
 pub mod LiveSaving
 pub mod LiveTaking
 pub mod Pasting
+pub mod Memory

@@ -15,9 +15,10 @@ use Rattle.mg_minibuffer.specs.declared.prompt.Prompt.TheVariants.{Replacing, Qu
 use Rattle.mg_minibuffer.specs.Endings.{ending_of}
 use Rattle.mg_editor.specs.Editors.{Editor}
 use Rattle.mg_editor.specs.Presses.{Ended, StepTaken}
-use Rattle.mg_editor.specs.declared.fault.Fault.TheVariants as fault
+use Rattle.rga_ops.specs.Memory.{out_of_memory}
 use Rattle.mg_editor.specs.declared.pasting.PasteFault.{PasteFault}
-use Rattle.mg_editor.specs.declared.pasting.PasteFault.TheVariants.{Busy, Memory}
+use Rattle.mg_editor.specs.declared.pasting.PasteFault.TheVariants.{Busy}
+use Rattle.mg_editor.specs.Memory.{PasteMemory as Memory}
 
 abbrev pub PasteAnswer : Type 0
 PasteAnswer = Result (Unit {0}) PasteFault
@@ -41,7 +42,7 @@ abbrev pub Types : List ℕ → Editor → Editor → PasteAnswer → Type 0
 Types [] old new r = (new ≡ old) × (r ≡ Ok tt)
 Types (c ∷ cs) old new r =
     ((mid : Editor) × StepTaken (Text c) old old mid (Ok Idle) × Types cs mid new r)
-    ⊎ (StepTaken (Text c) old old new (Err fault.Memory) × (r ≡ Err Memory))
+    ⊎ (StepTaken (Text c) old old new (Err out_of_memory) × (r ≡ Err Memory))
 
 abbrev pub is_newline : ℕ → Bool
 is_newline c = nat_eq c 10

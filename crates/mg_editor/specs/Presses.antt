@@ -1,7 +1,7 @@
 -- What a byte that is pressed leads to.
 use Rattle.std.specs.Prelude.{◌≡◌, ◌⊎◌, ℕ, Some, None, Result, Ok, Err, MatchResult}
 use Rattle.mg_plain.specs.declared.command.Command.TheVariants.{ReplaceOne}
-use Rattle.mg_plain.specs.declared.outcome.Notice.TheVariants as notice
+use Rattle.mg_plain.specs.Memory.{NoticeMemory}
 use Rattle.mg_keys.specs.declared.step.Step.{Step}
 use Rattle.mg_keys.specs.declared.step.Step.TheVariants.{Pending, Leave, Unbound}
 use Rattle.mg_minibuffer.specs.declared.ending.Action.{Action}
@@ -28,10 +28,10 @@ use Rattle.mg_workspace.specs.declared.fault.ActionFault.TheVariants.{Refused}
 use Rattle.mg_workspace.specs.declared.fault.Cause.{Cause}
 use Rattle.mg_editor.specs.Editors.{Editor}
 use Rattle.mg_editor.specs.Telling.{message_of_cause}
-use Rattle.mg_editor.specs.declared.fault.Fault.{Fault}
+use Rattle.rga_ops.specs.declared.out_of_memory.OutOfMemory.{OutOfMemory}
 
 abbrev pub PressAnswer : Type 0
-PressAnswer = Result Request Fault
+PressAnswer = Result Request OutOfMemory
 
 -- where memory was wanting: nothing changed, but that the key sequence begun is forgotten
 abbrev pub ran_out : Editor → Editor
@@ -52,7 +52,7 @@ Ended e old new request =
 
 -- query-replace ends where memory is wanting for the search of the next match
 abbrev pub ending_without_memory : Ending
-ending_without_memory = ending_of Nothing Closed (message.Refused notice.Memory)
+ending_without_memory = ending_of Nothing Closed (message.Refused NoticeMemory)
 
 -- What a reaction asks for. The match at point is replaced, and then the next one is looked for; a replacement that is
 -- refused leaves the question open. Where a search is accepted the prompt closes.

@@ -3,7 +3,7 @@ use Rattle.std.specs.Prelude.{◌≡◌, Result, Ok, Err}
 use Rattle.rga_exchange.specs.declared.fault.ReceiveFault.{ReceiveFault}
 use Rattle.rga_exchange.specs.declared.fault.ReceiveFault.TheVariants as receive
 use Rattle.rga_exchange.specs.declared.fault.SendFault.TheVariants as send
-use Rattle.mg_plain.specs.declared.outcome.Notice.TheVariants as notice
+use Rattle.mg_plain.specs.Memory.{NoticeMemory}
 use Rattle.mg_buffer.specs.OpenState.{OpenState}
 use Rattle.mg_files.specs.declared.fault.LoadFault.{LoadFault}
 use Rattle.mg_files.specs.declared.fault.LoadFault.TheVariants as load
@@ -48,7 +48,7 @@ message_of_cause cause.OnlyOneBuffer = message.OnlyOneBuffer
 -- of a port that is asked for files
 abbrev pub message_of_port : PortFault → Message
 message_of_port port.File = message.FileFault
-message_of_port port.Memory = message.Refused notice.Memory
+message_of_port (port.Memory _) = message.Refused NoticeMemory
 
 -- of a log; only a line, or what it says, can be at fault
 abbrev pub message_of_log : ReceiveFault → Message
@@ -61,7 +61,7 @@ abbrev pub message_of_load : LoadFault → Message
 message_of_load (load.Log fault) = message_of_log fault
 message_of_load load.NotText = message.NotText
 message_of_load (load.Store refusal) = message.BufferFull
-message_of_load load.Memory = message.Refused notice.Memory
+message_of_load (load.Memory _) = message.Refused NoticeMemory
 
 -- of a peer that was not heard to its end
 abbrev pub message_of_peer : ReceiveFault → Message
@@ -70,13 +70,13 @@ message_of_peer (receive.Refused line refusal) = message.RefusedLine line refusa
 message_of_peer receive.Cut = message.Cut
 message_of_peer receive.Count = message.WrongCount
 message_of_peer receive.Read = message.SocketFault
-message_of_peer receive.Memory = message.Refused notice.Memory
+message_of_peer (receive.Memory _) = message.Refused NoticeMemory
 
 abbrev pub message_of_exchange : ExchangeFault → Message
 message_of_exchange (exchange.Save fault) = message_of_port fault
 message_of_exchange (exchange.Link link.NoPort) = message.NoPort
-message_of_exchange (exchange.Link link.Memory) = message.Refused notice.Memory
-message_of_exchange (exchange.Send send.Memory) = message.Refused notice.Memory
+message_of_exchange (exchange.Link (link.Memory _)) = message.Refused NoticeMemory
+message_of_exchange (exchange.Send (send.Memory _)) = message.Refused NoticeMemory
 message_of_exchange (exchange.Receive fault) = message_of_peer fault
 message_of_exchange fault = message.SocketFault
 

@@ -18,7 +18,7 @@ pub(crate) fn port_failure(fault: PortFault) -> Failure
 {
     match fault {
         PortFault::File => Failure::Device,
-        PortFault::Memory => Failure::Memory,
+        PortFault::Memory(_) => Failure::Memory,
     }
 }
 
@@ -28,9 +28,9 @@ fn exchange_failure(fault: ExchangeFault) -> Failure
     match fault {
         ExchangeFault::Save(fault) => port_failure(fault),
         ExchangeFault::Link(LinkFault::Socket | LinkFault::NoPort) => Failure::Device,
-        ExchangeFault::Link(LinkFault::Memory) => Failure::Memory,
+        ExchangeFault::Link(LinkFault::Memory(_)) => Failure::Memory,
         ExchangeFault::Send(SendFault::Write) => Failure::Device,
-        ExchangeFault::Send(SendFault::Memory) => Failure::Memory,
+        ExchangeFault::Send(SendFault::Memory(_)) => Failure::Memory,
         ExchangeFault::Receive(ReceiveFault::Line(line, fault)) => Failure::Line(line, fault),
         ExchangeFault::Receive(ReceiveFault::Refused(line, refusal)) => {
             Failure::Refused(line, refusal)
@@ -38,7 +38,7 @@ fn exchange_failure(fault: ExchangeFault) -> Failure
         ExchangeFault::Receive(ReceiveFault::Cut | ReceiveFault::Count | ReceiveFault::Read) => {
             Failure::Device
         }
-        ExchangeFault::Receive(ReceiveFault::Memory) => Failure::Memory,
+        ExchangeFault::Receive(ReceiveFault::Memory(_)) => Failure::Memory,
     }
 }
 

@@ -2,13 +2,6 @@
 use mg_files::{ExchangeFault, LoadFault, PortFault};
 use std::alloc::AllocError;
 
-/// Why a byte was not pressed, or a frame not made.
-#[derive(Clone, Copy)]
-pub enum Fault {
-    /// A growth of memory was refused.
-    Memory,
-}
-
 /// Why a request was not carried out.
 #[derive(Clone, Copy)]
 pub enum CarryFault {
@@ -44,12 +37,12 @@ impl From<LoadFault> for CarryFault {
 
 impl From<AllocError> for CarryFault {
     ghost use Rattle.std.specs.Prelude.{◌≡◌};
-    ghost use Rattle.mg_files.specs.declared.fault.LoadFault.TheVariants.{Memory};
+    ghost use Rattle.mg_files.specs.Memory.{LoadMemory as Memory};
     ghost use Rattle.mg_editor.specs.declared.fault.CarryFault.TheVariants.{Load};
 
     ghost from_gives = { λ _ fault. fault ≡ Load Memory };
 
-    fn from(_: AllocError) -> CarryFault {
-        CarryFault::Load(LoadFault::Memory)
+    fn from(refused: AllocError) -> CarryFault {
+        CarryFault::Load(LoadFault::from(refused))
     }
 }

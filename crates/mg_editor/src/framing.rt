@@ -8,8 +8,8 @@ ghost use Rattle.mg_screen.specs.Size.{most_rows};
 ghost use Rattle.mg_editor.specs.Frames as spec;
 
 use crate::editor::Editor;
-use crate::fault::Fault;
-use mg_screen::{FrameFault, Position, Screen, cursor, echo_cursor};
+use mg_screen::{Position, Screen, cursor, echo_cursor};
+use rga_ops::OutOfMemory;
 use rga_store::TextStore;
 
 /// The whole screen: its rows from the top on, and where the cursor stands in them.
@@ -21,7 +21,7 @@ pub struct Frame {
 
 impl<S: TextStore> Editor<S> {
     /// The screen, once the windows are placed.
-    pub(crate) fn screen<'a>(&'a self) -> Result<Screen<'a>, FrameFault>
+    pub(crate) fn screen<'a>(&'a self) -> Result<Screen<'a>, OutOfMemory>
         requires { (rows : ℕ) × FillsRows rows self.now.work.windows × (rows ≤ most_rows) }
         ensures { IfOk result (λ screen. screen ≡ spec.screen_of (spec.placed_editor self.now)) }
     {
@@ -50,7 +50,7 @@ impl<S: TextStore> Editor<S> {
     }
 
     /// The frame, once the windows are placed.
-    fn placed_frame(&self) -> Result<Frame, FrameFault>
+    fn placed_frame(&self) -> Result<Frame, OutOfMemory>
         ensures rows { let placed = spec.placed_editor self.now in
             IfOk result (λ frame. SpellRows (spec.editor_frame placed) frame.rows.items) }
         ensures cursor { let placed = spec.placed_editor self.now in
@@ -71,23 +71,17 @@ impl<S: TextStore> Editor<S> {
     /// The cursor stands behind an answer that is all that is asked for, where no message stands,
     /// else at point, in the current window.
     ///
-    /// The only fault is `Memory`: nothing changed then.
-    pub fn frame(&mut self) -> Result<Frame, Fault>
+    /// Out of memory is the only fault: nothing changed then.
+    pub fn frame(&mut self) -> Result<Frame, OutOfMemory>
         ensures placed { OnOk result (self.new ≡ spec.placed_editor self.old) }
         ensures rows { IfOk result
             (λ frame. SpellRows (spec.editor_frame self.new) frame.rows.items) }
         ensures cursor { IfOk result (λ frame. spec.editor_cursor self.new ≡ Some frame.cursor) }
         ensures same { OnErr result (self.new ≡ self.old) }
     {
-        let Ok(()) = self.work.list_all() else {
-            return Err(Fault::Memory);
-        };
-        let Ok(placed) = self.work.placed_viewports(self.alloc) else {
-            return Err(Fault::Memory);
-        };
-        let Ok(frame) = self.placed_frame() else {
-            return Err(Fault::Memory);
-        };
+        self.work.list_all()?;
+        let placed = self.work.placed_viewports(self.alloc)?;
+        let frame = self.placed_frame()?;
         self.work.place_windows(&placed);
         Ok(frame)
     }

@@ -14,7 +14,7 @@ ghost use Rattle.mg_keys.specs.Meaning.{meaning, whole};
 ghost use Rattle.mg_minibuffer.specs.declared.ending.Request.{Request};
 ghost use Rattle.mg_minibuffer.specs.declared.message.Message.TheVariants.{Nothing};
 ghost use Rattle.mg_workspace.specs.Actions.{current_state};
-ghost use Rattle.mg_editor.specs.declared.fault.Fault.TheVariants.{Memory};
+ghost use Rattle.rga_ops.specs.Memory.{out_of_memory};
 ghost use Rattle.mg_editor.specs.Editors.{Editor};
 ghost use Rattle.mg_editor.specs.Opening.{current_text};
 ghost use Rattle.mg_editor.specs.Presses.{Pressed};
@@ -22,9 +22,9 @@ ghost use Rattle.mg_editor.specs.Presses.{Pressed};
 /// A press that finds no memory changes no text, no point and no window, and of what is talked no
 /// more than the keys.
 pub fn a_press_that_is_refused_changes_nothing()
-    ensures work { (byte : ℕ) (old new : Editor) → Pressed byte old new (Err Memory) →
+    ensures work { (byte : ℕ) (old new : Editor) → Pressed byte old new (Err out_of_memory) →
         new.work ≡ old.work }
-    ensures talk { (byte : ℕ) (old new : Editor) → Pressed byte old new (Err Memory) →
+    ensures talk { (byte : ℕ) (old new : Editor) → Pressed byte old new (Err out_of_memory) →
         new.talk ≡ record old.talk { keys = new.talk.keys } }
 {}
 

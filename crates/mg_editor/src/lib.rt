@@ -41,7 +41,7 @@ mod pressing;
 mod telling;
 
 pub use editor::Editor;
-pub use fault::{CarryFault, Fault};
+pub use fault::CarryFault;
 pub use framing::Frame;
 pub use live_saving::Writing;
 pub use live_showing::LiveFrame;

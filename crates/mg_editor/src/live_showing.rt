@@ -9,11 +9,10 @@ ghost use Rattle.mg_editor.specs.Frames.{placed_editor};
 ghost use Rattle.mg_editor.specs.LiveShowing as spec;
 
 use crate::editor::Editor;
-use crate::fault::Fault;
 use crate::live_places::place_cells;
 use mg_events::PlaceStatus;
-use mg_screen::{FrameFault, Position, Screen, cursor_at_point, echo_cursor, frame_at_point};
-use rga_ops::Id;
+use mg_screen::{Position, Screen, cursor_at_point, echo_cursor, frame_at_point};
+use rga_ops::{Id, OutOfMemory};
 use rga_store::TextStore;
 
 /// The whole screen: its rows from the top on, where the cursor stands in them, and the cells of
@@ -44,7 +43,11 @@ impl<S: TextStore> Editor<S> {
     }
 
     /// The frame, once the windows are placed.
-    fn placed_live_frame(&self, live: Option<usize>, places: &[Id]) -> Result<LiveFrame, FrameFault>
+    fn placed_live_frame(
+        &self,
+        live: Option<usize>,
+        places: &[Id],
+    ) -> Result<LiveFrame, OutOfMemory>
         requires { ForSome live (λ index. index < length self.now.work.buffers.all) }
         ensures rows { let placed = placed_editor self.now in
             IfOk result (λ frame. SpellRows (spec.live_rows placed) frame.rows.items) }
@@ -70,8 +73,12 @@ impl<S: TextStore> Editor<S> {
     /// that buffer from the top, and of each element that it has a place for and that the window
     /// shows, in the order of the list. A deleted element has the place where it stood.
     ///
-    /// The only fault is `Memory`: nothing changed then.
-    pub fn live_frame(&mut self, live: Option<usize>, places: &[Id]) -> Result<LiveFrame, Fault>
+    /// Out of memory is the only fault: nothing changed then.
+    pub fn live_frame(
+        &mut self,
+        live: Option<usize>,
+        places: &[Id],
+    ) -> Result<LiveFrame, OutOfMemory>
         requires { ForSome live (λ index. index < length self.old.work.buffers.all) }
         ensures placed { OnOk result (self.new ≡ placed_editor self.old) }
         ensures rows { IfOk result
@@ -81,15 +88,9 @@ impl<S: TextStore> Editor<S> {
             (λ frame. frame.places.items ≡ spec.place_cells live places.now self.new) }
         ensures same { OnErr result (self.new ≡ self.old) }
     {
-        let Ok(()) = self.work.list_all() else {
-            return Err(Fault::Memory);
-        };
-        let Ok(placed) = self.work.placed_viewports(self.alloc) else {
-            return Err(Fault::Memory);
-        };
-        let Ok(frame) = self.placed_live_frame(live, places) else {
-            return Err(Fault::Memory);
-        };
+        self.work.list_all()?;
+        let placed = self.work.placed_viewports(self.alloc)?;
+        let frame = self.placed_live_frame(live, places)?;
         self.work.place_windows(&placed);
         Ok(frame)
     }

@@ -1,6 +1,6 @@
 //! What a status of a live session says: of the dialogue, of buffers and of windows.
 ghost use Rattle.std.specs.Prelude.{◌≡◌, ◌<◌, Some, length, map, position, slice_get};
-ghost use Rattle.std.specs.Prelude.{IfOk, IfErr, IfSome, string_bytes};
+ghost use Rattle.std.specs.Prelude.{IfOk, IfSome, string_bytes};
 ghost use Rattle.rga_ops.specs.Content.{clock_of};
 ghost use Rattle.rga_ops.specs.Identifier.{is_id};
 ghost use Rattle.rga_ops.specs.Order.{text};
@@ -12,12 +12,11 @@ ghost use Rattle.mg_workspace.specs.Workspaces.{workspace_buffer};
 ghost use Rattle.mg_editor.specs.LiveStatus as spec;
 
 use crate::editor::Editor;
-use crate::fault::Fault;
 use mg_events::{Asking, BufferStatus, PointStatus, PromptStatus, WindowStatus};
 use mg_minibuffer::Prompt;
 use mg_screen::column_of;
 use mg_workspace::Workspace;
-use rga_ops::Id;
+use rga_ops::{Id, OutOfMemory};
 use rga_store::{TextStore, position_of};
 use std::alloc::{AllocError, Global};
 
@@ -48,27 +47,19 @@ fn window_statuses<'a, S: TextStore>(
 
 impl<S: TextStore> Editor<S> {
     /// Lists all buffers: their texts, and the places of their points and marks, are then at hand.
-    /// `Memory` alone.
-    pub fn list(&mut self) -> Result<(), Fault>
+    /// Out of memory alone.
+    pub fn list(&mut self) -> Result<(), OutOfMemory>
         ensures same { self.new ≡ self.old }
-        ensures memory { IfErr result (λ fault. fault ≡ Fault.Memory) }
     {
-        match self.work.list_all() {
-            Ok(()) => Ok(()),
-            Err(_) => Err(Fault::Memory),
-        }
+        self.work.list_all()
     }
 
-    /// Lists the buffer at an index. `Memory` alone.
-    pub fn list_at(&mut self, index: usize) -> Result<(), Fault>
+    /// Lists the buffer at an index. Out of memory alone.
+    pub fn list_at(&mut self, index: usize) -> Result<(), OutOfMemory>
         requires { index < length self.old.work.buffers.all }
         ensures same { self.new ≡ self.old }
-        ensures memory { IfErr result (λ fault. fault ≡ Fault.Memory) }
     {
-        match self.work.list_at(index) {
-            Ok(()) => Ok(()),
-            Err(_) => Err(Fault::Memory),
-        }
+        self.work.list_at(index)
     }
 
     /// What is asked. Takes no memory.
@@ -108,16 +99,14 @@ impl<S: TextStore> Editor<S> {
     }
 
     /// The buffer at an index: its name, whether it is changed, how many insertions wait, and how
-    /// many operations are not saved. `AllocError` alone.
-    pub fn buffer_status(&self, index: usize) -> Result<BufferStatus<'_>, AllocError>
+    /// many operations are not saved. Out of memory alone.
+    pub fn buffer_status(&self, index: usize) -> Result<BufferStatus<'_>, OutOfMemory>
         requires { index < length self.now.work.buffers.all }
         ensures { let opened = buffer_at index self.now.work.buffers in
             IfOk result (λ status. spec.IsBufferStatus opened status) }
     {
         let opened = self.work.at(index);
-        let Ok(waiting) = opened.buffer.store().waiting_count() else {
-            return Err(AllocError);
-        };
+        let waiting = opened.buffer.store().waiting_count()?;
         Ok(BufferStatus {
             name: opened.buffer.name(),
             changed: opened.is_changed(),
@@ -126,16 +115,17 @@ impl<S: TextStore> Editor<S> {
         })
     }
 
-    /// Where point stands in the current buffer. `None` if that is not listed. Takes no memory.
-    pub fn point_status(&self) -> Option<PointStatus>
+    /// Where point stands in the current buffer. Out of memory if that is not listed. Takes no
+    /// memory.
+    pub fn point_status(&self) -> Result<PointStatus, OutOfMemory>
         ensures { let buffer = (workspace_buffer self.now.work).buffer in
-            IfSome result (λ status. spec.IsPointStatus buffer status) }
+            IfOk result (λ status. spec.IsPointStatus buffer status) }
     {
         let buffer = &self.work.current().buffer;
         let line = buffer.line()?;
         let text = buffer.text()?;
         let place = buffer.place()?;
-        Some(PointStatus {
+        Ok(PointStatus {
             line,
             column: column_of(text, place),
             element: buffer.point(),
@@ -171,11 +161,12 @@ impl<S: TextStore> Editor<S> {
         position_of(self.work.at(index).buffer.store(), id)
     }
 
-    /// The text of the buffer at an index, lent. `None` if it is not listed. Takes no memory.
-    pub fn text_at(&self, index: usize) -> Option<&[char]>
+    /// The text of the buffer at an index, lent. Out of memory if it is not listed. Takes no
+    /// memory.
+    pub fn text_at(&self, index: usize) -> Result<&[char], OutOfMemory>
         requires { index < length self.now.work.buffers.all }
         ensures { let content = (state_at index self.now.work).content in
-            IfSome result (λ characters. characters.now ≡ text content) }
+            IfOk result (λ characters. characters.now ≡ text content) }
     {
         self.work.at(index).buffer.text()
     }

@@ -196,9 +196,7 @@ impl<S: TextStore> Editor<S> {
             (self.new ≡ spec.with_changed index self.new.work self.old) }
         ensures same { OnErr result (self.new ≡ self.old) }
     {
-        let Ok(put) = Chars::from_slice(self.alloc, put) else {
-            return Err(ActionFault::Memory);
-        };
+        let put = Chars::from_slice(self.alloc, put)?;
         let anchors = self.anchors(index);
         self.work
             .run_at(index, &Command::ReplaceRange { lo, hi, put }, 1)?;

@@ -2,7 +2,7 @@
 ghost use Rattle.std.specs.Prelude.{◌≡◌, ◌≢◌, ◌<◌, Err, IfOk, IfErr, OnErr, length};
 ghost use Rattle.rga_ops.specs.Prelude.{text};
 ghost use Rattle.mg_files.specs.Loading.{load_outcome, MayWantMemory};
-ghost use Rattle.mg_files.specs.declared.fault.LoadFault.TheVariants.{Memory};
+ghost use Rattle.mg_files.specs.Memory.{LoadMemory as Memory};
 ghost use Rattle.mg_workspace.specs.Buffers.{most_buffers};
 ghost use Rattle.mg_editor.specs.Finding as finding;
 ghost use Rattle.mg_editor.specs.Opening as spec;

@@ -1,15 +1,18 @@
 //! Texts that are pasted.
 ghost use Rattle.std.specs.Prelude.{◌≡◌, ◌<◌, true, false, Ok, Err, IfSome, OnOk, OnErr, length, position};
 ghost use Rattle.mg_minibuffer.specs.Dialogues.{forgotten, takes_text};
+ghost use Rattle.rga_ops.specs.Memory.{out_of_memory};
+ghost use Rattle.mg_editor.specs.Memory.{PasteMemory};
 ghost use Rattle.mg_editor.specs.Pasting as spec;
 ghost use Rattle.mg_editor.specs.Presses as presses;
 
 use crate::editor::Editor;
-use crate::fault::Fault;
 use mg_keys::Step;
 use mg_minibuffer::{Action, Ending, Message, Next, Request};
 use mg_plain::{Chars, Command};
+use rga_ops::OutOfMemory;
 use rga_store::TextStore;
+use std::alloc::AllocError;
 
 /// Why a text was not pasted.
 #[derive(Clone, Copy, PartialEq, Eq)]
@@ -17,7 +20,23 @@ pub enum PasteFault {
     /// A key sequence has begun, or a question is open that takes no text.
     Busy,
     /// A growth of memory was refused.
-    Memory,
+    Memory(OutOfMemory),
+}
+
+impl From<OutOfMemory> for PasteFault {
+    ghost from_gives = { λ _ fault. fault ≡ PasteMemory };
+
+    fn from(memory: OutOfMemory) -> PasteFault {
+        PasteFault::Memory(memory)
+    }
+}
+
+impl From<AllocError> for PasteFault {
+    ghost from_gives = { λ _ fault. fault ≡ PasteMemory };
+
+    fn from(refused: AllocError) -> PasteFault {
+        PasteFault::Memory(OutOfMemory::from(refused))
+    }
 }
 
 /// The place of the first newline.
@@ -76,12 +95,10 @@ impl<S: TextStore> Editor<S> {
         requires { forgotten self.old.talk ≡ self.old.talk }
         ensures { spec.Inserts put.now self.old self.new result }
     {
-        let Ok(put) = Chars::from_slice(self.alloc, put) else {
-            return Err(PasteFault::Memory);
-        };
+        let put = Chars::from_slice(self.alloc, put)?;
         match self.end(running(Command::InsertText(put))) {
             Ok(_) => Ok(()),
-            Err(_) => Err(PasteFault::Memory),
+            Err(memory) => Err(PasteFault::Memory(memory)),
         }
     }
 
@@ -104,25 +121,21 @@ impl<S: TextStore> Editor<S> {
         ensures { spec.Types line.now self.old self.new result }
     {
         for ch in line {
-            let Ok(()) = self.type_one(*ch) else {
-                return Err(PasteFault::Memory);
-            };
+            self.type_one(*ch)?;
         }
         Ok(())
     }
 
     /// A character is typed, and a prompt that takes text is open still.
-    fn type_one(&mut self, ch: char) -> Result<(), Fault>
+    fn type_one(&mut self, ch: char) -> Result<(), OutOfMemory>
         requires { takes_text self.old.talk.prompt ≡ true }
         ensures typed { OnOk result
             (presses.StepTaken (Step.Text ch) self.old self.old self.new (Ok Request.Idle)) }
         ensures ready { OnOk result (takes_text self.new.talk.prompt ≡ true) }
         ensures refused { OnErr result
-            (presses.StepTaken (Step.Text ch) self.old self.old self.new (Err Fault.Memory)) }
+            (presses.StepTaken (Step.Text ch) self.old self.old self.new (Err out_of_memory)) }
     {
-        let Ok(request) = self.do_step(Step::Text(ch)) else {
-            return Err(Fault::Memory);
-        };
+        let request = self.do_step(Step::Text(ch))?;
         drop(request);
         Ok(())
     }

@@ -8,45 +8,46 @@ ghost use Rattle.mg_workspace.specs.Actions.{Done};
 ghost use Rattle.mg_workspace.specs.Workspaces.{scene_of};
 ghost use Rattle.mg_editor.specs.Presses as spec;
 ghost use Rattle.mg_editor.specs.Telling.{message_of_cause};
-ghost use Rattle.mg_editor.specs.declared.fault.Fault.TheVariants.{Memory};
+ghost use Rattle.mg_workspace.specs.Memory.{ActionMemory};
 
 use crate::editor::Editor;
-use crate::fault::Fault;
 use crate::telling::message_of_cause;
 use mg_keys::Step;
 use mg_minibuffer::{Ending, Message, Next, Reaction, Request, Search, next_match, plain_step};
 use mg_plain::{Chars, Command, Notice};
 use mg_workspace::{ActionFault, Cause};
+use rga_ops::OutOfMemory;
 use rga_store::TextStore;
 
 impl<S: TextStore> Editor<S> {
     /// A step where no prompt is open.
-    fn take_plain(&mut self, step: Step) -> Result<Request, Fault>
+    fn take_plain(&mut self, step: Step) -> Result<Request, OutOfMemory>
         ensures plainly { IfOk result
             (spec.Ended (plain.plain_step step (scene_of self.old.work)) self.old self.new) }
         ensures refused { OnErr result (self.new ≡ spec.ran_out self.old) }
     {
-        let Ok(()) = self.work.list() else {
-            return self.run_out();
-        };
-        let Some(scene) = self.work.scene() else {
-            return self.run_out();
+        if let Err(memory) = self.work.list() {
+            return self.run_out(memory);
+        }
+        let scene = match self.work.scene() {
+            Ok(scene) => scene,
+            Err(memory) => return self.run_out(memory),
         };
         let ending = plain_step(self.alloc, step, &scene);
         self.end(ending)
     }
 
     /// Want of memory: the key sequence begun is forgotten.
-    fn run_out(&mut self) -> Result<Request, Fault>
+    fn run_out(&mut self, memory: OutOfMemory) -> Result<Request, OutOfMemory>
         ensures ran_out { self.new ≡ spec.ran_out self.old }
-        ensures answer { result ≡ Err Memory }
+        ensures answer { result ≡ Err memory }
     {
         self.talk.forget();
-        Err(Fault::Memory)
+        Err(memory)
     }
 
     /// Does the action of an ending, and tells what came of it.
-    pub(crate) fn end(&mut self, ending: Ending) -> Result<Request, Fault>
+    pub(crate) fn end(&mut self, ending: Ending) -> Result<Request, OutOfMemory>
         ensures ended { IfOk result (spec.Ended ending self.old self.new) }
         ensures refused { OnErr result (self.new ≡ spec.ran_out self.old) }
     {
@@ -64,7 +65,12 @@ impl<S: TextStore> Editor<S> {
     }
 
     /// Tells what was done.
-    fn show(&mut self, next: Next, message: Message, request: Request) -> Result<Request, Fault>
+    fn show(
+        &mut self,
+        next: Next,
+        message: Message,
+        request: Request,
+    ) -> Result<Request, OutOfMemory>
         ensures told { self.new.talk ≡ shown next message self.old.talk }
         ensures answer { result ≡ Ok request }
         ensures work { self.new.work ≡ self.old.work }
@@ -74,11 +80,11 @@ impl<S: TextStore> Editor<S> {
     }
 
     /// Tells why an action was refused. Want of memory leaves prompt and message as they are.
-    fn refuse(&mut self, fault: ActionFault, refused: Next) -> Result<Request, Fault>
+    fn refuse(&mut self, fault: ActionFault, refused: Next) -> Result<Request, OutOfMemory>
         ensures told { IfOk result (λ request. (cause : Cause) × (fault ≡ ActionFault.Refused cause)
             × (self.new.talk ≡ shown refused (message_of_cause cause) self.old.talk)
             × (request ≡ Request.Idle)) }
-        ensures memory { OnErr result (fault ≡ ActionFault.Memory) }
+        ensures memory { OnErr result (fault ≡ ActionMemory) }
         ensures refused { OnErr result (self.new ≡ spec.ran_out self.old) }
         ensures work { self.new.work ≡ self.old.work }
     {
@@ -86,30 +92,31 @@ impl<S: TextStore> Editor<S> {
             ActionFault::Refused(cause) => {
                 self.show(refused, message_of_cause(cause), Request::Idle)
             }
-            ActionFault::Memory => self.run_out(),
+            ActionFault::Memory(memory) => self.run_out(memory),
         }
     }
 
     /// A step at an open prompt.
-    fn take_prompted(&mut self, step: &Step) -> Result<Request, Fault>
+    fn take_prompted(&mut self, step: &Step) -> Result<Request, OutOfMemory>
         ensures prompted { is_some self.old.talk.prompt ≡ true → IfOk result
             (spec.FollowsReaction (spec.editor_reaction step.now self.old) self.old self.new) }
         ensures refused { OnErr result (self.new ≡ spec.ran_out self.old) }
     {
-        let Ok(()) = self.work.list() else {
-            return self.run_out();
-        };
-        let Some(scene) = self.work.scene() else {
-            return self.run_out();
+        if let Err(memory) = self.work.list() {
+            return self.run_out(memory);
+        }
+        let scene = match self.work.scene() {
+            Ok(scene) => scene,
+            Err(memory) => return self.run_out(memory),
         };
         match self.talk.react(self.alloc, step, &scene) {
             Ok(reaction) => self.follow(reaction),
-            Err(_) => self.run_out(),
+            Err(memory) => self.run_out(OutOfMemory::from(memory)),
         }
     }
 
     /// What a reaction asks for.
-    fn follow(&mut self, reaction: Reaction) -> Result<Request, Fault>
+    fn follow(&mut self, reaction: Reaction) -> Result<Request, OutOfMemory>
         ensures follows { IfOk result (spec.FollowsReaction reaction self.old self.new) }
         ensures refused { OnErr result (self.new ≡ spec.ran_out self.old) }
     {
@@ -128,7 +135,12 @@ impl<S: TextStore> Editor<S> {
     }
 
     /// Replaces the match at point, and looks for the next one.
-    fn replace(&mut self, pattern: &[char], put: &[char], count: usize) -> Result<Request, Fault>
+    fn replace(
+        &mut self,
+        pattern: &[char],
+        put: &[char],
+        count: usize,
+    ) -> Result<Request, OutOfMemory>
         ensures replaced { let reaction = Reaction.Replaces pattern.now put.now count in
             IfOk result (spec.FollowsReaction reaction self.old self.new) }
         ensures refused { OnErr result (self.new ≡ spec.ran_out self.old) }
@@ -140,18 +152,14 @@ impl<S: TextStore> Editor<S> {
     }
 
     fn replace_one(&mut self, pattern: &[char], put: &[char]) -> Result<(), ActionFault>
-        ensures one { result ≢ Err ActionFault.Memory →
+        ensures one { result ≢ Err ActionMemory →
             Done (Run (Command.ReplaceOne pattern.now put.now) 1)
             self.old.work (self.new.work, result) }
-        ensures memory { result ≡ Err ActionFault.Memory → self.new.work ≡ self.old.work }
+        ensures memory { result ≡ Err ActionMemory → self.new.work ≡ self.old.work }
         ensures talk { self.new.talk ≡ self.old.talk }
     {
-        let Ok(pattern) = Chars::from_slice(self.alloc, pattern) else {
-            return Err(ActionFault::Memory);
-        };
-        let Ok(put) = Chars::from_slice(self.alloc, put) else {
-            return Err(ActionFault::Memory);
-        };
+        let pattern = Chars::from_slice(self.alloc, pattern)?;
+        let put = Chars::from_slice(self.alloc, put)?;
         self.work.run(&Command::ReplaceOne { pattern, put }, 1)
     }
 
@@ -163,34 +171,40 @@ impl<S: TextStore> Editor<S> {
     {
         match self.find_next(pattern, put, count) {
             Ok(request) => request,
-            Err(_) => {
+            Err(memory) => {
                 self.talk
-                    .show(Next::Closed, Message::Refused(Notice::Memory));
+                    .show(Next::Closed, Message::Refused(Notice::Memory(memory)));
                 Request::Idle
             }
         }
     }
 
-    fn find_next(&mut self, pattern: &[char], put: &[char], count: usize) -> Result<Request, Fault>
+    fn find_next(
+        &mut self,
+        pattern: &[char],
+        put: &[char],
+        count: usize,
+    ) -> Result<Request, OutOfMemory>
         ensures found { let scene = scene_of self.old.work in IfOk result
             (spec.Ended (queries.asks_at_next_match pattern.now put.now count scene)
             self.old self.new) }
         ensures refused { OnErr result (self.new ≡ spec.ran_out self.old) }
     {
-        let Ok(()) = self.work.list() else {
-            return self.run_out();
-        };
-        let Some(scene) = self.work.scene() else {
-            return self.run_out();
+        if let Err(memory) = self.work.list() {
+            return self.run_out(memory);
+        }
+        let scene = match self.work.scene() {
+            Ok(scene) => scene,
+            Err(memory) => return self.run_out(memory),
         };
         match next_match(self.alloc, pattern, put, count, &scene) {
             Ok(ending) => self.end(ending),
-            Err(_) => self.run_out(),
+            Err(memory) => self.run_out(OutOfMemory::from(memory)),
         }
     }
 
     /// A step that does not wait for more bytes.
-    pub(crate) fn do_step(&mut self, step: Step) -> Result<Request, Fault>
+    pub(crate) fn do_step(&mut self, step: Step) -> Result<Request, OutOfMemory>
         ensures stepped { IfOk result
             (spec.FollowsReaction (spec.editor_reaction step self.old) self.old self.new) }
         ensures refused { OnErr result (self.new ≡ spec.ran_out self.old) }
@@ -204,7 +218,7 @@ impl<S: TextStore> Editor<S> {
 
     /// A step of a byte that stays at the open prompt.
     #[tactic(auto, using(crate::proofs::Steps::taken))]
-    fn take_step(&mut self, step: Step) -> Result<Request, Fault>
+    fn take_step(&mut self, step: Step) -> Result<Request, OutOfMemory>
         ensures { spec.StepTaken step self.old self.old self.new result }
     {
         match step {
@@ -214,7 +228,7 @@ impl<S: TextStore> Editor<S> {
     }
 
     /// A byte that leaves the search that is open.
-    fn leave(&mut self, byte: u8) -> Result<Request, Fault>
+    fn leave(&mut self, byte: u8) -> Result<Request, OutOfMemory>
         ensures { (step : Step) × (read : Dialogue)
             × spec.IsRead byte Step.Leave self.old.talk step read
             × spec.StepTaken step self.old (record self.old { talk = read }) self.new result }
@@ -230,7 +244,7 @@ impl<S: TextStore> Editor<S> {
 
     /// The step of a byte that left a search.
     #[tactic(auto, using(crate::proofs::Steps::taken))]
-    fn leave_by(&mut self, search: Search, step: Step) -> Result<Request, Fault>
+    fn leave_by(&mut self, search: Search, step: Step) -> Result<Request, OutOfMemory>
         requires { self.old.talk.prompt ≡ None }
         ensures { spec.StepTaken step (spec.with_search search self.old)
             (spec.with_search_accepted search self.old) self.new result }
@@ -245,7 +259,7 @@ impl<S: TextStore> Editor<S> {
         }
     }
 
-    fn leave_plainly(&mut self, search: Search, step: Step) -> Result<Request, Fault>
+    fn leave_plainly(&mut self, search: Search, step: Step) -> Result<Request, OutOfMemory>
         requires { self.old.talk.prompt ≡ None }
         ensures left { let old = spec.with_search_accepted search self.old in
             IfOk result (spec.Ended (plain.plain_step step (scene_of old.work)) old self.new) }
@@ -267,9 +281,9 @@ impl<S: TextStore> Editor<S> {
     /// prompt is open a command runs in the current buffer; at an open prompt the answer, the search
     /// or query-replace goes on. A byte that leaves a search does what it does without one.
     ///
-    /// The only fault is `Memory`: nothing changed then, but that the key sequence that had begun is
+    /// Out of memory is the only fault: nothing changed then, but that the key sequence that had begun is
     /// forgotten.
-    pub fn press(&mut self, byte: u8) -> Result<Request, Fault>
+    pub fn press(&mut self, byte: u8) -> Result<Request, OutOfMemory>
         ensures pressed { spec.Pressed byte self.old self.new result }
         ensures refused { OnErr result (self.new ≡ spec.ran_out self.old) }
     {

@@ -33,7 +33,7 @@ fn message_of_port(fault: PortFault) -> Message
 {
     match fault {
         PortFault::File => Message::FileFault,
-        PortFault::Memory => Message::Refused(Notice::Memory),
+        PortFault::Memory(memory) => Message::Refused(Notice::Memory(memory)),
     }
 }
 
@@ -48,11 +48,11 @@ fn message_of_load(fault: LoadFault) -> Message
             Message::RefusedLine(line, refusal)
         }
         LoadFault::Log(
-            ReceiveFault::Cut | ReceiveFault::Count | ReceiveFault::Read | ReceiveFault::Memory,
+            ReceiveFault::Cut | ReceiveFault::Count | ReceiveFault::Read | ReceiveFault::Memory(_),
         ) => Message::FileFault,
         LoadFault::NotText => Message::NotText,
         LoadFault::Store(_) => Message::BufferFull,
-        LoadFault::Memory => Message::Refused(Notice::Memory),
+        LoadFault::Memory(memory) => Message::Refused(Notice::Memory(memory)),
     }
 }
 
@@ -64,9 +64,9 @@ fn message_of_exchange(fault: ExchangeFault) -> Message
         ExchangeFault::Save(fault) => message_of_port(fault),
         ExchangeFault::Link(LinkFault::Socket) => Message::SocketFault,
         ExchangeFault::Link(LinkFault::NoPort) => Message::NoPort,
-        ExchangeFault::Link(LinkFault::Memory) => Message::Refused(Notice::Memory),
+        ExchangeFault::Link(LinkFault::Memory(memory)) => Message::Refused(Notice::Memory(memory)),
         ExchangeFault::Send(SendFault::Write) => Message::SocketFault,
-        ExchangeFault::Send(SendFault::Memory) => Message::Refused(Notice::Memory),
+        ExchangeFault::Send(SendFault::Memory(memory)) => Message::Refused(Notice::Memory(memory)),
         ExchangeFault::Receive(ReceiveFault::Line(line, fault)) => Message::BadLine(line, fault),
         ExchangeFault::Receive(ReceiveFault::Refused(line, refusal)) => {
             Message::RefusedLine(line, refusal)
@@ -74,7 +74,9 @@ fn message_of_exchange(fault: ExchangeFault) -> Message
         ExchangeFault::Receive(ReceiveFault::Cut) => Message::Cut,
         ExchangeFault::Receive(ReceiveFault::Count) => Message::WrongCount,
         ExchangeFault::Receive(ReceiveFault::Read) => Message::SocketFault,
-        ExchangeFault::Receive(ReceiveFault::Memory) => Message::Refused(Notice::Memory),
+        ExchangeFault::Receive(ReceiveFault::Memory(memory)) => {
+            Message::Refused(Notice::Memory(memory))
+        }
     }
 }
 

@@ -1,7 +1,7 @@
 -- Where memory was refused, a report is refused for it.
 use Rattle.std.proofs.Common.{◌≡◌, ◌≢◌, ℕ, Bool, true, false, List, [], ◌∷◌, ◌++◌, refl, ap, ◌∙◌, subst, inl, inr}
 use Rattle.std.specs.Prelude.{◌==◌, if◌then◌else◌}
-use Rattle.rga_lines.specs.declared.fault.LineFault.TheVariants as fault
+use Rattle.rga_lines.specs.Memory.{LineMemory}
 use Rattle.mg_events.specs.declared.reader.Phase.TheVariants.{Keys, Report, Dropping}
 use Rattle.mg_events.specs.declared.reader.Event.{Event}
 use Rattle.mg_events.specs.declared.reader.Event.TheVariants.{Key, Line, Refused, Nothing}
@@ -15,20 +15,20 @@ none_behind (Refused f) next more h = h.1
 none_behind Nothing next more h = h
 
 abbrev short_of_memory : Reading
-short_of_memory = dropping fault.Memory
+short_of_memory = dropping LineMemory
 
 -- a report that is dropped for want of memory is refused for it, or is still dropped
 abbrev Shows : List ℕ → Type 0
 Shows bs = (ts : List Told) (left : Reading) → Leads short_of_memory bs ts left → HasNoMemory ts → left ≢ short_of_memory → ⊥
 
 abbrev dropped : Bool → Read
-dropped x = if x then reads (reading Keys []) (Refused fault.Memory) else reads short_of_memory Nothing
+dropped x = if x then reads (reading Keys []) (Refused LineMemory) else reads short_of_memory Nothing
 
 shows_behind : (x : Bool) (bs : List ℕ) (next left : Reading) (more ts : List Told) → Shows bs → next ≡ (dropped x).left → ts ≡ told_by (dropped x).event next ++ more
     → Leads next bs more left → HasNoMemory ts → left ≢ short_of_memory → ⊥
 shows_behind true bs next left more ts later is e leads none other =
     let P : List Told → Type 0 = HasNoMemory in
-    let all : HasNoMemory (told_by (Refused fault.Memory) next ++ more) = subst P e none in
+    let all : HasNoMemory (told_by (Refused LineMemory) next ++ more) = subst P e none in
     all.0 refl
 shows_behind false bs next left more ts later is e leads none other =
     let P : List Told → Type 0 = HasNoMemory in
@@ -36,7 +36,7 @@ shows_behind false bs next left more ts later is e leads none other =
     later more left (subst Q is leads) (subst P e none) other
 
 no_growth : (b : ℕ) → Grows short_of_memory b → ⊥
-no_growth b g = let e : Dropping fault.Memory ≡ Report = g.0 in cc
+no_growth b g = let e : Dropping LineMemory ≡ Report = g.0 in cc
 
 shows : (bs : List ℕ) → Shows bs
 shows [] ts left leads none other = other leads.1

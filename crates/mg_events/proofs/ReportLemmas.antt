@@ -10,6 +10,7 @@ use Rattle.serde_json.specs.Events.{members_len}
 use Rattle.serde_json.specs.Read.{read}
 use Rattle.serde_json.specs.Find.{get_member, as_str}
 use Rattle.rga_lines.specs.declared.fault.LineFault.TheVariants as fault
+use Rattle.rga_lines.specs.Memory.{LineMemory}
 use Rattle.rga_lines.specs.Table as table
 use Rattle.rga_lines.specs.Table.{AnyReading, value_line, text_line, any_line_at}
 use Rattle.mg_events.specs.Faults.{ReportKind, paste_report, splice_report, size_report, places_report, rest_report, kinds, kind_among}
@@ -102,19 +103,19 @@ line_other bytes other = parts_other (nat_lt 65536 (length bytes)) (is_utf8 byte
 
 -- ---- what was said of the bytes as a line of operations
 
-pub other_said : (bytes : List ℕ) (said : AnyReading) (r : ReportReading) → (said ≢ Err fault.Memory → said ≡ any_line_at bytes) → said ≢ of_other_kind
-    → r ≡ operations_report said → r ≢ Err fault.Memory → r ≡ report_at bytes
+pub other_said : (bytes : List ℕ) (said : AnyReading) (r : ReportReading) → (said ≢ Err LineMemory → said ≡ any_line_at bytes) → said ≢ of_other_kind
+    → r ≡ operations_report said → r ≢ Err LineMemory → r ≡ report_at bytes
 other_said bytes said r exact other is no_memory =
     let known : said ≡ any_line_at bytes = exact (λ e. no_memory (is ∙ ap operations_report e)) in
     is ∙ ap operations_report known ∙ sym (line_other bytes (λ e. other (known ∙ e)))
 
 -- ---- what the value says
 
-pub is_short : (bytes : List ℕ) (said : AnyReading) → (said ≢ Err fault.Memory → said ≡ any_line_at bytes) → said ≡ of_other_kind → length bytes ≤ 65536
+pub is_short : (bytes : List ℕ) (said : AnyReading) → (said ≢ Err LineMemory → said ≡ any_line_at bytes) → said ≡ of_other_kind → length bytes ≤ 65536
 unfolding any_line_at
 is_short bytes said exact is = by (nat_lt 65536 (length bytes)) refl (sym (exact (λ m. kind_is_other (sym is ∙ m))) ∙ is)
   where
-    kind_is_other : of_other_kind ≡ Err fault.Memory → ⊥
+    kind_is_other : of_other_kind ≡ Err LineMemory → ⊥
     kind_is_other e = cc
 
     by : (b : Bool) → nat_lt 65536 (length bytes) ≡ b → line_by b (is_utf8 bytes) (read bytes) ≡ Err fault.Kind → length bytes ≤ 65536

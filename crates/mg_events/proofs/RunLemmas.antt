@@ -7,6 +7,7 @@ use Rattle.rga_lines.specs.Runs.{Stretch, IsRun, IsDeletionRun}
 use Rattle.rga_lines.specs.declared.deletion_run.DeletionRun.{DeletionRun}
 use Rattle.rga_lines.specs.declared.line.Line.TheVariants as line
 use Rattle.rga_lines.specs.declared.fault.LineFault.TheVariants as fault
+use Rattle.rga_lines.specs.Memory.{LineMemory}
 use Rattle.serde_json.specs.Find.{get}
 use Rattle.rga_lines.specs.Table.{AnyReading, number_at, text_at, value_line, any_line_at}
 use Rattle.rga_lines.proofs.ReadingLemmas.{any_run, any_deletions}
@@ -69,7 +70,7 @@ sound_report : (bytes : List ℕ) → IsSound (report_at bytes)
 unfolding any_line_at report_at
 sound_report bytes = sound_parts (nat_lt 65536 (length bytes)) (is_utf8 bytes) (read bytes) (runs_by bytes)
 
-pub read_is_sound : (bytes : List ℕ) (r : ReportReading) → (r ≢ Err fault.Memory → r ≡ report_at bytes) → IfOk r HasSoundRun
+pub read_is_sound : (bytes : List ℕ) (r : ReportReading) → (r ≢ Err LineMemory → r ≡ report_at bytes) → IfOk r HasSoundRun
 read_is_sound bytes (Ok said) exact =
     let is : Ok said ≡ report_at bytes = exact (λ e. cc) in
     let sound : IsSound (Ok said) = subst IsSound (sym is) (sound_report bytes) in

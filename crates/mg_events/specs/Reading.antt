@@ -2,6 +2,7 @@
 use Rattle.std.specs.Prelude.{◌≡◌, ℕ, ◌==◌, Bool, true, false, nat_lt, if◌then◌else◌, List, [], ◌∷◌, ◌++◌, length, ◌⊎◌, ⊤, ◌≢◌}
 use Rattle.rga_lines.specs.declared.fault.LineFault.{LineFault}
 use Rattle.rga_lines.specs.declared.fault.LineFault.TheVariants as fault
+use Rattle.rga_lines.specs.Memory.{LineMemory}
 use Rattle.mg_events.specs.declared.reader.Phase.{Phase}
 use Rattle.mg_events.specs.declared.reader.Phase.TheVariants.{Keys, Report, Dropping}
 use Rattle.mg_events.specs.declared.reader.Event.{Event}
@@ -62,7 +63,7 @@ Grows r b = (r.phase ≡ Report) × ((line_step r b).left ≡ reading Report (r.
 
 -- What a byte leaves: what the step says; or where a line is to grow, memory is refused, and the rest is dropped.
 abbrev pub Leaves : Reading → ℕ → Reading → Type 0
-Leaves r b left = (left ≡ (step r b).left) ⊎ (Grows r b × (left ≡ dropping fault.Memory))
+Leaves r b left = (left ≡ (step r b).left) ⊎ (Grows r b × (left ≡ dropping LineMemory))
 
 -- a report is begun
 abbrev pub is_in_report : Phase → Bool
@@ -108,7 +109,7 @@ Leads r (b ∷ bs) ts left =
 abbrev pub IsNoMemory : Told → Type 0
 IsNoMemory (key b) = ⊤
 IsNoMemory (report line) = ⊤
-IsNoMemory (refused e) = e ≢ fault.Memory
+IsNoMemory (refused e) = e ≢ LineMemory
 
 -- no report is refused for want of memory
 abbrev pub HasNoMemory : List Told → Type 0

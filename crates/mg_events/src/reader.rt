@@ -118,8 +118,8 @@ impl Reader {
             self.drop_rest(LineFault::Long);
             return Event::Nothing;
         }
-        if self.line.push(byte).is_err() {
-            self.drop_rest(LineFault::Memory);
+        if let Err(failed) = self.line.push(byte) {
+            self.drop_rest(LineFault::from(failed));
         }
         Event::Nothing
     }

@@ -1,11 +1,12 @@
 //! What the bytes of a report's line say.
 ghost use Rattle.std.specs.Prelude.{◌≡◌, ◌≢◌, ◌<◌, length, Err, IfOk};
-ghost use Rattle.rga_lines.specs.declared.fault.LineFault.TheVariants.{Memory, Long};
+ghost use Rattle.rga_lines.specs.declared.fault.LineFault.TheVariants.{Long};
+ghost use Rattle.rga_lines.specs.Memory.{LineMemory as Memory};
 ghost use Rattle.mg_events.specs.Reports.{report_at, HasSoundRun};
 
 use crate::report::Report;
 use crate::values::{operations_report, report_of};
-use rga_lines::{LineFault, read_any};
+use rga_lines::{LineFault, of_json, read_any};
 use serde_json::Value;
 use std::alloc::Global;
 
@@ -47,8 +48,10 @@ pub fn read_report(alloc: Global, line: &[u8]) -> Result<Report, LineFault>
         Err(fault) => match fault {
             LineFault::Kind => match Value::from_slice(alloc, line) {
                 Ok(value) => report_of(alloc, &value),
-                Err(e) if e.is_memory() => Err(LineFault::Memory),
-                Err(_) => Err(LineFault::Json),
+                Err(error) => match of_json(&error) {
+                    Some(memory) => Err(LineFault::Memory(memory)),
+                    None => Err(LineFault::Json),
+                },
             },
             _ => Err(fault),
         },

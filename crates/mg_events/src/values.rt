@@ -3,7 +3,7 @@ ghost use Rattle.std.specs.Prelude.{◌≡◌, ◌≢◌, codes, IfOk, IfErr, Er
 ghost use Rattle.serde_json.specs.View.{items_view, view};
 ghost use Rattle.serde_json.specs.Find.{get};
 ghost use Rattle.rga_lines.specs.Table.{value_line};
-ghost use Rattle.rga_lines.specs.declared.fault.LineFault.TheVariants.{Memory};
+ghost use Rattle.rga_lines.specs.Memory.{LineMemory as Memory};
 ghost use Rattle.mg_events.specs.Reports as spec;
 
 use crate::report::{Places, Report};

@@ -354,7 +354,7 @@ save_answered held b s t h m = by (has_unsaved b) b.text_waits refl m
 
 pub save_failed_at_log : (fault : PortFault) (held : Content) (b : OpenState) (s t : Held) → IsLogged held b (own_log b s) → MayLead (refusals fault (log_call b)) s t → IsFurther held b (own_log b t)
 save_failed_at_log File held b s t h (v, first, last) = subst (IsFurther held b) (sym (nothing_called b v t last)) (log_refused held b s v h first)
-save_failed_at_log Memory held b s t h last = subst (IsFurther held b) (sym (nothing_called b s t last)) (stays held b (own_log b s) h)
+save_failed_at_log (Memory _) held b s t h last = subst (IsFurther held b) (sym (nothing_called b s t last)) (stays held b (own_log b s) h)
 
 pub save_failed_at_text : (fault : PortFault) (held : Content) (b : OpenState) (s t : Held) → IsLogged held b (own_log b s) → MayLead (log_calls b ++ refusals fault (text_call b)) s t → IsLogged b.buffer.content (logged b) (own_log b t)
 save_failed_at_text fault held b s t h m = by (has_unsaved b) fault refl m
@@ -362,11 +362,11 @@ save_failed_at_text fault held b s t h m = by (has_unsaved b) fault refl m
     by : (u : Bool) (fault : PortFault) → has_unsaved b ≡ u → MayLead (cond u (log_call b ∷ []) [] ++ refusals fault (text_call b)) s t → IsLogged b.buffer.content (cond u (written b) b) (own_log b t)
     by true File e (r, first, (v, second, last)) =
         subst (IsLogged b.buffer.content (written b)) (sym (nothing_called b v t last ∙ text_refused b r v second)) (log_answered held b s r h first)
-    by true Memory e (r, first, last) =
+    by true (Memory _) e (r, first, last) =
         subst (IsLogged b.buffer.content (written b)) (sym (nothing_called b r t last)) (log_answered held b s r h first)
     by false File e (v, second, last) =
         subst (IsLogged b.buffer.content b) (sym (nothing_called b v t last ∙ text_refused b s v second)) (all_held held b (own_log b s) h e)
-    by false Memory e last =
+    by false (Memory _) e last =
         subst (IsLogged b.buffer.content b) (sym (nothing_called b s t last)) (all_held held b (own_log b s) h e)
 
 -- the text of the buffer is put where anything was changed
@@ -442,4 +442,4 @@ refused_log held b s t h none m = by b.whole refl m
 -- where the log was not made, the files are as they were; else it has all
 pub text_stays : (fault : PortFault) (held : Content) (b : OpenState) (s t : Held) → IsLogged held b (s b.buffer.name).log → (s b.buffer.name).log ≡ None → MayLead (refusals fault (log_call b)) s t → Outcome b (s b.buffer.name) (t b.buffer.name)
 text_stays File held b s t h none (v, first, last) = subst (Outcome b (s b.buffer.name)) (sym (last b.buffer.name)) (refused_log held b s v h none first)
-text_stays Memory held b s t h none last = inl (last b.buffer.name)
+text_stays (Memory _) held b s t h none last = inl (last b.buffer.name)

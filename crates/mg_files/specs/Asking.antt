@@ -4,6 +4,7 @@ use Rattle.rga_ops.specs.Content.{Content}
 use Rattle.rga_exchange.specs.Counting.{Calls, CountsAs, OnBytes, WritesFront}
 use Rattle.rga_exchange.specs.declared.fault.ReceiveFault.{ReceiveFault}
 use Rattle.rga_exchange.specs.declared.fault.ReceiveFault.TheVariants as receive
+use Rattle.rga_exchange.specs.Memory.{ReceiveMemory}
 use Rattle.rga_exchange.specs.declared.fault.SendFault.{SendFault}
 use Rattle.rga_exchange.specs.declared.fault.SendFault.TheVariants as send
 use Rattle.rga_brief.specs.Summary.{Summary, IsSummary}
@@ -34,7 +35,7 @@ module _ {L : Type 0} (remaining : L → Option (List ℕ)) where
   -- What the peer knows was heard. However the reads cut the bytes, they lead to what all of them lead to, and no read
   -- follows the one that brought the end. `Read` is answered exactly where a call of the link failed.
   pub record LearnsOver (old new : Calls L) (answer : Result Summary ReceiveFault) : Type 0 where
-    pub outcome : answer ≢ Err receive.Read → answer ≢ Err receive.Memory → OnBytes remaining old (λ bytes. summary_heard bytes ≡ answer)
+    pub outcome : answer ≢ Err receive.Read → answer ≢ Err ReceiveMemory → OnBytes remaining old (λ bytes. summary_heard bytes ≡ answer)
     pub last : OnOk answer (ReadsToBlock remaining old new)
     pub device : CountsAs receive.Read answer old new
 

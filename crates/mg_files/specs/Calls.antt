@@ -38,7 +38,7 @@ found_call name files = record (load_call name) { found = Some files }
 -- what is told of a call with this fault: memory was wanting before the call was made
 abbrev pub refusals : PortFault → Call → List Call
 refusals File c = refused c ∷ []
-refusals Memory c = []
+refusals (Memory _) c = []
 
 -- what is told of a call that is answered so
 abbrev pub told : {A : Type 0} → Result A PortFault → Call → List Call
@@ -54,7 +54,7 @@ load_told (Err fault) name = refusals fault (load_call name)
 abbrev pub link_refusals : LinkFault → Call → List Call
 link_refusals link.Socket c = refused c ∷ []
 link_refusals link.NoPort c = refused c ∷ []
-link_refusals link.Memory c = []
+link_refusals (link.Memory _) c = []
 
 abbrev pub link_told : {A : Type 0} → Result A LinkFault → Call → List Call
 link_told (Ok a) c = c ∷ []
@@ -68,11 +68,11 @@ Adds old new more = IfSome old (λ told. new ≡ Some (told ++ more))
 abbrev pub failures_after : {A : Type 0} → Result A PortFault → ℕ → ℕ
 failures_after (Ok a) n = n
 failures_after (Err File) n = one_more n
-failures_after (Err Memory) n = n
+failures_after (Err (Memory _)) n = n
 
 -- the same of a call for a link
 abbrev pub failures_after_link : {A : Type 0} → Result A LinkFault → ℕ → ℕ
 failures_after_link (Ok a) n = n
 failures_after_link (Err link.Socket) n = one_more n
 failures_after_link (Err link.NoPort) n = n
-failures_after_link (Err link.Memory) n = n
+failures_after_link (Err (link.Memory _)) n = n

@@ -12,3 +12,4 @@ pub mod Files
 pub mod Saving
 pub mod Faults
 pub mod Loading
+pub mod Memory

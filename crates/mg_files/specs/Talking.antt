@@ -11,6 +11,7 @@ use Rattle.rga_exchange.specs.Taking.{intake, HasTakenLines}
 use Rattle.rga_exchange.specs.declared.taking.Form.TheVariants.{Exchange}
 use Rattle.rga_exchange.specs.declared.fault.ReceiveFault.{ReceiveFault}
 use Rattle.rga_exchange.specs.declared.fault.ReceiveFault.TheVariants as receive
+use Rattle.rga_exchange.specs.Memory.{ReceiveMemory}
 use Rattle.rga_exchange.specs.declared.fault.SendFault.{SendFault}
 use Rattle.rga_exchange.specs.declared.fault.SendFault.TheVariants as send
 use Rattle.rga_brief.specs.Summary.{Summary, missing}
@@ -47,7 +48,7 @@ pub record SendsOver {L : Type 0} (peer : Option Summary) (contents : L → Opti
 -- `Read` is answered exactly where a call of the link failed.
 pub record HearsOver {L : Type 0} (remaining : L → Option (List ℕ)) (old new : Calls L) (answer : Result ℕ ReceiveFault) (b d : OpenState) : Type 0 where
   pub lines : HasTakenLines Exchange remaining old new (intake (λ (s : State). s.limit) (λ (s : State). s.content) TakesOperations b.buffer d.buffer)
-  pub outcome : answer ≢ Err receive.Read → answer ≢ Err receive.Memory → OnBytes remaining old (λ bytes. exchange_outcome b.buffer.limit b.buffer.content bytes ≡ (d.buffer.content, answer))
+  pub outcome : answer ≢ Err receive.Read → answer ≢ Err ReceiveMemory → OnBytes remaining old (λ bytes. exchange_outcome b.buffer.limit b.buffer.content bytes ≡ (d.buffer.content, answer))
   pub joined : OnOk answer (OnBytes remaining old (λ bytes. d.buffer.content ≡ join b.buffer.content (content_of (stream_operations bytes))))
   pub device : CountsAs receive.Read answer old new
   pub rest : d ≡ record b { buffer = d.buffer }

@@ -67,8 +67,6 @@ fn say<L: Write>(
     ensures { (c : Content) → IfOk lines (λ lines. IsTold lines.items c)
         → SaysOver L.contents writer.old writer.new result c }
 {
-    let Ok(lines) = lines else {
-        return Err(SendFault::Memory);
-    };
+    let lines = lines?;
     send_lines(&lines, writer)
 }

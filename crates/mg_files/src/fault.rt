@@ -1,12 +1,12 @@
 //! Why nothing was loaded, or not all exchanged.
 ghost use Rattle.std.specs.Prelude.{◌≡◌};
 ghost use Rattle.mg_files.specs.Faults.{load_fault, store_fault};
-ghost use Rattle.mg_files.specs.declared.fault.LoadFault.TheVariants.{Memory};
+ghost use Rattle.mg_files.specs.Memory.{LoadMemory as Memory};
 ghost use Rattle.mg_files.specs.declared.fault.ExchangeFault.TheVariants.{Link, Receive, Save, Send};
 
 use crate::port::{LinkFault, PortFault};
 use rga_exchange::{ReceiveFault, SendFault};
-use rga_ops::Refusal;
+use rga_ops::{OutOfMemory, Refusal};
 use std::alloc::AllocError;
 
 /// Why nothing was loaded.
@@ -20,7 +20,7 @@ pub enum LoadFault {
     /// more characters than the limit. Never `Memory`.
     Store(Refusal),
     /// A growth of memory was refused.
-    Memory,
+    Memory(OutOfMemory),
 }
 
 impl From<ReceiveFault> for LoadFault {
@@ -28,7 +28,9 @@ impl From<ReceiveFault> for LoadFault {
 
     fn from(e: ReceiveFault) -> LoadFault {
         match e {
-            ReceiveFault::Read | ReceiveFault::Memory => LoadFault::Memory,
+            ReceiveFault::Memory(memory) => LoadFault::Memory(memory),
+            // The bytes of a log are in memory, whose reading does not fail.
+            ReceiveFault::Read => LoadFault::Memory(OutOfMemory::from(AllocError)),
             _ => LoadFault::Log(e),
         }
     }
@@ -39,17 +41,25 @@ impl From<Refusal> for LoadFault {
 
     fn from(e: Refusal) -> LoadFault {
         match e {
-            Refusal::Memory(_) => LoadFault::Memory,
+            Refusal::Memory(memory) => LoadFault::Memory(memory),
             _ => LoadFault::Store(e),
         }
+    }
+}
+
+impl From<OutOfMemory> for LoadFault {
+    ghost from_gives = { λ _ fault. fault ≡ Memory };
+
+    fn from(memory: OutOfMemory) -> LoadFault {
+        LoadFault::Memory(memory)
     }
 }
 
 impl From<AllocError> for LoadFault {
     ghost from_gives = { λ _ fault. fault ≡ Memory };
 
-    fn from(_: AllocError) -> LoadFault {
-        LoadFault::Memory
+    fn from(refused: AllocError) -> LoadFault {
+        LoadFault::Memory(OutOfMemory::from(refused))
     }
 }
 

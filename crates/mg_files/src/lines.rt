@@ -3,12 +3,11 @@ ghost use Rattle.std.specs.Prelude.{◌≡◌, Err, IfOk, OnOk};
 ghost use Rattle.rga_exchange.specs.Counting.{CountsAs, Writes, WritesFront, WritesNothing};
 ghost use Rattle.rga_exchange.specs.RunLines.{runs_text};
 ghost use Rattle.mg_files.specs.Saving.{appended_text};
-ghost use Rattle.mg_files.specs.declared.port.PortFault.TheVariants.{Memory};
+ghost use Rattle.rga_exchange.specs.Memory.{SendMemory as Memory};
 
-use crate::port::PortFault;
 use rga_exchange::{Counted, SendFault, append_log, append_runs};
-use rga_ops::Op;
-use std::alloc::{AllocError, Global};
+use rga_ops::{Op, OutOfMemory};
+use std::alloc::Global;
 use std::io::Write;
 use std::marker::Model;
 
@@ -44,48 +43,45 @@ impl<'a> LogLines<'a> {
     }
 
     /// Writes the lines, where each stands by itself in blocks of some 64 KiB. `Memory` comes before
-    /// anything is written, and `File` exactly where a call of the device failed.
-    pub fn write_to<W: Write>(&self, writer: &mut Counted<W>) -> Result<(), PortFault>
+    /// anything is written, and `Write` exactly where a call of the device failed.
+    pub fn write_to<W: Write>(&self, writer: &mut Counted<W>) -> Result<(), SendFault>
         ensures written { OnOk result (Writes W.contents writer.old writer.new self.now) }
         ensures begun { WritesFront W.contents writer.old writer.new self.now }
         ensures memory { result ≡ Err Memory → WritesNothing W.contents writer.old writer.new }
-        ensures device { CountsAs PortFault.File result writer.old writer.new }
+        ensures device { CountsAs SendFault.Write result writer.old writer.new }
     {
         if self.runs && self.ops.len() > MAX_SINGLE {
             return write_runs(self.alloc, self.ops, writer);
         }
         match append_log(self.alloc, self.ops, writer) {
             Ok(_) => Ok(()),
-            Err(SendFault::Write) => Err(PortFault::File),
-            Err(SendFault::Memory) => Err(PortFault::Memory),
+            Err(fault) => Err(fault),
         }
     }
 
-    /// The lines in memory. `AllocError`, if a growth of memory was refused, is the only error.
-    pub fn to_vec(&self) -> Result<Vec<u8>, AllocError>
+    /// The lines in memory. Out of memory is the only fault.
+    pub fn to_vec(&self) -> Result<Vec<u8>, OutOfMemory>
         ensures ok { IfOk result (λ bytes. bytes.items ≡ self.now) }
     {
         let mut writer = Counted::new(Vec::new(self.alloc));
-        let Ok(()) = self.write_to(&mut writer) else {
-            return Err(AllocError);
-        };
-        Ok(writer.into_inner())
+        match self.write_to(&mut writer) {
+            Ok(()) => Ok(writer.into_inner()),
+            Err(fault) => Err(fault.in_memory()),
+        }
     }
 }
 
 /// Writes the lines of operations in runs, once all are made.
-fn write_runs<W: Write>(alloc: Global, ops: &[Op], writer: &mut Counted<W>) -> Result<(), PortFault>
+fn write_runs<W: Write>(alloc: Global, ops: &[Op], writer: &mut Counted<W>) -> Result<(), SendFault>
     ensures written { OnOk result (Writes W.contents writer.old writer.new (runs_text ops.now)) }
     ensures begun { WritesFront W.contents writer.old writer.new (runs_text ops.now) }
     ensures memory { result ≡ Err Memory → WritesNothing W.contents writer.old writer.new }
-    ensures device { CountsAs PortFault.File result writer.old writer.new }
+    ensures device { CountsAs SendFault.Write result writer.old writer.new }
 {
     let mut lines = Counted::new(Vec::new(alloc));
-    let Ok(_) = append_runs(alloc, ops, &mut lines) else {
-        return Err(PortFault::Memory);
-    };
-    let Ok(()) = writer.write_all(&lines.into_inner()) else {
-        return Err(PortFault::File);
-    };
+    if let Err(fault) = append_runs(alloc, ops, &mut lines) {
+        return Err(SendFault::Memory(fault.in_memory()));
+    }
+    writer.write_all(&lines.into_inner())?;
     Ok(())
 }

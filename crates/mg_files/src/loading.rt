@@ -5,7 +5,8 @@ ghost use Rattle.rga_doc.specs.Document.{document};
 ghost use Rattle.mg_files.specs.Files.{Files, text_bytes};
 ghost use Rattle.mg_files.specs.Loading.{load_outcome, opened_and_end, opening_answer, MayWantMemory, log_loaded, text_loaded};
 ghost use Rattle.std.specs.Str.{is_utf8};
-ghost use Rattle.mg_files.specs.declared.fault.LoadFault.TheVariants.{Memory, NotText};
+ghost use Rattle.mg_files.specs.declared.fault.LoadFault.TheVariants.{NotText};
+ghost use Rattle.mg_files.specs.Memory.{LoadMemory as Memory};
 
 use crate::fault::LoadFault;
 use crate::port::Found;

@@ -1,9 +1,11 @@
 //! Where the files of buffers are, and peers.
 ghost use Rattle.std.specs.Prelude.{◌≡◌, ℕ, List, [], ◌∷◌, Option, IfOk, OnErr};
 ghost use Rattle.mg_files.specs.Links.{KeepsBytes};
+ghost use Rattle.mg_files.specs.Memory.{PortMemory, LinkMemory};
 ghost use Rattle.mg_files.specs.Calls.{Call, call, link_call, Adds, told, load_told, link_told, failures_after, failures_after_link};
 
 use crate::lines::LogLines;
+use rga_ops::OutOfMemory;
 use std::alloc::AllocError;
 use std::io::{Read, Write};
 use std::marker::Model;
@@ -14,17 +16,22 @@ pub enum PortFault {
     /// A file could not be read or written.
     File,
     /// A growth of memory was refused.
-    Memory,
+    Memory(OutOfMemory),
+}
+
+impl From<OutOfMemory> for PortFault {
+    ghost from_gives = { λ _ fault. fault ≡ PortMemory };
+
+    fn from(memory: OutOfMemory) -> PortFault {
+        PortFault::Memory(memory)
+    }
 }
 
 impl From<AllocError> for PortFault {
-    ghost use Rattle.std.specs.Prelude.{◌≡◌};
-    ghost use Rattle.mg_files.specs.declared.port.PortFault.TheVariants.{Memory};
+    ghost from_gives = { λ _ fault. fault ≡ PortMemory };
 
-    ghost from_gives = { λ _ fault. fault ≡ Memory };
-
-    fn from(_: AllocError) -> PortFault {
-        PortFault::Memory
+    fn from(refused: AllocError) -> PortFault {
+        PortFault::Memory(OutOfMemory::from(refused))
     }
 }
 
@@ -36,17 +43,14 @@ pub enum LinkFault {
     /// There is nowhere to meet a peer.
     NoPort,
     /// A growth of memory was refused.
-    Memory,
+    Memory(OutOfMemory),
 }
 
 impl From<AllocError> for LinkFault {
-    ghost use Rattle.std.specs.Prelude.{◌≡◌};
-    ghost use Rattle.mg_files.specs.declared.port.LinkFault.TheVariants.{Memory};
+    ghost from_gives = { λ _ fault. fault ≡ LinkMemory };
 
-    ghost from_gives = { λ _ fault. fault ≡ Memory };
-
-    fn from(_: AllocError) -> LinkFault {
-        LinkFault::Memory
+    fn from(refused: AllocError) -> LinkFault {
+        LinkFault::Memory(OutOfMemory::from(refused))
     }
 }
 

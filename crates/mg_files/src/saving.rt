@@ -73,9 +73,7 @@ fn write_log<S: TextStore, P: Port>(
     ensures device { P.failures port.new ≡ failures_after result (P.failures port.old) }
 {
     if opened.writes_whole() {
-        let Ok(ops) = opened.buffer.store().ops() else {
-            return Err(PortFault::Memory);
-        };
+        let ops = opened.buffer.store().ops()?;
         let lines = LogLines::new(alloc, false, &ops);
         return port.replace(opened.buffer.name(), &lines);
     }
@@ -95,9 +93,7 @@ fn save_text<S: TextStore, P: Port>(
     ensures links { P.links port.new ≡ P.links port.old }
     ensures device { P.failures port.new ≡ failures_after result (P.failures port.old) }
 {
-    let Ok(text) = opened.buffer.text_string() else {
-        return Err(PortFault::Memory);
-    };
+    let text = opened.buffer.text_string()?;
     port.put_text(opened.buffer.name(), text.as_bytes())?;
     opened.mark_put();
     Ok(())

@@ -71,7 +71,7 @@ have_met a role old new r h told made s t are own now calls more leads =
 loads_spare : (name other : List ℕ) (given : Result Files PortFault) → AllSpare other (load_told given name)
 loads_spare name other (Ok found) = (inr (λ f g e. e), tt)
 loads_spare name other (Err File) = (inr (λ f g e. e), tt)
-loads_spare name other (Err Memory) = tt
+loads_spare name other (Err (Memory _)) = tt
 
 module _ (before made : List Call) (s t : Held) (leads : MayLead made s t) where
   told_spares : (name other : List ℕ) (given : Result Files PortFault) → Adds (Some before) (Some (before ++ made)) (load_told given name) → t other ≡ s other

@@ -12,7 +12,8 @@ use Rattle.mg_editor.specs.Editors.{Editor}
 use Rattle.mg_session.specs.Courses.{is_on, SessionAnswer, session_answer}
 use Rattle.mg_session.specs.Moments.{Known, ToldCalls, seen, StepIf}
 use Rattle.mg_session.specs.declared.course.Course.{Course}
-use Rattle.mg_session.specs.declared.course.Course.TheVariants.{On, Quit, NoKeys, NoMemory}
+use Rattle.mg_session.specs.declared.course.Course.TheVariants.{On, Quit, NoKeys}
+use Rattle.mg_session.specs.Memory.{CourseMemory as NoMemory}
 use Rattle.mg_session.proofs.TakenLaws.{after_step, is_off}
 use Rattle.mg_session.proofs.StandingLaws.{TellsOf, IsFine, is_calm, on_calm, request_calm, calm_fine, calm_tells, whole_tells, begun_tells, AnswerTells, strictly}
 use Rattle.mg_editor.specs.declared.live_saving.Writing.{Writing}

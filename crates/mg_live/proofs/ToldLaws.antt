@@ -10,7 +10,8 @@ use Rattle.mg_buffer.specs.State.{State}
 use Rattle.rga_exchange.specs.Counting.{Calls}
 use Rattle.mg_session.specs.Moments.{Known}
 use Rattle.mg_session.specs.declared.course.Course.{Course}
-use Rattle.mg_session.specs.declared.course.Course.TheVariants.{On, NoScreen, NoMemory}
+use Rattle.mg_session.specs.declared.course.Course.TheVariants.{On, NoScreen}
+use Rattle.mg_session.specs.Memory.{CourseMemory as NoMemory}
 use Rattle.mg_workspace.specs.AtIndex.{state_at}
 use Rattle.mg_workspace.specs.Buffers.{no_buffer}
 use Rattle.mg_workspace.specs.Names.{buffer_named, is_named}

@@ -2,7 +2,7 @@
 use Rattle.std.specs.Prelude.{ℕ, List, codes}
 use Rattle.rga_ops.specs.RefusalName.{refusal_name}
 use Rattle.rga_lines.specs.FaultName.{fault_name}
-use Rattle.rga_lines.specs.declared.fault.LineFault.TheVariants as line
+use Rattle.rga_lines.specs.Memory.{LineMemory}
 use Rattle.mg_editor.specs.declared.pasting.PasteFault.{PasteFault}
 use Rattle.mg_editor.specs.declared.pasting.PasteFault.TheVariants as paste
 use Rattle.mg_live.specs.declared.fault.ReportFault.{ReportFault}
@@ -21,4 +21,4 @@ report_fault_name Range = codes "Range"
 -- of text that is pasted
 abbrev pub of_paste : PasteFault → ReportFault
 of_paste paste.Busy = Busy
-of_paste paste.Memory = Line line.Memory
+of_paste (paste.Memory _) = Line LineMemory

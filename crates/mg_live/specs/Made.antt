@@ -3,7 +3,7 @@ use Rattle.std.specs.Prelude.{◌≡◌, ◌<◌, ℕ, Bool, false, not, ◌&&�
 use Rattle.rga_ops.specs.declared.op.Op.{Op}
 use Rattle.mg_editor.specs.Editors.{Editor}
 use Rattle.mg_session.specs.declared.course.Course.{Course}
-use Rattle.mg_session.specs.declared.course.Course.TheVariants.{NoMemory}
+use Rattle.mg_session.specs.Memory.{CourseMemory as NoMemory}
 use Rattle.mg_workspace.specs.AtIndex.{state_at}
 use Rattle.mg_workspace.specs.Names.{buffer_named}
 use Rattle.mg_live.specs.States.{Live}

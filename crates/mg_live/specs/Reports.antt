@@ -15,7 +15,7 @@ use Rattle.rga_ops.specs.declared.refusal.Taken.{Taken}
 use Rattle.rga_ops.specs.declared.refusal.Taken.TheVariants.{New}
 use Rattle.rga_lines.specs.Runs.{stretch_operations, run_deletions}
 use Rattle.rga_lines.specs.declared.fault.LineFault.{LineFault}
-use Rattle.rga_lines.specs.declared.fault.LineFault.TheVariants as line
+use Rattle.rga_lines.specs.Memory.{LineMemory}
 use Rattle.mg_events.specs.Reports.{report_at}
 use Rattle.mg_events.specs.declared.report.Report.{Report}
 use Rattle.mg_events.specs.declared.report.Report.TheVariants as report
@@ -26,7 +26,8 @@ use Rattle.mg_editor.specs.LiveTaking.{taking, with_changed}
 use Rattle.mg_editor.specs.Pasting.{Pasted}
 use Rattle.mg_editor.specs.declared.pasting.PasteFault.{PasteFault}
 use Rattle.mg_session.specs.declared.course.Course.{Course}
-use Rattle.mg_session.specs.declared.course.Course.TheVariants.{On, NoMemory}
+use Rattle.mg_session.specs.declared.course.Course.TheVariants.{On}
+use Rattle.mg_session.specs.Memory.{CourseMemory as NoMemory}
 use Rattle.mg_workspace.specs.Actions.{resized_work}
 use Rattle.mg_workspace.specs.AtIndex.{RunsAt, state_at}
 use Rattle.mg_workspace.specs.declared.fault.ActionFault.{ActionFault}
@@ -88,13 +89,13 @@ TakesOthers {A} ops Takes e live verdict f next = elim (live_index live.name e) 
 
 -- there is no memory for the operations of a run
 abbrev pub LacksMemory : Editor → Live → Verdict → Editor → Live → Type 0
-LacksMemory e live verdict f next = (verdict ≡ Err (Line line.Memory)) × (f ≡ e) × (next ≡ live)
+LacksMemory e live verdict f next = (verdict ≡ Err (Line LineMemory)) × (f ≡ e) × (next ≡ live)
 
 -- ---- pasted text, and splices
 
 -- text of a report is held, or it is whole, or it is dropped; want of memory drops it
 abbrev pub Gathers : List ℕ → Bool → Gathered → Gathered → Piece → Type 0
-Gathers text more old new piece = ((new, piece) ≡ gather text more old) ⊎ ((new, piece) ≡ drop_text more line.Memory)
+Gathers text more old new piece = ((new, piece) ≡ gather text more old) ⊎ ((new, piece) ≡ drop_text more LineMemory)
 
 -- The text was pasted, and what it made is noted; or it was not, for that.
 abbrev pub Pastes : List ℕ → Editor → Live → Verdict → Editor → Live → Type 0
@@ -105,7 +106,7 @@ Pastes put e live verdict f next =
     (λ fault. (verdict ≡ Err (of_paste fault)) × (next ≡ live))
 
 abbrev pub splice_fault : ActionFault → ReportFault
-splice_fault action.Memory = Line line.Memory
+splice_fault (action.Memory _) = Line LineMemory
 splice_fault (action.Refused cause.BufferFull) = Refused refusal.Full
 splice_fault (action.Refused cause.IdentifiersUsedUp) = Refused refusal.Clock
 splice_fault (action.Refused _) = Range
@@ -186,7 +187,7 @@ RefusesLine fault live next after = RefusesReport (Line fault) On (counted live)
 -- What a line says is done, or what is wrong with it is told; want of memory too.
 abbrev pub TakesLine : List ℕ → Editor → Live → Editor → Live → Course → Type 0
 TakesLine bytes e live f next after =
-    (r : Result Report LineFault) × (r ≢ Err line.Memory → r ≡ report_at bytes) × MatchResult r
+    (r : Result Report LineFault) × (r ≢ Err LineMemory → r ≡ report_at bytes) × MatchResult r
     (λ said. TakesReport said e (counted live) f next after)
     (λ fault. (f ≡ e) × RefusesReport (Line fault) On (counted live) next after)
 

@@ -16,7 +16,8 @@ use Rattle.mg_editor.specs.Frames.{placed_editor}
 use Rattle.mg_editor.specs.LiveShowing.{live_rows, live_cursor, place_cells, mode_status, IsBufferStatus, IsPromptStatus, IsPointStatus, AreWindowStatuses}
 use Rattle.mg_session.specs.Moments.{Known}
 use Rattle.mg_session.specs.declared.course.Course.{Course}
-use Rattle.mg_session.specs.declared.course.Course.TheVariants.{On, Quit, NoKeys, NoScreen, NoMemory}
+use Rattle.mg_session.specs.declared.course.Course.TheVariants.{On, Quit, NoKeys, NoScreen, NoMemory as OfNoMemory}
+use Rattle.mg_session.specs.Memory.{CourseMemory as NoMemory}
 use Rattle.mg_events.specs.StatusText.{status_text}
 use Rattle.mg_events.specs.declared.status.BufferStatus.{BufferStatus}
 use Rattle.mg_events.specs.declared.status.Saved.{Saved}
@@ -37,7 +38,7 @@ abbrev pub saved_status : Option WriteAnswer → Saved
 saved_status None = Unsaved
 saved_status (Some (Ok u)) = Done
 saved_status (Some (Err port.File)) = File
-saved_status (Some (Err port.Memory)) = Memory
+saved_status (Some (Err (port.Memory _))) = Memory
 
 -- the live buffer, where it is open
 abbrev pub IsLiveStatus : Option ℕ → Editor → Option BufferStatus → Type 0
@@ -121,7 +122,7 @@ can_show On = true
 can_show Quit = true
 can_show NoKeys = false
 can_show NoScreen = false
-can_show NoMemory = false
+can_show (OfNoMemory _) = false
 
 -- Memory was wanting before a frame was drawn, or after it was, or none was to be.
 abbrev pub LeavesUnmade : Bool → Live → Editor → Live → Editor → Type 0

@@ -1,5 +1,5 @@
 //! The ends of blocks: statuses, and logs between them.
-ghost use Rattle.std.specs.Prelude.{◌≡◌, ◌&&◌, ℕ, [], true, IfSome};
+ghost use Rattle.std.specs.Prelude.{◌≡◌, ◌&&◌, ℕ, [], true, IfOk, IfSome};
 ghost use Rattle.rga_exchange.specs.Counting.{Calls};
 ghost use Rattle.rga_exchange.specs.RunLines.{runs_text};
 ghost use Rattle.mg_session.specs.Moments.{Known, ToldCalls, seen, StepIf};
@@ -13,7 +13,7 @@ use mg_editor::{Editor, Writing};
 use mg_files::Port;
 use mg_session::Course;
 use rga_exchange::{Counted, append_runs};
-use rga_ops::Op;
+use rga_ops::{Op, OutOfMemory};
 use rga_store::{Teller, TextStore};
 use std::alloc::Global;
 use std::io::Write;
@@ -116,15 +116,15 @@ fn mark_reported(live: &mut Live)
     }
 }
 
-/// Operations as lines, those in a row that are a run in one. `None` where memory is wanting.
-fn told_lines(alloc: Global, ops: &[Op]) -> Option<Vec<u8>>
-    ensures { IfSome result (λ bytes. bytes.items ≡ runs_text ops.now) }
+/// Operations as lines, those in a row that are a run in one. Out of memory alone.
+fn told_lines(alloc: Global, ops: &[Op]) -> Result<Vec<u8>, OutOfMemory>
+    ensures { IfOk result (λ bytes. bytes.items ≡ runs_text ops.now) }
 {
     let mut writer = Counted::new(Vec::new(alloc));
-    let Ok(_) = append_runs(alloc, ops, &mut writer) else {
-        return None;
-    };
-    Some(writer.into_inner())
+    match append_runs(alloc, ops, &mut writer) {
+        Ok(_) => Ok(writer.into_inner()),
+        Err(fault) => Err(fault.in_memory()),
+    }
 }
 
 /// What was told is told no more, if it was told and the status could be written. Takes no memory.
@@ -149,8 +149,9 @@ fn tell<S: TextStore, W: Write>(
         (moment editor.new calls faults (seen W.contents screen.new) result live.new) }
 {
     let is_told = can_tell(live, editor);
-    let Some(told) = told_lines(live.alloc, told_operations(live, editor)) else {
-        return Course::NoMemory;
+    let told = match told_lines(live.alloc, told_operations(live, editor)) {
+        Ok(told) => told,
+        Err(memory) => return Course::NoMemory(memory),
     };
     let course = show(live, editor, screen, fresh, false, &told, course);
     mark_told(live, is_told, course);
@@ -163,7 +164,7 @@ fn can_show(course: Course) -> bool
 {
     match course {
         Course::On | Course::Quit => true,
-        Course::NoKeys | Course::NoScreen | Course::NoMemory => false,
+        Course::NoKeys | Course::NoScreen | Course::NoMemory(_) => false,
     }
 }
 

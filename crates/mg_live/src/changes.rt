@@ -3,7 +3,7 @@ ghost use Rattle.std.specs.Prelude.{◌≡◌, ◌≤◌, ◌<◌, ◌+◌, ◌-
 ghost use Rattle.mg_live.specs.Changes as spec;
 
 use rga_doc::Characters;
-use rga_ops::Splice;
+use rga_ops::{OutOfMemory, Splice};
 use std::alloc::{AllocError, Global};
 use std::marker::Model;
 
@@ -50,8 +50,8 @@ impl Changes {
     }
 
     /// The text is this now, of which so much is as it was told: where it is another one, a change
-    /// is told. `AllocError` alone, and nothing changes then.
-    pub(crate) fn note(&mut self, text: &[char], kept: Kept) -> Result<(), AllocError>
+    /// is told. Out of memory alone, and nothing changes then.
+    pub(crate) fn note(&mut self, text: &[char], kept: Kept) -> Result<(), OutOfMemory>
         requires { spec.AreKept kept self.old.text text.now }
         ensures noted { OnOk result (self.new ≡ spec.noted text.now self.old) }
         ensures same { OnErr result (self.new ≡ self.old) }
@@ -60,9 +60,7 @@ impl Changes {
             return Ok(());
         };
         self.list.reserve(1)?;
-        let Ok(()) = self.text.make_room(change.put.len()) else {
-            return Err(AllocError);
-        };
+        self.text.make_room(change.put.len())?;
         self.text.replace(change.lo, change.hi, &change.put);
         push_change(&mut self.list, change);
         self.count = self.count.saturating_add(1);

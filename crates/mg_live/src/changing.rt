@@ -1,5 +1,5 @@
 //! How the live buffer's text changed.
-ghost use Rattle.std.specs.Prelude.{◌≡◌, ◌<◌, ℕ, List, length, Some};
+ghost use Rattle.std.specs.Prelude.{◌≡◌, ◌<◌, ℕ, List, length, is_ok, Some};
 ghost use Rattle.rga_ops.specs.Order.{text};
 ghost use Rattle.mg_session.specs.declared.course.Course.TheVariants.{On};
 ghost use Rattle.mg_workspace.specs.AtIndex.{state_at};
@@ -11,7 +11,7 @@ use crate::changes::{Changes, Kept};
 use crate::live::Live;
 use mg_editor::Editor;
 use mg_session::Course;
-use rga_ops::Id;
+use rga_ops::{Id, OutOfMemory};
 use rga_store::TextStore;
 
 /// How far an event reaches in the live buffer's text.
@@ -42,28 +42,27 @@ pub(crate) fn note_changes<S: TextStore>(
     let Some(index) = editor.live_index(live.name.as_slice()) else {
         return course;
     };
-    let Ok(()) = editor.list_at(index) else {
-        return Course::NoMemory;
+    if let Err(memory) = editor.list_at(index) {
+        return Course::NoMemory(memory);
+    }
+    let text = match editor.text_at(index) {
+        Ok(text) => text,
+        Err(memory) => return Course::NoMemory(memory),
     };
-    let Some(text) = editor.text_at(index) else {
-        return Course::NoMemory;
-    };
-    if note(live, text, kept(live, editor, index, reach)) {
-        course
-    } else {
-        Course::NoMemory
+    match note(live, text, kept(live, editor, index, reach)) {
+        Ok(()) => course,
+        Err(memory) => Course::NoMemory(memory),
     }
 }
 
-/// Notes that the text is this one now, of which so much is as it was told. Answers whether there was
-/// memory for it.
-fn note(live: &mut Live, text: &[char], kept: Kept) -> bool
+/// Notes that the text is this one now, of which so much is as it was told. Out of memory alone.
+fn note(live: &mut Live, text: &[char], kept: Kept) -> Result<(), OutOfMemory>
     requires { (c : ToldText) → live.old.changes ≡ Some c → AreKept kept c.text text.now }
-    ensures { spec.NotesText text.now live.old live.new result }
+    ensures { spec.NotesText text.now live.old live.new (is_ok result) }
 {
     match &mut live.changes {
-        Some(changes) => changes.note(text, kept).is_ok(),
-        None => true,
+        Some(changes) => changes.note(text, kept),
+        None => Ok(()),
     }
 }
 
@@ -102,7 +101,7 @@ fn kept_beside<S: TextStore>(changes: &Changes, editor: &Editor<S>, index: usize
         changes.now.text (state_at index editor.now.work).content }
     ensures { AreKept result changes.now.text (text (state_at index editor.now.work).content) }
 {
-    let Some(text) = editor.text_at(index) else {
+    let Ok(text) = editor.text_at(index) else {
         return Kept::NOTHING;
     };
     let count = changes.text_len();

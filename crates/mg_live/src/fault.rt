@@ -55,7 +55,7 @@ impl From<PasteFault> for ReportFault {
     fn from(e: PasteFault) -> ReportFault {
         match e {
             PasteFault::Busy => ReportFault::Busy,
-            PasteFault::Memory => ReportFault::Line(LineFault::Memory),
+            PasteFault::Memory(memory) => ReportFault::Line(LineFault::Memory(memory)),
         }
     }
 }

@@ -1,6 +1,7 @@
 //! Text that comes in several reports.
 ghost use Rattle.std.specs.Prelude.{◌≡◌, ◌⊎◌};
 ghost use Rattle.mg_live.specs.Gathering as spec;
+ghost use Rattle.rga_lines.specs.Memory.{LineMemory};
 
 use mg_plain::Chars;
 use rga_lines::LineFault;
@@ -53,7 +54,7 @@ impl Gathered {
     /// Takes a piece of a text, which more pieces follow or not.
     pub(crate) fn gather(&mut self, piece: &[char], more: bool) -> Piece
         ensures { ((self.new, result) ≡ spec.gather piece.now more self.old)
-            ⊎ ((self.new, result) ≡ spec.drop_text more LineFault.Memory) }
+            ⊎ ((self.new, result) ≡ spec.drop_text more LineMemory) }
     {
         let held = self.text.len();
         if self.dropped || held > MAX_HELD || piece.len() > MAX_HELD - held {
@@ -61,7 +62,7 @@ impl Gathered {
         }
         match self.text.extend_from_slice(piece) {
             Ok(()) => self.pass(more),
-            Err(_) => self.drop_text(more, LineFault::Memory),
+            Err(refused) => self.drop_text(more, LineFault::from(refused)),
         }
     }
 

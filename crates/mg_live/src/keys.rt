@@ -1,5 +1,5 @@
 //! Keys of a live session.
-ghost use Rattle.std.specs.Prelude.{◌≡◌, ◌&&◌, is_some};
+ghost use Rattle.std.specs.Prelude.{◌≡◌, ◌&&◌, is_ok, is_some};
 ghost use Rattle.rga_exchange.specs.Counting.{Calls};
 ghost use Rattle.mg_editor.specs.Editors as editors;
 ghost use Rattle.mg_session.specs.Moments.{Known};
@@ -15,6 +15,7 @@ use mg_editor::{CarryFault, Editor};
 use mg_files::{Port, PortFault};
 use mg_minibuffer::Request;
 use mg_session::{Course, course_behind, press};
+use rga_ops::OutOfMemory;
 use rga_store::{Teller, TextStore};
 
 /// Presses a byte, and carries what it requests. What the press made is to be told, and so is what
@@ -90,13 +91,16 @@ fn keep_saved(live: &mut Live, is_save: bool, answer: &Result<(), CarryFault>)
 }
 
 /// The session goes on as that, if there was memory for both.
-fn go_on(noted: bool, noted_opened: bool, course: Course) -> Course
-    ensures { result ≡ if_memory (noted && noted_opened) course }
+fn go_on(
+    noted: Result<(), OutOfMemory>,
+    noted_opened: Result<(), OutOfMemory>,
+    course: Course,
+) -> Course
+    ensures { result ≡ if_memory (is_ok noted && is_ok noted_opened) course }
 {
-    if noted && noted_opened {
-        course
-    } else {
-        Course::NoMemory
+    match (noted, noted_opened) {
+        (Ok(()), Ok(())) => course,
+        (Err(memory), _) | (Ok(()), Err(memory)) => Course::NoMemory(memory),
     }
 }
 
@@ -107,18 +111,21 @@ fn is_open<S: TextStore>(live: &Live, editor: &Editor<S>) -> bool
     editor.live_index(live.name.as_slice()).is_some()
 }
 
-/// Notes what the load of the live buffer made, if it was opened since. Answers whether there was
-/// memory for it.
-fn note_opened<S: TextStore>(live: &mut Live, editor: &Editor<S>, was_open: bool) -> bool
+/// Notes what the load of the live buffer made, if it was opened since. Out of memory alone.
+fn note_opened<S: TextStore>(
+    live: &mut Live,
+    editor: &Editor<S>,
+    was_open: bool,
+) -> Result<(), OutOfMemory>
     ensures { (old : editors.Editor) → was_open ≡ is_some (live_index live.old.name old) →
-        live.new ≡ spec.with_opened result old editor.now live.old }
+        live.new ≡ spec.with_opened (is_ok result) old editor.now live.old }
 {
     if was_open {
-        return true;
+        return Ok(());
     }
     let Some(index) = editor.live_index(live.name.as_slice()) else {
-        return true;
+        return Ok(());
     };
     live.telling.took = false;
-    live.telling.add(editor.unsaved_at(index)).is_ok()
+    live.telling.add(editor.unsaved_at(index))
 }

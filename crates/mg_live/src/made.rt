@@ -1,11 +1,11 @@
 //! What commands and undos make, and what of it is to be told.
-ghost use Rattle.std.specs.Prelude.{◌≡◌, ◌<◌, ℕ, List, length, IfErr, option_map};
+ghost use Rattle.std.specs.Prelude.{◌≡◌, ◌<◌, ℕ, List, length, is_ok, IfErr, option_map};
 ghost use Rattle.mg_editor.specs.Editors as editors;
 ghost use Rattle.mg_live.specs.Made as spec;
 
 use crate::live::Live;
 use mg_editor::Editor;
-use rga_ops::Op;
+use rga_ops::{Op, OutOfMemory};
 use rga_store::TextStore;
 
 /// How a buffer stands before something is done in it.
@@ -64,16 +64,20 @@ fn made_since<'a, S: TextStore>(editor: &'a Editor<S>, mark: Mark) -> &'a [Op]
     }
 }
 
-/// Notes what was made since in the buffer that stood so. Answers whether there was memory for it.
-pub(crate) fn note_made<S: TextStore>(live: &mut Live, editor: &Editor<S>, mark: Mark) -> bool
+/// Notes what was made since in the buffer that stood so. Out of memory alone.
+pub(crate) fn note_made<S: TextStore>(
+    live: &mut Live,
+    editor: &Editor<S>,
+    mark: Mark,
+) -> Result<(), OutOfMemory>
     ensures { (i : ℕ) (old : editors.Editor) → spec.IsMark live.old.name i old mark →
-        live.new ≡ spec.with_made (spec.is_live live.old.name i old) result
+        live.new ≡ spec.with_made (spec.is_live live.old.name i old) (is_ok result)
         (spec.made_at i old editor.now) live.old }
 {
     let made = made_since(editor, mark);
     live.telling.made = live.telling.made || !made.is_empty();
     if !mark.is_live {
-        return true;
+        return Ok(());
     }
-    live.telling.add(made).is_ok()
+    live.telling.add(made)
 }

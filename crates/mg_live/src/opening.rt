@@ -32,6 +32,6 @@ pub(crate) fn note_start<S: TextStore>(
     live.loaded = was_loaded(editor, 0);
     match live.telling.add(editor.unsaved_at(0)) {
         Ok(()) => Course::On,
-        Err(_) => Course::NoMemory,
+        Err(memory) => Course::NoMemory(memory),
     }
 }

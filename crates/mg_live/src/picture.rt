@@ -1,5 +1,5 @@
 //! Statuses, with what stands after them.
-ghost use Rattle.std.specs.Prelude.{◌≡◌, ℕ, IfOk, IfSome, OnSome, None, false, string_bytes};
+ghost use Rattle.std.specs.Prelude.{◌≡◌, ℕ, IfOk, OnOk, OnErr, IfSome, OnSome, None, false, string_bytes};
 ghost use Rattle.mg_live.specs.Made.{live_index};
 ghost use Rattle.mg_events.specs.StatusText.{status_text};
 ghost use Rattle.mg_editor.specs.Frames.{placed_editor};
@@ -14,9 +14,9 @@ use mg_events::{BufferStatus, Saved, Status, status_line};
 use mg_files::PortFault;
 use mg_session::{Course, push_rows, write_bytes};
 use rga_exchange::Counted;
-use rga_ops::Splice;
+use rga_ops::{OutOfMemory, Splice};
 use rga_store::TextStore;
-use std::alloc::{AllocError, Global};
+use std::alloc::Global;
 use std::io::Write;
 
 /// How many rows and lines of operations stand after a status, and whether a second one follows.
@@ -35,7 +35,7 @@ fn saved_status(saved: Option<Result<(), PortFault>>) -> Saved
         None => Saved::Unsaved,
         Some(Ok(())) => Saved::Done,
         Some(Err(PortFault::File)) => Saved::File,
-        Some(Err(PortFault::Memory)) => Saved::Memory,
+        Some(Err(PortFault::Memory(_))) => Saved::Memory,
     }
 }
 
@@ -43,7 +43,7 @@ fn saved_status(saved: Option<Result<(), PortFault>>) -> Saved
 fn live_status<'a, S: TextStore>(
     live: &Live,
     editor: &'a Editor<S>,
-) -> Result<Option<BufferStatus<'a>>, AllocError>
+) -> Result<Option<BufferStatus<'a>>, OutOfMemory>
     ensures { IfOk result
         (spec.IsLiveStatus (live_index live.now.name editor.now) editor.now) }
 {
@@ -68,17 +68,15 @@ fn status_text<S: TextStore>(
     live: &Live,
     editor: &Editor<S>,
     after: After,
-) -> Result<String, AllocError>
+) -> Result<String, OutOfMemory>
     ensures { IfOk result (λ text. (status : Status)
         × spec.IsStatus live.now editor.now after status
         × (string_bytes text ≡ status_text status)) }
 {
-    let Some(point) = editor.point_status() else {
-        return Err(AllocError);
-    };
+    let point = editor.point_status()?;
     let message = editor.message_text(live.alloc)?;
     let windows = editor.window_statuses(live.alloc)?;
-    status_line(
+    Ok(status_line(
         live.alloc,
         &Status {
             begun: editor.is_amid_keys(),
@@ -101,44 +99,44 @@ fn status_text<S: TextStore>(
             saved: saved_status(live.saved),
             windows: windows.as_slice(),
         },
-    )
+    )?)
 }
 
-/// Draws the frame, which is what was shown last then, and answers whether its rows are new. `None`
-/// where memory is wanting, and then nothing is shown anew.
-fn draw<S: TextStore>(live: &mut Live, editor: &mut Editor<S>) -> Option<bool>
-    ensures drawn { IfSome result (λ is_new. spec.Draws is_new live.old live.new editor.new) }
-    ensures placed { OnSome result (editor.new ≡ placed_editor editor.old) }
-    ensures same { result ≡ None → (live.new ≡ live.old) × (editor.new ≡ editor.old) }
+/// Draws the frame, which is what was shown last then, and answers whether its rows are new. Out
+/// of memory alone, and then nothing is shown anew.
+fn draw<S: TextStore>(live: &mut Live, editor: &mut Editor<S>) -> Result<bool, OutOfMemory>
+    ensures drawn { IfOk result (λ is_new. spec.Draws is_new live.old live.new editor.new) }
+    ensures placed { OnOk result (editor.new ≡ placed_editor editor.old) }
+    ensures same { OnErr result ((live.new ≡ live.old) × (editor.new ≡ editor.old)) }
 {
     let index = editor.live_index(live.name.as_slice());
-    let Ok(frame) = editor.live_frame(index, live.places.as_slice()) else {
-        return None;
-    };
+    let frame = editor.live_frame(index, live.places.as_slice())?;
     let is_same = are_same_rows(live.shown.rows.as_slice(), frame.rows.as_slice());
     live.shown = Shown {
         rows: frame.rows,
         cursor: Some(frame.cursor),
         places: frame.places,
     };
-    Some(!is_same)
+    Ok(!is_same)
 }
 
 /// Draws the frame if it is to be fresh, unless changes are told in its place; else sees to it that
-/// the text of each buffer is at hand. Answers whether there are new rows. `None` where memory is
-/// wanting, and then nothing is shown anew.
-fn ready<S: TextStore>(live: &mut Live, editor: &mut Editor<S>, fresh: bool) -> Option<bool>
-    ensures drawn { IfSome result
+/// the text of each buffer is at hand. Answers whether there are new rows. Out of memory alone,
+/// and then nothing is shown anew.
+fn ready<S: TextStore>(
+    live: &mut Live,
+    editor: &mut Editor<S>,
+    fresh: bool,
+) -> Result<bool, OutOfMemory>
+    ensures drawn { IfOk result
         (λ is_new. spec.Readies fresh is_new live.old editor.old live.new editor.new) }
-    ensures same { result ≡ None → (live.new ≡ live.old) × (editor.new ≡ editor.old) }
+    ensures same { OnErr result ((live.new ≡ live.old) × (editor.new ≡ editor.old)) }
 {
     if fresh && live.changes.is_none() {
         return draw(live, editor);
     }
-    match editor.list() {
-        Ok(()) => Some(false),
-        Err(_) => None,
-    }
+    editor.list()?;
+    Ok(false)
 }
 
 /// How many lines these are.
@@ -156,7 +154,7 @@ fn picture<S: TextStore>(
     is_new: bool,
     more: bool,
     told: &[u8],
-) -> Result<Vec<u8>, AllocError>
+) -> Result<Vec<u8>, OutOfMemory>
     ensures { IfOk result
         (λ bytes. spec.IsPicture is_new more told.now live.now editor.now bytes.items) }
 {
@@ -194,11 +192,13 @@ pub(crate) fn show<S: TextStore, W: Write>(
         (moment editor.old calls faults (seen W.contents screen.old) course live.old)
         (moment editor.new calls faults (seen W.contents screen.new) result live.new) }
 {
-    let Some(is_new) = ready(live, editor, fresh) else {
-        return Course::NoMemory;
+    let is_new = match ready(live, editor, fresh) {
+        Ok(is_new) => is_new,
+        Err(memory) => return Course::NoMemory(memory),
     };
-    let Ok(bytes) = picture(live, editor, is_new, more, told) else {
-        return Course::NoMemory;
+    let bytes = match picture(live, editor, is_new, more, told) {
+        Ok(bytes) => bytes,
+        Err(memory) => return Course::NoMemory(memory),
     };
     match write_bytes(&bytes, screen) {
         Ok(()) => course,

@@ -23,7 +23,7 @@ fn paste_whole<S: TextStore>(
 {
     let mark = mark_current(live, editor);
     match editor.paste(put) {
-        Ok(()) => Ok(note_made(live, editor, mark)),
+        Ok(()) => Ok(note_made(live, editor, mark).is_ok()),
         Err(fault) => Err(ReportFault::from(fault)),
     }
 }
@@ -49,7 +49,7 @@ fn splice_fault(fault: ActionFault) -> ReportFault
     ensures { result ≡ spec.splice_fault fault }
 {
     match fault {
-        ActionFault::Memory => ReportFault::Line(LineFault::Memory),
+        ActionFault::Memory(memory) => ReportFault::Line(LineFault::Memory(memory)),
         ActionFault::Refused(cause) => match cause {
             Cause::BufferFull => ReportFault::Refused(Refusal::Full),
             Cause::IdentifiersUsedUp => ReportFault::Refused(Refusal::Clock),
@@ -77,7 +77,7 @@ fn splice_whole<S: TextStore>(
     }
     let mark = mark_at(live, editor, index);
     match editor.splice(index, lo as usize, hi as usize, put) {
-        Ok(()) => Ok(note_made(live, editor, mark)),
+        Ok(()) => Ok(note_made(live, editor, mark).is_ok()),
         Err(fault) => Err(splice_fault(fault)),
     }
 }

@@ -13,8 +13,9 @@ use mg_editor::Editor;
 use mg_events::{LineFault, Report, read_report};
 use mg_screen::{MAX_COLUMNS, MAX_ROWS, MIN_COLUMNS, MIN_ROWS};
 use mg_session::Course;
-use rga_ops::Op;
+use rga_ops::{Op, OutOfMemory};
 use rga_store::TextStore;
+use std::alloc::AllocError;
 
 /// The report that was counted last is refused. The session ends where there is no memory to note
 /// it.
@@ -23,7 +24,7 @@ pub(crate) fn refuse(live: &mut Live, fault: ReportFault, course: Course) -> Cou
 {
     match live.tally.refuse(fault) {
         Ok(()) => course,
-        Err(_) => Course::NoMemory,
+        Err(refused) => Course::NoMemory(OutOfMemory::from(refused)),
     }
 }
 
@@ -58,11 +59,11 @@ fn take<S: TextStore>(
         Report::One(op) => take_one(live, editor, op),
         Report::Run(run) => match run.ops(live.alloc) {
             Ok(ops) => take_list(live, editor, &ops),
-            Err(_) => Err(ReportFault::Line(LineFault::Memory)),
+            Err(memory) => Err(ReportFault::Line(LineFault::Memory(memory))),
         },
         Report::Deletions(run) => match run.ops(live.alloc) {
             Ok(ops) => take_list(live, editor, &ops),
-            Err(_) => Err(ReportFault::Line(LineFault::Memory)),
+            Err(memory) => Err(ReportFault::Line(LineFault::Memory(memory))),
         },
         Report::Paste { text, more } => paste(live, editor, text.as_slice(), more),
         Report::Splice {
@@ -94,7 +95,7 @@ fn follow<S: TextStore>(live: &mut Live, editor: &mut Editor<S>, report: Report)
 {
     match take(live, editor, report) {
         Ok(true) => Course::On,
-        Ok(false) => Course::NoMemory,
+        Ok(false) => Course::NoMemory(OutOfMemory::from(AllocError)),
         Err(fault) => refuse(live, fault, Course::On),
     }
 }

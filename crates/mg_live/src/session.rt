@@ -19,6 +19,7 @@ use mg_files::Port;
 use mg_screen::Settings;
 use mg_session::{Course, SessionFault, is_strict, open, session_answer};
 use rga_exchange::Counted;
+use rga_ops::OutOfMemory;
 use rga_store::Teller;
 use std::alloc::Global;
 use std::io::{Read, Write};
@@ -72,8 +73,9 @@ pub fn run_live<S: Teller, R: Read, W: Write, P: Port>(
     ensures file { result ≡ Err File → P.failures port.new ≡ one_more (P.failures port.old) }
 {
     let asked = settings.values();
-    let Ok(mut live) = Live::new(alloc, asked) else {
-        return Err(SessionFault::Memory);
+    let mut live = match Live::new(alloc, asked) {
+        Ok(live) => live,
+        Err(refused) => return Err(SessionFault::Memory(OutOfMemory::from(refused))),
     };
     match open::<S, P>(alloc, port, settings) {
         Ok(mut editor) => {

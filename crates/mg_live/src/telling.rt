@@ -2,7 +2,7 @@
 ghost use Rattle.std.specs.Prelude.{◌≡◌, ◌++◌, OnOk, OnErr};
 ghost use Rattle.mg_live.specs.Telling as spec;
 
-use rga_ops::Op;
+use rga_ops::{Op, OutOfMemory};
 use std::alloc::{AllocError, Global};
 use std::marker::Model;
 
@@ -45,8 +45,8 @@ impl Telling {
         }
     }
 
-    /// More operations are to be told. `AllocError` alone, and nothing changes then.
-    pub(crate) fn add(&mut self, ops: &[Op]) -> Result<(), AllocError>
+    /// More operations are to be told. Out of memory alone, and nothing changes then.
+    pub(crate) fn add(&mut self, ops: &[Op]) -> Result<(), OutOfMemory>
         ensures added { OnOk result (self.new ≡ record self.old {
           untold = self.old.untold ++ ops.now;
         }) }

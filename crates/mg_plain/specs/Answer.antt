@@ -1,7 +1,7 @@
 -- Answers, want of memory included.
 use Rattle.std.specs.Prelude.{◌≡◌, ◌≢◌, Result, Err, IsOk}
 use Rattle.mg_plain.specs.declared.outcome.Notice.{Notice}
-use Rattle.mg_plain.specs.declared.outcome.Notice.TheVariants.{Memory}
+use Rattle.mg_plain.specs.Memory.{NoticeMemory as Memory}
 use Rattle.mg_plain.specs.Effect.{Effect}
 
 -- an answer is the effect or the notice that is due; want of memory comes last

@@ -21,3 +21,4 @@ pub mod Cases
 pub mod Replacement
 pub mod Commands
 pub mod Examples
+pub mod Memory

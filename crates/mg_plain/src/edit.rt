@@ -1,12 +1,12 @@
 //! Splices, and what they do to places.
-ghost use Rattle.std.specs.Prelude.{◌≡◌, ◌∷◌, [], Ok, IfOk, IfSome};
+ghost use Rattle.std.specs.Prelude.{◌≡◌, ◌∷◌, [], Ok, IfOk};
 ghost use Rattle.mg_plain.specs.Splices.{splice};
 ghost use Rattle.mg_plain.specs.Answer.{IsEffectAnswer};
 ghost use Rattle.mg_plain.specs.Effect.{one_splice, carried_place, place_after, edit_effect};
 
 use crate::outcome::{Notice, Plan};
 use crate::view::{Kind, View};
-use rga_ops::Splice;
+use rga_ops::{OutOfMemory, Splice, counted_together};
 use std::alloc::{AllocError, Global};
 
 /// The splice that puts a copy of those characters there.
@@ -20,29 +20,30 @@ pub fn splice(alloc: Global, lo: usize, hi: usize, put: &[char]) -> Result<Splic
     })
 }
 
-/// Where a place goes as a splice is done; none past the greatest number.
-fn carry(splice: &Splice, q: usize) -> Option<usize>
-    ensures { IfSome result (λ r. r ≡ carried_place splice.now q) }
+/// Where a place goes as a splice is done. Out of memory past the greatest number.
+fn carry(splice: &Splice, q: usize) -> Result<usize, OutOfMemory>
+    ensures { IfOk result (λ r. r ≡ carried_place splice.now q) }
 {
     if q <= splice.lo {
-        Some(q)
-    } else if splice.hi <= q {
-        q.saturating_sub(splice.hi.saturating_sub(splice.lo))
-            .checked_add(splice.put.len())
-    } else {
-        splice.lo.checked_add(splice.put.len())
+        return Ok(q);
     }
+    let begin = if splice.hi <= q {
+        q.saturating_sub(splice.hi.saturating_sub(splice.lo))
+    } else {
+        splice.lo
+    };
+    counted_together(begin, splice.put.len())
 }
 
-/// Where it goes as splices are done in turn; none past the greatest number.
-pub(crate) fn carry_over(splices: &[Splice], q: usize) -> Option<usize>
-    ensures { IfSome result (λ r. r ≡ place_after splices.now q) }
+/// Where it goes as splices are done in turn. Out of memory past the greatest number.
+pub(crate) fn carry_over(splices: &[Splice], q: usize) -> Result<usize, OutOfMemory>
+    ensures { IfOk result (λ r. r ≡ place_after splices.now q) }
 {
     let mut place = q;
     for splice in splices {
         place = carry(splice, place)?;
     }
-    Some(place)
+    Ok(place)
 }
 
 /// The plan of splices alone: point and mark are carried. `Memory` where the new text has more
@@ -50,15 +51,10 @@ pub(crate) fn carry_over(splices: &[Splice], q: usize) -> Option<usize>
 pub(crate) fn edit(view: &View<'_>, splices: Vec<Splice>) -> Result<Plan, Notice>
     ensures { IsEffectAnswer result (Ok (edit_effect view.now splices.items)) }
 {
-    let Some(point) = carry_over(splices.as_slice(), view.point) else {
-        return Err(Notice::Memory);
-    };
+    let point = carry_over(splices.as_slice(), view.point)?;
     let mark = match view.mark {
         None => None,
-        Some(mark) => match carry_over(splices.as_slice(), mark) {
-            None => return Err(Notice::Memory),
-            Some(place) => Some(place),
-        },
+        Some(mark) => Some(carry_over(splices.as_slice(), mark)?),
     };
     Ok(Plan {
         splices,
@@ -81,10 +77,7 @@ pub(crate) fn edit_once(
     ensures { IsEffectAnswer result (Ok (edit_effect view.now (splice lo hi put.now ∷ []))) }
 {
     let one = splice(alloc, lo, hi, put)?;
-    match vec![in alloc; one] {
-        Ok(splices) => edit(view, splices),
-        Err(_) => Err(Notice::Memory),
-    }
+    edit(view, vec![in alloc; one]?)
 }
 
 /// The plan of the splice that replaces these characters, or of none where nothing goes and nothing
@@ -102,8 +95,6 @@ pub(crate) fn change(
     if lo == hi && put.as_slice().is_empty() {
         return edit(view, splices);
     }
-    let Ok(()) = splices.push(Splice { lo, hi, put }) else {
-        return Err(Notice::Memory);
-    };
+    splices.push(Splice { lo, hi, put })?;
     edit(view, splices)
 }

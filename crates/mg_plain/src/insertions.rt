@@ -9,6 +9,7 @@ use crate::edit::change;
 use crate::line_begin;
 use crate::outcome::{Notice, Plan};
 use crate::view::View;
+use rga_ops::counted_together;
 use std::alloc::{AllocError, Global};
 
 /// Characters at point, which goes behind them.
@@ -17,10 +18,8 @@ pub(crate) fn type_in(alloc: Global, view: &View<'_>, chars: Vec<char>) -> Resul
 {
     let count = chars.as_slice().len();
     let plan = change(alloc, view, view.point, view.point, chars)?;
-    match view.point.checked_add(count) {
-        None => Err(Notice::Memory),
-        Some(point) => Ok(Plan { point, ..plan }),
-    }
+    let point = counted_together(view.point, count)?;
+    Ok(Plan { point, ..plan })
 }
 
 fn repeated(alloc: Global, ch: char, n: u16) -> Result<Vec<char>, AllocError>

@@ -1,11 +1,11 @@
 //! What a command comes to: a plan, or a notice.
 ghost use Rattle.std.specs.Prelude.{◌≡◌};
-ghost use Rattle.mg_plain.specs.declared.outcome.Notice.TheVariants.{Memory as NoMemory};
+ghost use Rattle.mg_plain.specs.Memory.{NoticeMemory as NoMemory};
 ghost use Rattle.mg_plain.specs.NoticeMessage.{notice_message};
 
 use crate::view::Kind;
-use rga_ops::Splice;
-use std::alloc::AllocError;
+use rga_ops::{OutOfMemory, Splice};
+use std::alloc::{AllocError, AllocFailed};
 use std::marker::Model;
 
 /// What a command does to a text.
@@ -55,7 +55,7 @@ pub enum Notice {
     /// No edit is left to take back.
     NothingToUndo,
     /// A growth of memory was refused.
-    Memory,
+    Memory(OutOfMemory),
 }
 
 impl Notice {
@@ -69,15 +69,32 @@ impl Notice {
             Notice::NoMark => "No mark set",
             Notice::SearchFailed => "Search failed",
             Notice::NothingToUndo => "Nothing to undo",
-            Notice::Memory => "Out of memory",
+            Notice::Memory(_) => "Out of memory",
         }
+    }
+}
+
+impl From<OutOfMemory> for Notice {
+    ghost from_gives = { λ _ notice. notice ≡ NoMemory };
+
+    fn from(memory: OutOfMemory) -> Notice {
+        Notice::Memory(memory)
     }
 }
 
 impl From<AllocError> for Notice {
     ghost from_gives = { λ _ notice. notice ≡ NoMemory };
 
-    fn from(_: AllocError) -> Notice {
-        Notice::Memory
+    fn from(refused: AllocError) -> Notice {
+        Notice::Memory(OutOfMemory::from(refused))
+    }
+}
+
+/// A value that found no room is dropped.
+impl<T: Drop> From<AllocFailed<T>> for Notice {
+    ghost from_gives = { λ _ notice. notice ≡ NoMemory };
+
+    fn from(failed: AllocFailed<T>) -> Notice {
+        Notice::Memory(OutOfMemory::from(failed))
     }
 }

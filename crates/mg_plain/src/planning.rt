@@ -2,7 +2,7 @@
 ghost use Rattle.std.specs.Prelude.{◌≡◌, true, Err};
 ghost use Rattle.mg_plain.specs.Answer.{IsEffectAnswer};
 ghost use Rattle.mg_plain.specs.Commands.{effect, needs_memory};
-ghost use Rattle.mg_plain.specs.declared.outcome.Notice.TheVariants.{Memory};
+ghost use Rattle.mg_plain.specs.Memory.{NoticeMemory as Memory};
 
 use crate::cases::{Casing, recase_word, transpose_chars};
 use crate::command::Command;

@@ -91,9 +91,7 @@ pub(crate) fn replace_all(
         return Err(Notice::SearchFailed);
     }
     let (splices, end) = replacements(alloc, pattern, put, view.text, view.point)?;
-    let Some(point) = carry_over(splices.as_slice(), end) else {
-        return Err(Notice::Memory);
-    };
+    let point = carry_over(splices.as_slice(), end)?;
     let plan = edit(view, splices)?;
     Ok(Plan { point, ..plan })
 }

@@ -10,3 +10,4 @@ pub mod Cursor
 pub mod Sideways
 pub mod Layout
 pub mod Inside
+pub mod Memory

@@ -11,9 +11,10 @@ ghost use Rattle.mg_screen.specs.Sideways as spec;
 use crate::lines::{column_of, line_at, line_start};
 use crate::mode_line::mode_row;
 use crate::rows::{characters, cut_row, push_row};
-use crate::screen::{FrameFault, Pane, Screen};
+use crate::screen::{Pane, Screen};
 use crate::sideways::{line_beyond, sideways_row};
 use crate::text_rows::push_text_rows;
+use rga_ops::OutOfMemory;
 use std::alloc::{AllocError, Global};
 
 /// The column of point, where the row of its line is to begin further right.
@@ -108,13 +109,13 @@ fn all_rows(
 
 /// The frame of a screen, as mg(1) draws it: for each window its text rows and its mode line, then
 /// the echo line. Rows are not filled with blanks.
-/// `rows` are those that the windows and the echo line take. `Memory` is the only fault.
+/// `rows` are those that the windows and the echo line take. Out of memory is the only fault.
 pub fn frame(
     alloc: Global,
     rows: usize,
     columns: usize,
     screen: &Screen,
-) -> Result<Vec<String>, FrameFault>
+) -> Result<Vec<String>, OutOfMemory>
     requires whole { spec.screen_rows screen.now ≡ rows }
     requires rows_from { least_rows ≤ rows }
     requires rows_to { rows ≤ most_rows }
@@ -131,13 +132,13 @@ pub fn frame(
 /// begins further right if point's column is behind the last one, or is the last one of a line that
 /// is cut. Such a row has a `$` in its first column, and point's column in its middle half. What is
 /// left of a wide cell behind the `$` is blank, and another `$` ends the row if the line goes on.
-/// `rows` are those that the windows and the echo line take. `Memory` is the only fault.
+/// `rows` are those that the windows and the echo line take. Out of memory is the only fault.
 pub fn frame_at_point(
     alloc: Global,
     rows: usize,
     columns: usize,
     screen: &Screen,
-) -> Result<Vec<String>, FrameFault>
+) -> Result<Vec<String>, OutOfMemory>
     requires whole { screen_rows screen.now ≡ rows }
     requires rows_from { least_rows ≤ rows }
     requires rows_to { rows ≤ most_rows }

@@ -34,7 +34,7 @@ mod windows;
 pub use cursors::{cursor, echo_cursor};
 pub use frames::{frame, frame_at_point};
 pub use lines::{centred_line, column_of, first_line};
-pub use screen::{FrameFault, Pane, Position, Screen};
+pub use screen::{Pane, Position, Screen};
 pub use settings::{MAX_FILL, Settings, Values};
 pub use sideways_cursors::{cell_of_place, cursor_at_point};
 pub use size::{MAX_COLUMNS, MAX_ROWS, MIN_COLUMNS, MIN_ROWS, MIN_SPLIT_HEIGHT};

@@ -1,5 +1,4 @@
 //! What a frame is made of: the windows with their texts, and the echo line.
-use std::alloc::AllocError;
 use std::marker::Model;
 
 /// A window: the text that it shows from a line on, and what its mode line says. Point is a place
@@ -68,17 +67,4 @@ impl<'a> Model for Screen<'a> {
 pub struct Position {
     pub row: usize,
     pub column: usize,
-}
-
-/// Why there is no frame.
-#[derive(Clone, Copy)]
-pub enum FrameFault {
-    /// A growth of memory was refused.
-    Memory,
-}
-
-impl From<AllocError> for FrameFault {
-    fn from(_: AllocError) -> FrameFault {
-        FrameFault::Memory
-    }
 }

@@ -4,11 +4,12 @@ ghost use Rattle.std.specs.Prelude.{OnOk, OnErr, IfOk, IfErr, IsOk};
 ghost use Rattle.mg_screen.specs.Size.{least_rows, most_rows};
 ghost use Rattle.mg_screen.specs.Size.{least_split_height};
 ghost use Rattle.mg_screen.specs.declared.windows.WindowFault.TheVariants.{TooSmall, OnlyOne};
-ghost use Rattle.mg_screen.specs.declared.windows.WindowFault.TheVariants.{Memory};
+ghost use Rattle.mg_screen.specs.Memory.{WindowMemory as Memory};
 ghost use Rattle.mg_screen.specs.Layout as spec;
 
 use crate::heights::{insert_both, share};
 use crate::size::MIN_SPLIT_HEIGHT;
+use rga_ops::OutOfMemory;
 use std::alloc::{AllocError, Global};
 use std::marker::Model;
 
@@ -20,14 +21,22 @@ pub enum WindowFault {
     /// There is one window alone.
     OnlyOne,
     /// A growth of memory was refused.
-    Memory,
+    Memory(OutOfMemory),
+}
+
+impl From<OutOfMemory> for WindowFault {
+    ghost from_gives = { λ _ fault. fault ≡ Memory };
+
+    fn from(memory: OutOfMemory) -> WindowFault {
+        WindowFault::Memory(memory)
+    }
 }
 
 impl From<AllocError> for WindowFault {
     ghost from_gives = { λ _ fault. fault ≡ Memory };
 
-    fn from(_: AllocError) -> WindowFault {
-        WindowFault::Memory
+    fn from(refused: AllocError) -> WindowFault {
+        WindowFault::Memory(OutOfMemory::from(refused))
     }
 }
 
@@ -65,14 +74,13 @@ fn one<T: Copy>(alloc: Global, item: T) -> Result<Vec<T>, AllocError>
 }
 
 impl<T: Copy> Windows<T> {
-    /// One window on a screen of so many rows. `Memory` is the only fault.
-    pub fn new(alloc: Global, rows: usize, shown: T) -> Result<Self, WindowFault>
+    /// One window on a screen of so many rows. Out of memory is the only fault.
+    pub fn new(alloc: Global, rows: usize, shown: T) -> Result<Self, OutOfMemory>
         requires rows_from { least_rows ≤ rows }
         requires rows_to { rows ≤ most_rows }
         ensures exact { IfOk result
             (λ w. w ≡ spec.layout (spec.window (rows - 2) shown ∷ []) 0) }
         ensures filled { IfOk result (λ w. spec.FillsRows rows w) }
-        ensures memory { IfErr result (λ e. e ≡ Memory) }
     {
         let heights = one(alloc, rows - 2)?;
         let shown = one(alloc, shown)?;

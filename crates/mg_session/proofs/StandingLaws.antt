@@ -14,7 +14,8 @@ use Rattle.mg_session.specs.Keys.{course_behind, request_of}
 use Rattle.mg_session.specs.Moments.{Known, Moment, seen, StepIf}
 use Rattle.mg_session.specs.Running.{ShowsKey, TakesKeys, ReadsKeys, through, broken_off, Runs}
 use Rattle.mg_session.specs.declared.course.Course.{Course}
-use Rattle.mg_session.specs.declared.course.Course.TheVariants.{On, Quit, NoKeys, NoScreen, NoMemory}
+use Rattle.mg_session.specs.declared.course.Course.TheVariants.{On, Quit, NoKeys, NoScreen, NoMemory as OfNoMemory}
+use Rattle.mg_session.specs.Memory.{CourseMemory as NoMemory}
 use Rattle.mg_session.specs.declared.fault.SessionFault.{SessionFault}
 use Rattle.mg_session.specs.declared.fault.SessionFault.TheVariants.{File, Keys, Screen, Failed}
 use Rattle.mg_session.proofs.TakenLaws.{after_step}
@@ -24,7 +25,7 @@ use Rattle.mg_session.proofs.TakenLaws.{after_step}
 abbrev pub is_calm : Course → Bool
 is_calm On = true
 is_calm Quit = true
-is_calm NoMemory = true
+is_calm (OfNoMemory _) = true
 is_calm NoKeys = false
 is_calm NoScreen = false
 
@@ -45,7 +46,7 @@ no_device : (course : Course) → is_calm course ≡ true
     → (course_answer course ≢ Err Keys) × (course_answer course ≢ Err Screen) × (course_answer course ≢ Err File)
 no_device On calm = ((λ is. cc), (λ is. cc), (λ is. cc))
 no_device Quit calm = ((λ is. cc), (λ is. cc), (λ is. cc))
-no_device NoMemory calm = ((λ is. cc), (λ is. cc), (λ is. cc))
+no_device (OfNoMemory _) calm = ((λ is. cc), (λ is. cc), (λ is. cc))
 no_device NoKeys calm = absurd (true≢false (sym calm))
 no_device NoScreen calm = absurd (true≢false (sym calm))
 

@@ -5,7 +5,8 @@ use Rattle.mg_workspace.specs.declared.failures.Failure.{Failure}
 use Rattle.mg_session.specs.declared.course.Course.{Course}
 use Rattle.mg_session.specs.declared.course.Course.TheVariants.{On, Quit, NoKeys, NoScreen, NoMemory}
 use Rattle.mg_session.specs.declared.fault.SessionFault.{SessionFault}
-use Rattle.mg_session.specs.declared.fault.SessionFault.TheVariants.{Keys, Screen, Memory, Failed}
+use Rattle.mg_session.specs.declared.fault.SessionFault.TheVariants.{Keys, Screen, Failed}
+use Rattle.mg_session.specs.Memory.{SessionMemory as Memory}
 
 -- it goes on
 abbrev pub is_on : Course → Bool
@@ -21,7 +22,7 @@ course_answer On = Ok tt
 course_answer Quit = Ok tt
 course_answer NoKeys = Err Keys
 course_answer NoScreen = Err Screen
-course_answer NoMemory = Err Memory
+course_answer (NoMemory _) = Err Memory
 
 -- what a save or an exchange is answered by that failed, and stands
 abbrev pub failure_answer : Option Failure → SessionAnswer

@@ -9,7 +9,8 @@ use Rattle.mg_editor.specs.Frames.{editor_frame, placed_editor}
 use Rattle.mg_session.specs.Courses.{course_answer}
 use Rattle.mg_session.specs.Moments.{Known, Moment}
 use Rattle.mg_session.specs.declared.course.Course.{Course}
-use Rattle.mg_session.specs.declared.course.Course.TheVariants.{NoScreen, NoMemory}
+use Rattle.mg_session.specs.declared.course.Course.TheVariants.{NoScreen}
+use Rattle.mg_session.specs.Memory.{CourseMemory as NoMemory}
 
 -- ---- which frames are written
 

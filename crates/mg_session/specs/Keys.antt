@@ -1,6 +1,6 @@
 -- What a key of a session leads to.
 use Rattle.std.specs.Prelude.{◌≡◌, ℕ, Ok, Err}
-use Rattle.mg_plain.specs.declared.outcome.Notice.TheVariants as notice
+use Rattle.mg_plain.specs.Memory.{NoticeMemory}
 use Rattle.mg_minibuffer.specs.declared.ending.Request.{Request}
 use Rattle.mg_minibuffer.specs.declared.ending.Request.TheVariants as request
 use Rattle.mg_minibuffer.specs.declared.message.Message.TheVariants.{Refused}
@@ -20,7 +20,7 @@ request_of (Err fault) = request.Idle
 -- want of memory is said
 abbrev pub said : presses.PressAnswer → Editor → Editor
 said (Ok asked) e = e
-said (Err fault) e = record e { talk = record e.talk { message = Refused notice.Memory } }
+said (Err fault) e = record e { talk = record e.talk { message = Refused NoticeMemory } }
 
 -- a session ends behind a request to quit
 abbrev pub course_behind : Request → Course

@@ -5,3 +5,4 @@ pub mod Display
 pub mod Keys
 pub mod Opening
 pub mod Running
+pub mod Memory

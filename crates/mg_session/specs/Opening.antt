@@ -4,7 +4,7 @@ use Rattle.rga_exchange.specs.Counting.{one_more}
 use Rattle.mg_files.specs.Calls.{Adds, load_call, found_call, refused}
 use Rattle.mg_files.specs.Files.{Files}
 use Rattle.mg_files.specs.Loading.{MayWantMemory}
-use Rattle.mg_files.specs.declared.fault.LoadFault.TheVariants as load
+use Rattle.mg_files.specs.Memory.{LoadMemory}
 use Rattle.mg_screen.specs.Settings.{Values}
 use Rattle.mg_editor.specs.Editors.{Editor}
 use Rattle.mg_editor.specs.Opening.{opened_editor}
@@ -17,9 +17,9 @@ use Rattle.mg_session.specs.declared.fault.SessionFault.TheVariants.{Load, File,
 abbrev pub LoadsTo : Values → ToldCalls → ToldCalls → Result Editor SessionFault → Type 0
 LoadsTo v calls told (Ok first) = (found : Files) × Adds calls told (found_call v.name found ∷ []) × (opened_editor v found ≡ Ok first)
 LoadsTo v calls told (Err (Load e)) =
-    (found : Files) × Adds calls told (found_call v.name found ∷ []) × (opened_editor v found ≡ Err e) × (e ≢ load.Memory)
+    (found : Files) × Adds calls told (found_call v.name found ∷ []) × (opened_editor v found ≡ Err e) × (e ≢ LoadMemory)
 LoadsTo v calls told (Err File) = Adds calls told (refused (load_call v.name) ∷ [])
-LoadsTo v calls told (Err Memory) =
+LoadsTo v calls told (Err (Memory _)) =
     Adds calls told [] ⊎ ((found : Files) × Adds calls told (found_call v.name found ∷ []) × MayWantMemory v.replica v.limit found)
 LoadsTo v calls told (Err fault) = ⊥
 

@@ -4,6 +4,7 @@ ghost use Rattle.mg_session.specs.Courses as spec;
 
 use crate::fault::SessionFault;
 use mg_workspace::Failure;
+use rga_ops::OutOfMemory;
 
 /// How a session stands after what it took.
 #[derive(Clone, Copy)]
@@ -17,7 +18,7 @@ pub enum Course {
     /// A frame could not be written.
     NoScreen,
     /// Memory was refused for a frame.
-    NoMemory,
+    NoMemory(OutOfMemory),
 }
 
 /// Whether a session that stands so goes on.
@@ -26,7 +27,7 @@ pub fn is_on(course: Course) -> bool
 {
     match course {
         Course::On => true,
-        Course::Quit | Course::NoKeys | Course::NoScreen | Course::NoMemory => false,
+        Course::Quit | Course::NoKeys | Course::NoScreen | Course::NoMemory(_) => false,
     }
 }
 
@@ -38,7 +39,7 @@ pub fn course_answer(course: Course) -> Result<(), SessionFault>
         Course::On | Course::Quit => Ok(()),
         Course::NoKeys => Err(SessionFault::Keys),
         Course::NoScreen => Err(SessionFault::Screen),
-        Course::NoMemory => Err(SessionFault::Memory),
+        Course::NoMemory(memory) => Err(SessionFault::Memory(memory)),
     }
 }
 

@@ -1,5 +1,5 @@
 //! Frames, as they are written.
-ghost use Rattle.std.specs.Prelude.{◌≡◌, ◌⊎◌, ◌++◌, map, string_bytes, true, None, OnOk, IfSome, OnSome};
+ghost use Rattle.std.specs.Prelude.{◌≡◌, ◌⊎◌, ◌++◌, map, string_bytes, true, IfOk, OnOk, OnErr};
 ghost use Rattle.rga_exchange.specs.Counting.{Counts, Writes, WritesFront};
 ghost use Rattle.rga_lines.specs.Stream.{bytes_of_lines};
 ghost use Rattle.mg_editor.specs.Frames.{placed_editor};
@@ -9,6 +9,7 @@ ghost use Rattle.mg_session.specs.Moments.{ToldCalls, seen, moment};
 use crate::course::{Course, course_answer};
 use mg_editor::Editor;
 use rga_exchange::Counted;
+use rga_ops::OutOfMemory;
 use rga_store::TextStore;
 use std::alloc::{AllocError, Global};
 use std::io;
@@ -51,21 +52,17 @@ pub fn write_bytes<W: Write>(bytes: &[u8], screen: &mut Counted<W>) -> io::Resul
     screen.flush()
 }
 
-/// The frame of an editor, as it is written; nothing if memory is refused.
-fn frame_of<S: TextStore>(alloc: Global, editor: &mut Editor<S>) -> Option<Vec<u8>>
-    ensures placed { OnSome result (editor.new ≡ placed_editor editor.old) }
-    ensures unmade { result ≡ None →
-        (editor.new ≡ editor.old) ⊎ (editor.new ≡ placed_editor editor.old) }
-    ensures text { IfSome result (λ text. text.items ≡ spec.editor_text editor.new) }
+/// The frame of an editor, as it is written. Out of memory alone.
+fn frame_of<S: TextStore>(alloc: Global, editor: &mut Editor<S>) -> Result<Vec<u8>, OutOfMemory>
+    ensures placed { OnOk result (editor.new ≡ placed_editor editor.old) }
+    ensures unmade { OnErr result
+        ((editor.new ≡ editor.old) ⊎ (editor.new ≡ placed_editor editor.old)) }
+    ensures text { IfOk result (λ text. text.items ≡ spec.editor_text editor.new) }
 {
-    let Ok(frame) = editor.frame() else {
-        return None;
-    };
+    let frame = editor.frame()?;
     let mut text = Vec::new(alloc);
-    match push_rows(&mut text, &frame.rows) {
-        Ok(()) => Some(text),
-        Err(_) => None,
-    }
+    push_rows(&mut text, &frame.rows)?;
+    Ok(text)
 }
 
 /// Writes a frame of the editor. The session then stands as it did, unless that fails.
@@ -79,8 +76,9 @@ pub(crate) fn show<S: TextStore, W: Write>(
         (moment editor.old calls (seen W.contents screen.old) course)
         (moment editor.new calls (seen W.contents screen.new) result) }
 {
-    let Some(text) = frame_of(alloc, editor) else {
-        return Course::NoMemory;
+    let text = match frame_of(alloc, editor) {
+        Ok(text) => text,
+        Err(memory) => return Course::NoMemory(memory),
     };
     match write_bytes(&text, screen) {
         Ok(()) => course,

@@ -4,6 +4,8 @@ ghost use Rattle.mg_session.specs.Faults as spec;
 
 use mg_files::{LoadFault, PortFault};
 use mg_workspace::Failure;
+use rga_ops::OutOfMemory;
+use std::alloc::AllocError;
 
 /// Why a session ended before the end of its keys, or did not begin.
 #[derive(Clone, Copy, PartialEq, Eq)]
@@ -17,9 +19,19 @@ pub enum SessionFault {
     /// The device of the screen failed.
     Screen,
     /// A growth of memory was refused.
-    Memory,
+    Memory(OutOfMemory),
     /// Of a strict session: for that a save or an exchange failed, and none was done since.
     Failed(Failure),
+}
+
+impl From<AllocError> for SessionFault {
+    ghost use Rattle.mg_session.specs.Memory.{SessionMemory};
+
+    ghost from_gives = { λ _ fault. fault ≡ SessionMemory };
+
+    fn from(refused: AllocError) -> SessionFault {
+        SessionFault::Memory(OutOfMemory::from(refused))
+    }
 }
 
 /// The fault of a load.
@@ -27,7 +39,7 @@ pub(crate) fn of_load(fault: LoadFault) -> SessionFault
     ensures { result ≡ spec.session_load_fault fault }
 {
     match fault {
-        LoadFault::Memory => SessionFault::Memory,
+        LoadFault::Memory(memory) => SessionFault::Memory(memory),
         fault => SessionFault::Load(fault),
     }
 }
@@ -38,6 +50,6 @@ pub(crate) fn of_port(fault: PortFault) -> SessionFault
 {
     match fault {
         PortFault::File => SessionFault::File,
-        PortFault::Memory => SessionFault::Memory,
+        PortFault::Memory(memory) => SessionFault::Memory(memory),
     }
 }

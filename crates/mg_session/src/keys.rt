@@ -8,7 +8,7 @@ ghost use Rattle.mg_session.specs.declared.course.Course.TheVariants.{On};
 ghost use Rattle.rga_exchange.specs.Counting.{Calls};
 
 use crate::course::Course;
-use mg_editor::{Editor, Fault};
+use mg_editor::Editor;
 use mg_files::Port;
 use mg_minibuffer::{Message, Request};
 use mg_plain::Notice;
@@ -22,8 +22,8 @@ pub fn press<S: TextStore>(editor: &mut Editor<S>, byte: u8) -> Request
 {
     match editor.press(byte) {
         Ok(request) => request,
-        Err(Fault::Memory) => {
-            editor.tell(Message::Refused(Notice::Memory));
+        Err(memory) => {
+            editor.tell(Message::Refused(Notice::Memory(memory)));
             Request::Idle
         }
     }

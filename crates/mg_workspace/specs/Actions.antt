@@ -23,7 +23,8 @@ use Rattle.mg_workspace.specs.Buffers as buffers
 use Rattle.mg_workspace.specs.Failures.{without_owner}
 use Rattle.mg_workspace.specs.Names.{buffer_named, asked, next_round}
 use Rattle.mg_workspace.specs.declared.fault.ActionFault.{ActionFault}
-use Rattle.mg_workspace.specs.declared.fault.ActionFault.TheVariants.{Refused, Memory}
+use Rattle.mg_workspace.specs.declared.fault.ActionFault.TheVariants.{Refused}
+use Rattle.mg_workspace.specs.Memory.{ActionMemory as Memory}
 use Rattle.mg_workspace.specs.declared.fault.Cause.{Cause}
 use Rattle.mg_workspace.specs.declared.fault.Cause.TheVariants as cause
 use Rattle.mg_workspace.specs.declared.viewport.Viewport.{Viewport}

@@ -11,7 +11,7 @@ use Rattle.mg_buffer.specs.State.{State}
 use Rattle.mg_workspace.specs.Actions.{ActionOutcome, action_fault_of}
 use Rattle.mg_workspace.specs.Buffers.{buffer_at, with_at}
 use Rattle.mg_workspace.specs.Workspaces.{Workspace}
-use Rattle.mg_workspace.specs.declared.fault.ActionFault.TheVariants.{Memory}
+use Rattle.mg_workspace.specs.Memory.{ActionMemory as Memory}
 
 -- its state
 abbrev pub state_at : ℕ → Workspace → State

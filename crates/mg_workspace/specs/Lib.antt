@@ -7,3 +7,4 @@ pub mod Actions
 pub mod AtIndex
 pub mod Opening
 pub mod Showing
+pub mod Memory

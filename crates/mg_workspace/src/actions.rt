@@ -1,6 +1,6 @@
 //! Actions: what a step has the buffers and the windows do.
 ghost use Rattle.std.specs.Prelude.{◌≡◌, Err};
-ghost use Rattle.mg_workspace.specs.declared.fault.ActionFault.TheVariants.{Memory};
+ghost use Rattle.mg_workspace.specs.Memory.{ActionMemory as Memory};
 ghost use Rattle.mg_workspace.specs.Actions as spec;
 
 use crate::fault::{ActionFault, of_buffer};

@@ -1,9 +1,9 @@
 //! Windows that change.
-ghost use Rattle.std.specs.Prelude.{◌≡◌, ◌≢◌, ℕ, ◌<◌, ◌≤◌, Some, Err, length, slice_get, OnOk, OnErr, IfErr};
+ghost use Rattle.std.specs.Prelude.{◌≡◌, ◌≢◌, ℕ, ◌<◌, ◌≤◌, Some, Ok, Err, length, slice_get, OnOk, OnErr, IfErr};
 ghost use Rattle.mg_minibuffer.specs.declared.ending.Action.TheVariants.{Arrange};
 ghost use Rattle.mg_screen.specs.Layout.{all_shown, heights, FillsRows};
 ghost use Rattle.mg_screen.specs.Size.{least_rows, most_rows, least_columns, most_columns};
-ghost use Rattle.mg_workspace.specs.declared.fault.ActionFault.TheVariants.{Memory};
+ghost use Rattle.mg_workspace.specs.Memory.{ActionMemory as Memory};
 ghost use Rattle.mg_workspace.specs.Actions as spec;
 ghost use Rattle.mg_workspace.specs.Viewports.{current_viewport, ShowThese, AreShown};
 ghost use Rattle.mg_workspace.specs.Buffers.{most_buffers};
@@ -15,6 +15,7 @@ use crate::workspace::Workspace;
 use mg_buffer::VisitedBuffer;
 use mg_minibuffer::Arrangement;
 use mg_screen::{Windows, centred_line};
+use rga_ops::OutOfMemory;
 use rga_store::TextStore;
 
 /// What the window at an index shows.
@@ -41,21 +42,18 @@ pub(crate) fn current_viewport(windows: &Windows<Viewport>) -> Viewport
     viewport_at(windows, windows.current())
 }
 
-/// The current window shows its buffer, which is this, with point's line in its middle. `Memory`
-/// where that is not listed, and nothing changes then.
+/// The current window shows its buffer, which is this, with point's line in its middle. Out of
+/// memory if that is not listed, and nothing changes then.
 fn recenter<S: TextStore>(
     windows: &mut Windows<Viewport>,
     opened: &VisitedBuffer<S>,
-) -> Result<(), ActionFault>
-    ensures memory { IfErr result (λ e. e ≡ Memory) }
-    ensures exact { OnOk result ((windows.new, result)
+) -> Result<(), OutOfMemory>
+    ensures exact { OnOk result ((windows.new, Ok tt)
         ≡ spec.window_outcome Arrangement.Recenter opened.now windows.old) }
     ensures same { OnErr result (windows.new ≡ windows.old) }
     ensures shown { (n : ℕ) → ShowThese n windows.old.windows → ShowThese n windows.new.windows }
 {
-    let Some(line) = opened.buffer.line() else {
-        return Err(ActionFault::Memory);
-    };
+    let line = opened.buffer.line()?;
     let index = windows.current();
     let height = windows.heights()[index];
     let buffer = current_viewport(windows).buffer;
@@ -104,12 +102,10 @@ impl<S: TextStore> Workspace<S> {
         ensures arranged { spec.Done (Arrange arrangement) self.old (self.new, result) }
         ensures kept { result ≡ Err Memory → self.new ≡ self.old }
     {
-        let Ok(()) = self.list() else {
-            return Err(ActionFault::Memory);
-        };
+        self.list()?;
         let opened = self.buffers.current();
         let answer = change_windows(&mut self.windows, arrangement, opened);
-        if let Err(ActionFault::Memory) = answer {
+        if let Err(ActionFault::Memory(_)) = answer {
             return answer;
         }
         self.buffers.idle(&mut self.memo);

@@ -1,6 +1,6 @@
 //! Buffers that are gone to, removed, opened.
 ghost use Rattle.std.specs.Prelude.{◌≡◌, ◌≢◌, ◌<◌, ◌≤◌, Err, length, OnOk, OnErr};
-ghost use Rattle.mg_workspace.specs.declared.fault.ActionFault.TheVariants.{Memory};
+ghost use Rattle.mg_workspace.specs.Memory.{ActionMemory as Memory};
 ghost use Rattle.mg_workspace.specs.Buffers.{most_buffers};
 ghost use Rattle.mg_workspace.specs.Actions as spec;
 ghost use Rattle.mg_workspace.specs.Viewports as viewports;

@@ -1,5 +1,5 @@
 //! Windows over buffers. Each is placed, and shown, by the buffer that it is over.
-ghost use Rattle.std.specs.Prelude.{◌≡◌, ◌<◌, ◌≤◌, ℕ, List, Some, IfOk, IfSome, OnOk, length, slice_get, ◌++◌, [], ◌∷◌};
+ghost use Rattle.std.specs.Prelude.{◌≡◌, ◌<◌, ◌≤◌, ℕ, List, Some, IfOk, OnOk, length, slice_get, ◌++◌, [], ◌∷◌};
 ghost use Rattle.mg_screen.specs.Size.{most_rows};
 ghost use Rattle.mg_screen.specs.Layout.{all_shown, window, FillsRows};
 ghost use Rattle.mg_buffer.specs.OpenState.{OpenState};
@@ -12,29 +12,28 @@ use crate::buffers::Buffers;
 use crate::viewport::Viewport;
 use crate::workspace::Workspace;
 use mg_buffer::{Memo, VisitedBuffer};
-use mg_screen::{FrameFault, Pane, Windows, first_line};
+use mg_screen::{Pane, Windows, first_line};
+use rga_ops::OutOfMemory;
 use rga_store::TextStore;
 use std::alloc::{AllocError, Global};
 
-/// What the window at an index shows once it is placed: its buffer, with the line of point. `None`
-/// where that buffer is not listed.
+/// What the window at an index shows once it is placed: its buffer, with the line of point. Out of
+/// memory if that buffer is not listed.
 fn placed_viewport<S: TextStore>(
     windows: &Windows<Viewport>,
     index: usize,
     buffers: &Buffers<S>,
-) -> Option<Viewport>
+) -> Result<Viewport, OutOfMemory>
     requires shown { ShowThese (length buffers.now.all) windows.now.windows }
     requires within { index < length windows.now.windows }
     ensures exact { let placed = spec.placed_windows buffers.now.all windows.now in
-        IfSome result (λ x. slice_get (all_shown placed.windows) index ≡ Some x) }
-    ensures within { IfSome result (λ x. x.buffer < length buffers.now.all) }
+        IfOk result (λ x. slice_get (all_shown placed.windows) index ≡ Some x) }
+    ensures within { IfOk result (λ x. x.buffer < length buffers.now.all) }
 {
     let shown = viewport_at(windows, index);
     let height = height_at(windows, index);
-    let Some(line) = buffers.at(shown.buffer).buffer.line() else {
-        return None;
-    };
-    Some(Viewport {
+    let line = buffers.at(shown.buffer).buffer.line()?;
+    Ok(Viewport {
         buffer: shown.buffer,
         first: first_line(line, shown.first, height),
     })
@@ -44,19 +43,15 @@ fn placed_viewports<S: TextStore>(
     alloc: Global,
     windows: &Windows<Viewport>,
     buffers: &Buffers<S>,
-) -> Result<Vec<Viewport>, FrameFault>
+) -> Result<Vec<Viewport>, OutOfMemory>
     requires shown { ShowThese (length buffers.now.all) windows.now.windows }
     ensures { let placed = spec.placed_windows buffers.now.all windows.now in
         IfOk result (λ viewports. viewports.items ≡ all_shown placed.windows) }
 {
     let mut placed = Vec::new(alloc);
     for index in 0..windows.heights().len() {
-        let Some(viewport) = placed_viewport(windows, index, buffers) else {
-            return Err(FrameFault::Memory);
-        };
-        let Ok(()) = placed.push(viewport) else {
-            return Err(FrameFault::Memory);
-        };
+        let viewport = placed_viewport(windows, index, buffers)?;
+        placed.push(viewport)?;
     }
     Ok(placed)
 }
@@ -80,17 +75,14 @@ fn pane<'a, S: TextStore>(
     memo: &'a Memo,
     shown: Viewport,
     height: usize,
-) -> Result<Pane<'a>, FrameFault>
+) -> Result<Pane<'a>, OutOfMemory>
     requires height_from { 1 ≤ height }
     requires height_to { height ≤ most_rows }
     ensures { IfOk result (λ p. p ≡ spec.pane_over (Some opened.now) (window height shown)) }
 {
-    let (Some(view), Some(line)) = (opened.buffer.view(memo), opened.buffer.line()) else {
-        return Err(FrameFault::Memory);
-    };
-    let Ok(waiting) = opened.buffer.store().waiting_count() else {
-        return Err(FrameFault::Memory);
-    };
+    let view = opened.buffer.view(memo)?;
+    let line = opened.buffer.line()?;
+    let waiting = opened.buffer.store().waiting_count()?;
     Ok(Pane {
         text: view.text,
         point: view.point,
@@ -110,7 +102,7 @@ fn placed_pane<'a, S: TextStore>(
     index: usize,
     buffers: &'a Buffers<S>,
     memo: &'a Memo,
-) -> Result<Pane<'a>, FrameFault>
+) -> Result<Pane<'a>, OutOfMemory>
     requires shown { ShowThese (length buffers.now.all) windows.now.windows }
     requires within { index < length windows.now.windows }
     requires on_screen { (rows : ℕ) × FillsRows rows windows.now × (rows ≤ most_rows) }
@@ -118,9 +110,7 @@ fn placed_pane<'a, S: TextStore>(
         let panes = spec.panes_of bs (spec.placed_windows bs windows.now) in
         IfOk result (λ p. slice_get panes index ≡ Some p) }
 {
-    let Some(placed) = placed_viewport(windows, index, buffers) else {
-        return Err(FrameFault::Memory);
-    };
+    let placed = placed_viewport(windows, index, buffers)?;
     let height = height_at(windows, index);
     pane(alloc, buffers.at(placed.buffer), memo, placed, height)
 }
@@ -137,7 +127,7 @@ fn placed_panes<'a, S: TextStore>(
     windows: &Windows<Viewport>,
     buffers: &'a Buffers<S>,
     memo: &'a Memo,
-) -> Result<Vec<Pane<'a>>, FrameFault>
+) -> Result<Vec<Pane<'a>>, OutOfMemory>
     requires shown { ShowThese (length buffers.now.all) windows.now.windows }
     requires on_screen { (rows : ℕ) × FillsRows rows windows.now × (rows ≤ most_rows) }
     ensures { let bs = buffers.now.all in
@@ -169,8 +159,8 @@ impl<S: TextStore> Workspace<S> {
     }
 
     /// What each window shows once it is placed, from the top: its buffer, with the line of point.
-    /// `Memory`, also where one of the buffers is not listed.
-    pub fn placed_viewports(&self, alloc: Global) -> Result<Vec<Viewport>, FrameFault>
+    /// Out of memory, also if one of the buffers is not listed.
+    pub fn placed_viewports(&self, alloc: Global) -> Result<Vec<Viewport>, OutOfMemory>
         ensures { IfOk result
             (λ viewports. viewports.items ≡ all_shown (spec.placed_work self.now).windows.windows) }
     {
@@ -185,9 +175,9 @@ impl<S: TextStore> Workspace<S> {
         place_windows(&mut self.windows, placed);
     }
 
-    /// The windows as they are shown once they are placed. `Memory`, also where one of the buffers
-    /// is not listed.
-    pub fn panes<'a>(&'a self, alloc: Global) -> Result<Vec<Pane<'a>>, FrameFault>
+    /// The windows as they are shown once they are placed. Out of memory, also if one of the
+    /// buffers is not listed.
+    pub fn panes<'a>(&'a self, alloc: Global) -> Result<Vec<Pane<'a>>, OutOfMemory>
         requires on_screen { (rows : ℕ) × FillsRows rows self.now.windows × (rows ≤ most_rows) }
         ensures { IfOk result (λ ps. ps.items ≡ spec.work_panes (spec.placed_work self.now)) }
     {

@@ -1,5 +1,5 @@
 //! What is worked on: the buffers, what commands leave for the next one, and the windows.
-ghost use Rattle.std.specs.Prelude.{◌≡◌, ◌<◌, ◌≤◌, IfOk, IfErr, IfSome, length};
+ghost use Rattle.std.specs.Prelude.{◌≡◌, ◌<◌, ◌≤◌, IfOk, IfErr, length};
 ghost use Rattle.mg_screen.specs.Size.{least_columns, most_columns};
 ghost use Rattle.mg_workspace.specs.Buffers.{buffer_at};
 ghost use Rattle.mg_workspace.specs.Failures.{first_standing};
@@ -14,7 +14,7 @@ use mg_minibuffer::Scene;
 use mg_screen::{Settings, Windows};
 use rga_ops::OutOfMemory;
 use rga_store::TextStore;
-use std::alloc::{AllocError, Global};
+use std::alloc::Global;
 use std::marker::Model;
 
 /// How many buffers are open at most.
@@ -82,21 +82,19 @@ impl<S: TextStore> Workspace<S> {
     ghost use Rattle.mg_buffer.specs.contracts.visited_buffer.VisitedBuffer.{the_row as of_buffer};
     ghost use Rattle.mg_workspace.specs.contracts.workspace.Workspace.{the_row};
 
-    /// One buffer in one window, from its first line on. `AllocError` alone.
+    /// One buffer in one window, from its first line on. Out of memory alone.
     pub fn new(
         alloc: Global,
         settings: &Settings,
         mut opened: VisitedBuffer<S>,
-    ) -> Result<Workspace<S>, AllocError>
+    ) -> Result<Workspace<S>, OutOfMemory>
         ensures exact { IfOk result (λ w. w ≡ workspace settings.now opened) }
     {
         let values = settings.values();
         opened.append_runs(values.runs);
         opened.exchange_briefly(values.brief);
         let buffers = Buffers::new(alloc, opened)?;
-        let Ok(windows) = Windows::new(alloc, values.rows, BEGINNING) else {
-            return Err(AllocError);
-        };
+        let windows = Windows::new(alloc, values.rows, BEGINNING)?;
         Ok(Workspace {
             buffers,
             memo: Memo::new(alloc),
@@ -221,15 +219,14 @@ impl<S: TextStore> Workspace<S> {
         self.limit
     }
 
-    /// What a step is decided from. `None` where the current buffer is not listed. Takes no memory.
-    pub fn scene<'a>(&'a self) -> Option<Scene<'a>>
-        ensures { IfSome result (λ scene. scene ≡ spec.scene_of self.now) }
+    /// What a step is decided from. Out of memory if the current buffer is not listed. Takes
+    /// no memory.
+    pub fn scene<'a>(&'a self) -> Result<Scene<'a>, OutOfMemory>
+        ensures { IfOk result (λ scene. scene ≡ spec.scene_of self.now) }
     {
         let current = self.buffers.current();
-        let Some(view) = current.buffer.view(&self.memo) else {
-            return None;
-        };
-        Some(Scene {
+        let view = current.buffer.view(&self.memo)?;
+        Ok(Scene {
             text: view.text,
             point: view.point,
             rows: self.windows.heights()[self.windows.current()],

@@ -31,7 +31,7 @@ use Rattle.mgr.specs.declared.report.Message.TheVariants as message
 -- ---- the exit status: 1 where the input is refused, 3 where a device fails, 4 where memory is wanting
 
 abbrev pub line_status : LineFault → ℕ
-line_status line.Memory = 4
+line_status (line.Memory _) = 4
 line_status fault = 1
 
 abbrev pub refusal_status : Refusal → ℕ
@@ -42,20 +42,20 @@ abbrev pub log_status : ReceiveFault → ℕ
 log_status (receive.Line number fault) = line_status fault
 log_status (receive.Refused number refusal) = refusal_status refusal
 log_status receive.Read = 3
-log_status receive.Memory = 4
+log_status (receive.Memory _) = 4
 log_status fault = 1
 
 abbrev pub load_status : LoadFault → ℕ
 load_status (load.Log fault) = log_status fault
 load_status load.NotText = 1
 load_status (load.Store refusal) = refusal_status refusal
-load_status load.Memory = 4
+load_status (load.Memory _) = 4
 
 abbrev pub show_status : ShowFault → ℕ
 show_status (show.Line number fault) = line_status fault
 show_status (show.Refused number refusal) = refusal_status refusal
 show_status (show.Torn number) = 1
-show_status show.Memory = 4
+show_status (show.Memory _) = 4
 show_status fault = 3
 
 abbrev pub failure_status : Failure → ℕ
@@ -67,27 +67,27 @@ failure_status failure.Memory = 4
 abbrev pub session_status : SessionFault → ℕ
 session_status (session.Load fault) = load_status fault
 session_status (session.Failed why) = failure_status why
-session_status session.Memory = 4
+session_status (session.Memory _) = 4
 session_status fault = 3
 
 abbrev pub join_status : JoinFault → ℕ
 join_status (join.Log index fault) = show_status fault
 join_status join.Far = 1
 join_status join.Write = 3
-join_status join.Memory = 4
+join_status (join.Memory _) = 4
 
 abbrev pub missing_status : MissingFault → ℕ
 missing_status missing.Head = 1
 missing_status (missing.Claims fault) = log_status fault
 missing_status (missing.Log fault) = show_status fault
 missing_status missing.Write = 3
-missing_status missing.Memory = 4
+missing_status (missing.Memory _) = 4
 
 abbrev pub merge_status : MergeFault → ℕ
 merge_status (merge.Load fault) = load_status fault
 merge_status (merge.Log index fault) = show_status fault
 merge_status merge.File = 3
-merge_status merge.Memory = 4
+merge_status (merge.Memory _) = 4
 merge_status fault = 1
 
 -- that of an answer: 0 where there is no fault
@@ -101,7 +101,7 @@ abbrev pub line_report : ℕ → List ℕ → List ℕ
 line_report number name = codes "line " ++ (decimal number ++ (codes ": " ++ name))
 
 abbrev pub line_message : ℕ → LineFault → List ℕ
-line_message number line.Memory = codes "out of memory"
+line_message number (line.Memory _) = codes "out of memory"
 line_message number fault = line_report number (fault_name fault)
 
 abbrev pub refused_message : ℕ → Refusal → List ℕ
@@ -114,7 +114,7 @@ log_message (receive.Refused number refusal) = refused_message number refusal
 log_message receive.Cut = codes "log: Cut"
 log_message receive.Count = codes "log: Count"
 log_message receive.Read = codes "device fault"
-log_message receive.Memory = codes "out of memory"
+log_message (receive.Memory _) = codes "out of memory"
 
 abbrev pub store_message : Refusal → List ℕ
 store_message (refusal.Memory _) = codes "out of memory"
@@ -124,20 +124,20 @@ abbrev pub load_message : LoadFault → List ℕ
 load_message (load.Log fault) = log_message fault
 load_message load.NotText = codes "text: not UTF-8"
 load_message (load.Store refusal) = store_message refusal
-load_message load.Memory = codes "out of memory"
+load_message (load.Memory _) = codes "out of memory"
 
 abbrev pub show_message : ShowFault → List ℕ
 show_message (show.Line number fault) = line_message number fault
 show_message (show.Refused number refusal) = refused_message number refusal
 show_message (show.Torn number) = line_report number (codes "Torn")
-show_message show.Memory = codes "out of memory"
+show_message (show.Memory _) = codes "out of memory"
 show_message fault = codes "device fault"
 
 -- of a job that reads one log, whose name stands in front of what is wrong with it: what can't be written, and memory, are
 -- of no log
 abbrev pub source_message : List ℕ → ShowFault → List ℕ
 source_message log show.Write = codes "device fault"
-source_message log show.Memory = codes "out of memory"
+source_message log (show.Memory _) = codes "out of memory"
 source_message log fault = log ++ (codes ": " ++ show_message fault)
 
 -- with the name of a log in front, if there is one
@@ -150,11 +150,11 @@ abbrev pub join_message : List (List ℕ) → JoinFault → List ℕ
 join_message names (join.Log index fault) = named_text (slice_get names index) (show_message fault)
 join_message names join.Far = codes "counter far above the number of identifiers"
 join_message names join.Write = codes "device fault"
-join_message names join.Memory = codes "out of memory"
+join_message names (join.Memory _) = codes "out of memory"
 
 -- of claims, whose name stands in front
 abbrev pub claim_message : ℕ → LineFault → List ℕ
-claim_message number line.Memory = codes "out of memory"
+claim_message number (line.Memory _) = codes "out of memory"
 claim_message number fault = codes "claims: line " ++ (decimal number ++ (codes ": " ++ fault_name fault))
 
 abbrev pub refused_claim_message : ℕ → Refusal → List ℕ
@@ -167,7 +167,7 @@ claims_message (receive.Refused number refusal) = refused_claim_message number r
 claims_message receive.Cut = codes "claims: Cut"
 claims_message receive.Count = codes "claims: Count"
 claims_message receive.Read = codes "device fault"
-claims_message receive.Memory = codes "out of memory"
+claims_message (receive.Memory _) = codes "out of memory"
 
 -- of what the log with this name has and claims lack
 abbrev pub missing_message : List ℕ → MissingFault → List ℕ
@@ -175,7 +175,7 @@ missing_message log missing.Head = codes "claims: no head"
 missing_message log (missing.Claims fault) = claims_message fault
 missing_message log (missing.Log fault) = source_message log fault
 missing_message log missing.Write = codes "device fault"
-missing_message log missing.Memory = codes "out of memory"
+missing_message log (missing.Memory _) = codes "out of memory"
 
 -- of the merge of logs with these names into the note with this name, which stands in front where no log's does
 abbrev pub merge_message : List ℕ → List (List ℕ) → MergeFault → List ℕ
@@ -187,7 +187,7 @@ merge_message name logs (merge.Far index) = named_text (slice_get logs index) (c
 merge_message name logs merge.TextStays =
     name ++ (codes ": " ++ codes "the text stays: it is not the log's, but another program's or an older one (remove it, and mgr merge puts it anew)")
 merge_message name logs merge.File = codes "device fault"
-merge_message name logs merge.Memory = codes "out of memory"
+merge_message name logs (merge.Memory _) = codes "out of memory"
 
 -- of a log with one of these names, whose last line was cut off
 abbrev pub torn_message : List (List ℕ) → Torn → List ℕ
@@ -202,7 +202,7 @@ failure_message failure.Memory = codes "out of memory"
 abbrev pub session_message : SessionFault → List ℕ
 session_message (session.Load fault) = load_message fault
 session_message (session.Failed why) = failure_message why
-session_message session.Memory = codes "out of memory"
+session_message (session.Memory _) = codes "out of memory"
 session_message fault = codes "device fault"
 
 -- what a report says

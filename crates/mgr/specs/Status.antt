@@ -30,6 +30,7 @@ use Rattle.mgr_show.specs.Claims.{BeginsToTell, TellsClaims}
 use Rattle.mgr_show.specs.Missing.{BeginsMissing, IsOfClaims, IsOfLog as IsOfSource, OnBoth, WritesMissing, claims_heard, log_held, reads_failed as missing_reads_failed}
 use Rattle.mgr_show.specs.declared.fault.MissingFault.{MissingFault}
 use Rattle.mgr_show.specs.declared.fault.MissingFault.TheVariants as missing
+use Rattle.mgr_show.specs.Memory.{MissingMemory}
 use Rattle.mgr_mend.specs.Ends.{MendsInPart, mended_standing}
 use Rattle.mgr_mend.specs.Mending.{left_out_of, mended, refused_of}
 use Rattle.mgr_mend.specs.declared.mended.LeftOut.{LeftOut}
@@ -37,6 +38,7 @@ use Rattle.mgr_mend.specs.Merging.{BeginsToPut, BeginsToWrite, FindsNoNote, IsOf
 use Rattle.mgr_mend.specs.declared.merged.Merged.{Merged}
 use Rattle.mgr_mend.specs.declared.fault.MergeFault.{MergeFault}
 use Rattle.mgr_mend.specs.declared.fault.MergeFault.TheVariants as merge
+use Rattle.mgr_mend.specs.Memory.{MergeMemory}
 use Rattle.mgr_show.specs.Authors.{authors_bytes}
 use Rattle.mgr_show.specs.About.{BeginsToWriteAbout, WritesAbout, read_of}
 use Rattle.mgr_show.specs.Numbers.{FailedReads}
@@ -46,8 +48,10 @@ use Rattle.mgr_show.specs.Note.{IsReadable, front_of, log_name, log_source, note
 use Rattle.mgr_show.specs.Sources.{failures_after}
 use Rattle.mgr_show.specs.declared.fault.JoinFault.{JoinFault}
 use Rattle.mgr_show.specs.declared.fault.JoinFault.TheVariants as join
+use Rattle.mgr_show.specs.Memory.{JoinMemory}
 use Rattle.mgr_show.specs.declared.fault.ShowFault.{ShowFault}
 use Rattle.mgr_show.specs.declared.fault.ShowFault.TheVariants as fault
+use Rattle.mgr_show.specs.Memory.{ShowMemory}
 
 -- ---- what a job has to do with
 
@@ -120,7 +124,7 @@ pub record IsStatusOfShow {R W P S : Type 0} (remaining : R → Option (List ℕ
   pub told_line : TellsMore before.told after.told (answer_telling show_message answer)
   pub shown : OnOk answer (OnBytes remaining before.input (ShowsLog contents before.output after.output))
   pub refused : IfErr answer (λ e. IsOfInput e → OnBytes remaining before.input (λ bytes. log_of MAX_LIMIT bytes ≡ Err e))
-  pub nothing : IfErr answer (λ e. e ≢ fault.Write → e ≢ fault.Memory → WritesNothing contents before.output after.output)
+  pub nothing : IfErr answer (λ e. e ≢ fault.Write → e ≢ ShowMemory → WritesNothing contents before.output after.output)
   pub unwritten : IfErr answer (λ e. e ≢ fault.Write → after.output ≡ before.output)
   pub flushed : OnOk answer (after.output.flushed ≡ true)
   pub begun : OnErr answer (OnBytes remaining before.input (λ bytes. WritesNothing contents before.output after.output ⊎ BeginsToShow contents before.output after.output bytes))
@@ -136,7 +140,7 @@ pub record IsStatusOfCompact {P : Type 0} (standing : P → List ℕ → Option 
   pub keeps : OnOk answer (IfSome (standing before (string_bytes c.name)) (λ s. EndsWell c.flag s (standing after (string_bytes c.name))))
   pub refused : IfErr answer (λ e. IsOfInput e → IfSome (standing before (string_bytes c.name)) (λ s. (log_of MAX_LIMIT s.log ≡ Err e) × (standing after (string_bytes c.name) ≡ Some (left s))))
   pub begun : OnErr answer (IfSome (standing before (string_bytes c.name)) (λ s. EndsEarly c.flag s (standing after (string_bytes c.name))))
-  pub untouched : IfErr answer (λ e. e ≢ fault.Write → e ≢ fault.Memory → IfSome (standing before (string_bytes c.name)) (λ s. StaysSame s (standing after (string_bytes c.name))))
+  pub untouched : IfErr answer (λ e. e ≢ fault.Write → e ≢ ShowMemory → IfSome (standing before (string_bytes c.name)) (λ s. StaysSame s (standing after (string_bytes c.name))))
   pub others : SameElsewhere (string_bytes c.name) (standing before) (standing after)
   pub device : failures after ≡ failures_after_compaction answer (failures before)
 
@@ -189,7 +193,7 @@ module _ {R W P S : Type 0} (files : S → List ℕ → Option (List ℕ)) (cont
         (λ claims log. WritesMissing contents before.output after.output claims log number))
     pub claims : IfErr answer (λ e. IsOfClaims e → IfSome (files before.sources (codes "-")) (λ bytes. claims_heard bytes ≡ Err e))
     pub log : IfErr answer (λ e. IsOfSource e → IfSome (files before.sources (log_source name)) (λ bytes. log_held bytes ≡ Err e))
-    pub unwritten : IfErr answer (λ e. e ≢ missing.Write → e ≢ missing.Memory → after.output ≡ before.output)
+    pub unwritten : IfErr answer (λ e. e ≢ missing.Write → e ≢ MissingMemory → after.output ≡ before.output)
     pub nothing : IfErr answer (λ e. e ≢ missing.Write → WritesNothing contents before.output after.output)
     pub begun : OnErr answer (OnBoth (files before.sources (codes "-")) (files before.sources (log_source name))
         (λ claims log. WritesNothing contents before.output after.output ⊎ BeginsMissing contents before.output after.output claims log))
@@ -220,7 +224,7 @@ module _ {R W P S : Type 0} (files : S → List ℕ → Option (List ℕ)) (cont
     pub joined : OnOk answer (OnLogs (files before.sources) names (λ logs. Joins contents before.output after.output logs))
     pub refused : IfErr answer (λ e. IsOfLog e → OnLogs (files before.sources) names (λ logs. join_of MAX_LIMIT logs ≡ Err e))
     pub named : IfErr answer (λ e. NamesOneOf (length names) e)
-    pub unwritten : IfErr answer (λ e. e ≢ join.Write → e ≢ join.Memory → after.output ≡ before.output)
+    pub unwritten : IfErr answer (λ e. e ≢ join.Write → e ≢ JoinMemory → after.output ≡ before.output)
     pub begun : OnErr answer (OnLogs (files before.sources) names (λ logs. WritesNothing contents before.output after.output ⊎ BeginsToJoin contents before.output after.output logs))
     pub flushed : OnOk answer (after.output.flushed ≡ true)
     pub reads : failures after.sources ≡ reads_failed answer (failures before.sources)
@@ -241,7 +245,7 @@ module _ {P S W : Type 0} (calls : P → Option (List Call)) (port_failures : P 
     pub note : IfErr answer (λ e. IsOfNote e → FindsNoNote (calls before.port) (calls after.port) name e)
     pub refused : IfErr answer (λ e. IsOfLogs e → OnLogs (files before.sources) logs (λ logs. RefusesLogs (calls before.port) (calls after.port) name adopt logs e))
     pub stays : answer ≡ Err merge.TextStays → OnLogs (files before.sources) logs (λ logs. LeavesText (calls before.port) (calls after.port) name adopt logs)
-    pub unchanged : IfErr answer (λ e. e ≢ merge.File → e ≢ merge.Memory → OnlyLoads (calls before.port) (calls after.port) name)
+    pub unchanged : IfErr answer (λ e. e ≢ merge.File → e ≢ MergeMemory → OnlyLoads (calls before.port) (calls after.port) name)
     pub begun : OnErr answer (OnlyLoads (calls before.port) (calls after.port) name
         ⊎ OnLogs (files before.sources) logs (λ logs. BeginsToWrite (calls before.port) (calls after.port) name adopt logs))
     pub device : port_failures after.port ≡ calls_failed answer (port_failures before.port)
@@ -340,4 +344,4 @@ module _ {W : Type 0} (contents : W → Option (List ℕ)) where
   IsStatusOf (Help topic help) status old new told telling = IsStatusOfPrint contents None status old new told telling
   IsStatusOf (Version version) status old new told telling = IsStatusOfPrint contents None status old new told telling
   IsStatusOf (Usage mistake) status old new told telling = (status ≡ 2) × (new ≡ old) × TellsMore told telling (text (Usage mistake) ∷ [])
-  IsStatusOf Memory status old new told telling = (status ≡ 4) × (new ≡ old) × TellsMore told telling (line (codes "out of memory") ∷ [])
+  IsStatusOf (Memory _) status old new told telling = (status ≡ 4) × (new ≡ old) × TellsMore told telling (line (codes "out of memory") ∷ [])

@@ -78,7 +78,7 @@ impl Report {
             ShowFault::Refused(line, refusal) => of_refused(line, refusal),
             ShowFault::Torn(line) => refused(Message::Line(line, "Torn")),
             ShowFault::Read | ShowFault::Write => Report::DEVICE,
-            ShowFault::Memory => Report::MEMORY,
+            ShowFault::Memory(_) => Report::MEMORY,
         }
     }
 
@@ -91,9 +91,9 @@ impl Report {
         ensures text { spec.report_text result.message ≡ spec.claims_message fault }
     {
         match fault {
-            ReceiveFault::Line(_, LineFault::Memory)
+            ReceiveFault::Line(_, LineFault::Memory(_))
             | ReceiveFault::Refused(_, Refusal::Memory(_))
-            | ReceiveFault::Memory => Report::MEMORY,
+            | ReceiveFault::Memory(_) => Report::MEMORY,
             ReceiveFault::Line(line, fault) => refused(Message::Claim(line, fault.name())),
             ReceiveFault::Refused(line, refusal) => refused(Message::Claim(line, refusal.name())),
             ReceiveFault::Cut => refused(Message::File("claims", "Cut")),
@@ -113,9 +113,9 @@ impl Report {
             LoadFault::Log(ReceiveFault::Cut) => refused(Message::File("log", "Cut")),
             LoadFault::Log(ReceiveFault::Count) => refused(Message::File("log", "Count")),
             LoadFault::Log(ReceiveFault::Read) => Report::DEVICE,
-            LoadFault::Log(ReceiveFault::Memory)
+            LoadFault::Log(ReceiveFault::Memory(_))
             | LoadFault::Store(Refusal::Memory(_))
-            | LoadFault::Memory => Report::MEMORY,
+            | LoadFault::Memory(_) => Report::MEMORY,
             LoadFault::NotText => refused(Message::File("text", "not UTF-8")),
             LoadFault::Store(refusal) => refused(Message::File("text", refusal.name())),
         }
@@ -140,7 +140,7 @@ impl Report {
             | SessionFault::Keys
             | SessionFault::Screen
             | SessionFault::Failed(Failure::Device) => Report::DEVICE,
-            SessionFault::Memory | SessionFault::Failed(Failure::Memory) => Report::MEMORY,
+            SessionFault::Memory(_) | SessionFault::Failed(Failure::Memory) => Report::MEMORY,
         }
     }
 }
@@ -158,7 +158,7 @@ fn of_line(line: u64, fault: LineFault) -> Report
     ensures text { spec.report_text result.message ≡ spec.line_message line fault }
 {
     match fault {
-        LineFault::Memory => Report::MEMORY,
+        LineFault::Memory(_) => Report::MEMORY,
         _ => refused(Message::Line(line, fault.name())),
     }
 }

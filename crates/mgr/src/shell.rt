@@ -190,7 +190,7 @@ fn told_of_logs<T: Tell>(errors: &mut T, names: &[String], answer: Result<(), Jo
             )
         }
         Err(JoinFault::Write) => told(errors, Report::DEVICE),
-        Err(JoinFault::Memory) => told(errors, Report::MEMORY),
+        Err(JoinFault::Memory(_)) => told(errors, Report::MEMORY),
     }
 }
 
@@ -221,7 +221,7 @@ fn told_of_missing<T: Tell>(errors: &mut T, name: &str, answer: Result<u64, Miss
         Err(MissingFault::Claims(fault)) => told(errors, Report::of_claims(fault)),
         Err(MissingFault::Log(fault)) => told_of_source(errors, name, Err(fault)),
         Err(MissingFault::Write) => told(errors, Report::DEVICE),
-        Err(MissingFault::Memory) => told(errors, Report::MEMORY),
+        Err(MissingFault::Memory(_)) => told(errors, Report::MEMORY),
     }
 }
 
@@ -359,7 +359,7 @@ fn told_of_merge<T: Tell>(errors: &mut T, name: &str, logs: &[String], fault: Me
         }
         MergeFault::TextStays => told_of(errors, name, refused(Message::Note(TEXT_STAYS))),
         MergeFault::File => told(errors, Report::DEVICE),
-        MergeFault::Memory => told(errors, Report::MEMORY),
+        MergeFault::Memory(_) => told(errors, Report::MEMORY),
     }
 }
 
@@ -388,7 +388,7 @@ fn refuse<W: Write, T: Tell>(
             errors.tell_text(fault);
             job_status(fault)
         }
-        JobFault::Memory => told(errors, Report::MEMORY),
+        JobFault::Memory(_) => told(errors, Report::MEMORY),
     }
 }
 
@@ -424,7 +424,7 @@ fn told_of_note<T: Tell>(errors: &mut T, name: &str, answer: Result<(), ShowFaul
         Err(fault) => {
             let report = Report::of_show(&fault);
             match fault {
-                ShowFault::Write | ShowFault::Memory => errors.tell(report),
+                ShowFault::Write | ShowFault::Memory(_) => errors.tell(report),
                 _ => errors.tell_of_note(name, report),
             }
             report.status
@@ -445,7 +445,7 @@ fn told_of_source<T: Tell>(errors: &mut T, name: &str, answer: Result<(), ShowFa
     match answer {
         Ok(()) => 0,
         Err(ShowFault::Write) => told(errors, Report::DEVICE),
-        Err(ShowFault::Memory) => told(errors, Report::MEMORY),
+        Err(ShowFault::Memory(_)) => told(errors, Report::MEMORY),
         Err(fault) => told_of(errors, name, Report::of_show(&fault)),
     }
 }

@@ -3,6 +3,7 @@ ghost use Rattle.std.specs.Prelude.{◌≡◌, None};
 ghost use Rattle.mgr_show.specs.Sources.{failures_after};
 
 use mgr_show::{ShowFault, Sources};
+use rga_ops::of_io;
 use std::alloc::Global;
 use std::fs::File;
 use std::io::{ErrorKind, Read};
@@ -52,11 +53,13 @@ impl<R: Files<File = File> + Input> Sources for PathFiles<R> {
     fn read(&mut self, alloc: Global, name: &str) -> Result<Vec<u8>, ShowFault> {
         match self.bytes_of(alloc, name) {
             Ok(bytes) => Ok(bytes),
-            Err(error) if error.kind() == ErrorKind::OutOfMemory => Err(ShowFault::Memory),
-            Err(_) => {
-                self.failures = self.failures.saturating_add(1);
-                Err(ShowFault::Read)
-            }
+            Err(error) => match of_io(&error) {
+                Some(memory) => Err(ShowFault::Memory(memory)),
+                None => {
+                    self.failures = self.failures.saturating_add(1);
+                    Err(ShowFault::Read)
+                }
+            },
         }
     }
 }

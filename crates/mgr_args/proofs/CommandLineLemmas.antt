@@ -22,7 +22,8 @@ use Rattle.clap.proofs.OnLiterals.{clap_on_literals}
 use Rattle.mgr_args.specs.Job.{Finds, FoundGives, IsFaultBehind, IsFaultOf, IsFaultOfKind, IsJobOf, IsNotChosen, kinds_behind}
 use Rattle.mgr_args.specs.declared.job.Job.{Job}
 use Rattle.mgr_args.specs.declared.job.JobFault.{JobFault}
-use Rattle.mgr_args.specs.declared.job.JobFault.TheVariants.{Help, Version, Usage, Memory}
+use Rattle.mgr_args.specs.declared.job.JobFault.TheVariants.{Help, Version, Usage, Memory as OfMemory}
+use Rattle.mgr_args.specs.Memory.{JobMemory as Memory}
 use Rattle.mgr_args.specs.declared.job.Topic.{Topic}
 use Rattle.mgr_args.specs.declared.job.Topic.TheVariants as topic
 use Rattle.mgr_args.specs.CommandLine.{Text, Wish, arguments_wish, asking, command_line, with_help_flag, help, is_help_flag, is_version_flag, job_topics, mistake, topic_among, topic_of, topic_of_word, version, wish_of, wish_on, word_of}
@@ -408,13 +409,13 @@ memory_of mistake = tt
 
 -- behind the word of a job
 fault_behind : (on topic : Topic) (kinds : Kinds) (Nothing : Type 0) (k : ErrorKind) (fault : JobFault) → on ≡ topic → IsAmong k kinds → IsFaultOfKind on k fault → IsFaultBehind topic kinds Nothing fault
-fault_behind on topic kinds Nothing k Memory same among is = tt
+fault_behind on topic kinds Nothing k (OfMemory _) same among is = tt
 fault_behind on topic kinds Nothing k (Help t text) same among is = (is.1 ∙ same, subst (λ j. IsAmong j kinds) is.0 among)
 fault_behind on topic kinds Nothing k (Version text) same among is = subst (λ j. IsAmong j kinds) is among
 fault_behind on topic kinds Nothing k (Usage text) same among is = inl (k, is.0, is.1, among)
 
 fault_of_kind : (on : Topic) (wish : Wish) (k : ErrorKind) (fault : JobFault) → IsKindOf on wish k → IsFaultOfKind on k fault → IsFaultOf wish fault
-fault_of_kind on wish k Memory of is = memory_of wish
+fault_of_kind on wish k (OfMemory _) of is = memory_of wish
 fault_of_kind on (asking asked words) k fault of is = fault_behind on asked (kinds_behind (word_of asked) words) (Finds asked words None) k fault of.0 of.1 is
 fault_of_kind on help k (Help t text) of is = (refl, is.1 ∙ of.0)
 fault_of_kind on help k (Version text) of is = absurd (let clash : kind.DisplayHelp ≡ kind.DisplayVersion = sym of.1 ∙ is in cc)
@@ -427,7 +428,7 @@ fault_of_kind on mistake k (Version text) of is = absurd (both_ways _ of (ap is_
 fault_of_kind on mistake k (Usage text) of is = refl
 
 fault_of_memory : (on : Topic) (wish : Wish) (k : ErrorKind) (fault : JobFault) → k ≡ kind.OutOfMemory → IsFaultOfKind on k fault → IsFaultOf wish fault
-fault_of_memory on wish k Memory memory is = memory_of wish
+fault_of_memory on wish k (OfMemory _) memory is = memory_of wish
 fault_of_memory on wish k (Help t text) memory is = absurd (let clash : kind.OutOfMemory ≡ kind.DisplayHelp = sym memory ∙ is.0 in cc)
 fault_of_memory on wish k (Version text) memory is = absurd (let clash : kind.OutOfMemory ≡ kind.DisplayVersion = sym memory ∙ is in cc)
 fault_of_memory on wish k (Usage text) memory is = absurd (is.2 memory)
@@ -459,7 +460,7 @@ chooses_wish (asking asked words) on ks found are none entered =
     finds o rows gives = (sym are.1 ∙ none, subst (λ f. FoundGives asked f o) rows (subst (λ t. FoundGives t found o) are.0 gives))
 
     fault : found ≡ rows_entered (word_of asked ∷ words) → (f : JobFault) → IsNotChosen on found f → IsFaultOf (asking asked words) f
-    fault rows Memory chosen = tt
+    fault rows (OfMemory _) chosen = tt
     fault rows (Help t text) chosen = absurd chosen
     fault rows (Version text) chosen = absurd chosen
     fault rows (Usage text) chosen = inr (finds None rows chosen)

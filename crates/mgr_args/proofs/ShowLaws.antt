@@ -7,7 +7,8 @@ use Rattle.mgr_args.specs.declared.given.Shown.TheVariants.{Input, Front}
 use Rattle.mgr_args.specs.declared.job.Job.{Job}
 use Rattle.mgr_args.specs.declared.job.Job.TheVariants.{Show, Edit, Compact, Join, Log, Who, Claims, Missing, Merge, Mend}
 use Rattle.mgr_args.specs.declared.job.JobFault.{JobFault}
-use Rattle.mgr_args.specs.declared.job.JobFault.TheVariants.{Help, Version, Usage, Memory}
+use Rattle.mgr_args.specs.declared.job.JobFault.TheVariants.{Help, Version, Usage, Memory as OfMemory}
+use Rattle.mgr_args.specs.Memory.{JobMemory as Memory}
 use Rattle.mgr_args.specs.declared.job.Topic.TheVariants as topic
 
 no_rows : rows_behind_job (codes "show") [] ≡ Some []
@@ -42,7 +43,7 @@ pub only_memory : (fault : JobFault) → IsFaultBehind topic.Show (kinds_behind 
 only_memory fault is = of fault (subst (λ kinds. IsFaultBehind topic.Show kinds (Finds topic.Show [] None) fault) no_kinds is)
   where
     of : (f : JobFault) → IsFaultBehind topic.Show [] (Finds topic.Show [] None) f → f ≡ Memory
-    of Memory is = refl
+    of (OfMemory _) is = refl
     of (Help on text) is = absurd is.1
     of (Version text) is = absurd is
     of (Usage text) (inl some) = absurd some.3

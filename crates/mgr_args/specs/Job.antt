@@ -79,7 +79,7 @@ abbrev pub IsFaultBehind : Topic → Kinds → Type 0 → JobFault → Type 0
 IsFaultBehind topic kinds Nothing (Help on text) = (on ≡ topic) × IsAmong DisplayHelp kinds
 IsFaultBehind topic kinds Nothing (Version text) = IsAmong DisplayVersion kinds
 IsFaultBehind topic kinds Nothing (Usage text) = HasMistake kinds ⊎ Nothing
-IsFaultBehind topic kinds Nothing Memory = Unit {0}
+IsFaultBehind topic kinds Nothing (Memory _) = Unit {0}
 
 -- why such a wish gives no job; any may fail for memory
 abbrev pub IsFaultOf : Wish → JobFault → Type 0
@@ -87,7 +87,7 @@ IsFaultOf (asking on words) fault = IsFaultBehind on (kinds_behind (word_of on) 
 IsFaultOf wish (Help on text) = (wish ≡ help) × (on ≡ topic.Program)
 IsFaultOf wish (Version text) = wish ≡ version
 IsFaultOf wish (Usage text) = wish ≡ mistake
-IsFaultOf wish Memory = Unit {0}
+IsFaultOf wish (Memory _) = Unit {0}
 
 -- ---- of what clap found
 
@@ -97,7 +97,7 @@ rows_behind matches = option_map (λ p. p.1) (subcommand_rows_of matches)
 
 abbrev pub IsNotChosen : Topic → Option (List Row) → JobFault → Type 0
 IsNotChosen on found (Usage text) = FoundGives on found None
-IsNotChosen on found Memory = Unit {0}
+IsNotChosen on found (Memory _) = Unit {0}
 IsNotChosen on found fault = ⊥
 
 -- what clap's kind of error is to the program, where help is on that topic
@@ -106,11 +106,11 @@ IsFaultOfKind topic kind (Help on text) = (kind ≡ DisplayHelp) × (on ≡ topi
 IsFaultOfKind topic kind (Version text) = kind ≡ DisplayVersion
 IsFaultOfKind topic kind (Usage text) =
     (kind ≢ DisplayHelp) × (kind ≢ DisplayVersion) × (kind ≢ OutOfMemory)
-IsFaultOfKind topic kind Memory = kind ≡ OutOfMemory
+IsFaultOfKind topic kind (Memory _) = kind ≡ OutOfMemory
 
 -- the exit status
 abbrev pub job_status_of : JobFault → ℕ
 job_status_of (Help topic text) = 0
 job_status_of (Version text) = 0
 job_status_of (Usage text) = 2
-job_status_of Memory = 4
+job_status_of (Memory _) = 4

@@ -3,3 +3,4 @@ pub mod Given
 pub mod Edit
 pub mod CommandLine
 pub mod Job
+pub mod Memory

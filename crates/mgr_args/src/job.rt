@@ -6,7 +6,7 @@ ghost use Rattle.clap.specs.Walk.{rows_of, texts};
 ghost use Rattle.mgr_args.specs.CommandLine.{mistake, topic_of, wish_of, with_help_flag};
 ghost use Rattle.mgr_args.specs.Job.{FoundGives, GivesJob, IsFaultOf, IsFaultOfKind, IsJobOf};
 ghost use Rattle.mgr_args.specs.Job.{IsNotChosen, job_status_of, rows_behind};
-ghost use Rattle.mgr_args.specs.declared.job.JobFault.TheVariants.{Memory};
+ghost use Rattle.mgr_args.specs.Memory.{JobMemory as Memory};
 
 use crate::command::command;
 use crate::given::{
@@ -16,6 +16,7 @@ use crate::given::{
 use clap::error::ErrorKind;
 use clap::{ArgMatches, Error};
 use mg_screen::Settings;
+use rga_ops::OutOfMemory;
 use std::alloc::{AllocError, Global};
 
 /// What the program is to do.
@@ -74,14 +75,14 @@ pub enum JobFault {
     Usage(Error),
     /// A growth of memory was refused.
     #[error("out of memory")]
-    Memory,
+    Memory(OutOfMemory),
 }
 
 impl From<AllocError> for JobFault {
     ghost from_gives = { λ _ fault. fault ≡ Memory };
 
-    fn from(_error: AllocError) -> JobFault {
-        JobFault::Memory
+    fn from(refused: AllocError) -> JobFault {
+        JobFault::Memory(OutOfMemory::from(refused))
     }
 }
 
@@ -93,7 +94,7 @@ pub fn job_status(fault: &JobFault) -> u8
     match fault {
         JobFault::Help(_, _) | JobFault::Version(_) => 0,
         JobFault::Usage(_) => 2,
-        JobFault::Memory => 4,
+        JobFault::Memory(_) => 4,
     }
 }
 
@@ -114,9 +115,7 @@ pub fn job_of(alloc: Global, words: &[String]) -> Result<Job, JobFault>
     ensures fault { IfErr result (IsFaultOf (wish_of (map string_bytes words.now))) }
 {
     let words = with_help_flag(alloc, words)?;
-    let Ok(command) = command(alloc) else {
-        return Err(JobFault::Memory);
-    };
+    let command = command(alloc)?;
     let topic = topic_of(&words);
     match command.try_get_matches_from(words.as_slice()) {
         Ok(matches) => chosen(alloc, topic, &matches),
@@ -240,7 +239,8 @@ fn fault_of(error: Error, topic: Topic) -> JobFault
     match error.kind() {
         ErrorKind::DisplayHelp => JobFault::Help(topic, error),
         ErrorKind::DisplayVersion => JobFault::Version(error),
-        ErrorKind::OutOfMemory => JobFault::Memory,
+        // clap keeps no refusal, but only that there was one.
+        ErrorKind::OutOfMemory => JobFault::from(AllocError),
         _ => JobFault::Usage(error),
     }
 }
@@ -249,11 +249,12 @@ fn fault_of(error: Error, topic: Topic) -> JobFault
 pub(crate) fn mistake(alloc: Global, reason: &str) -> JobFault
     ensures { IsFaultOf mistake result }
 {
-    let Ok(mut command) = command(alloc) else {
-        return JobFault::Memory;
+    let mut command = match command(alloc) {
+        Ok(command) => command,
+        Err(refused) => return JobFault::from(refused),
     };
     match command.error(ErrorKind::InvalidValue, reason) {
         Ok(error) => JobFault::Usage(error),
-        Err(_) => JobFault::Memory,
+        Err(refused) => JobFault::from(refused),
     }
 }

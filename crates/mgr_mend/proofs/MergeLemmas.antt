@@ -15,7 +15,8 @@ use Rattle.mgr_mend.specs.Beside.{Beside}
 use Rattle.mgr_mend.specs.Taking.{HasTaken, logs_taken, merged_from}
 use Rattle.mgr_mend.specs.Merging.{IsOfLogs, IsOfNote, BeginsInto, BeginsToPut, BeginsToWrite, GoesOn, LeavesAll, LeavesText, LoadsNote, Merges, MergesInto, OnlyLoads, RefusesLogs, Stays, StopsWriting, first_calls, owner, taking_outcome, write_calls}
 use Rattle.mgr_mend.specs.declared.fault.MergeFault.{MergeFault}
-use Rattle.mgr_mend.specs.declared.fault.MergeFault.TheVariants.{File, Memory}
+use Rattle.mgr_mend.specs.declared.fault.MergeFault.TheVariants.{File}
+use Rattle.mgr_mend.specs.Memory.{MergeMemory as Memory}
 use Rattle.mgr_mend.specs.declared.merged.Torn.{Torn}
 use Rattle.mgr_mend.specs.declared.text.Owner.{Owner}
 use Rattle.mgr_mend.specs.declared.text.Owner.TheVariants.{Note}

@@ -6,3 +6,4 @@ pub mod Beside
 pub mod Taking
 pub mod Merging
 pub mod MergedHeld
+pub mod Memory

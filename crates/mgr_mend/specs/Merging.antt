@@ -27,21 +27,22 @@ use Rattle.mgr_mend.specs.declared.text.Owner.{Owner}
 use Rattle.mgr_mend.specs.declared.text.Owner.TheVariants.{Note, AnyLog, Other}
 use Rattle.mgr_mend.specs.declared.merged.Torn.{Torn}
 use Rattle.mgr_mend.specs.declared.fault.MergeFault.{MergeFault}
-use Rattle.mgr_mend.specs.declared.fault.MergeFault.TheVariants.{NoLog, Load, Log, Apart, Far, TextStays, File, Memory}
+use Rattle.mgr_mend.specs.declared.fault.MergeFault.TheVariants.{NoLog, Load, Log, Apart, Far, TextStays, File, Memory as OfMemory}
+use Rattle.mgr_mend.specs.Memory.{MergeMemory as Memory}
 
 -- ---- faults
 
 abbrev pub port_fault : PortFault → MergeFault
 port_fault port.File = File
-port_fault port.Memory = Memory
+port_fault (port.Memory _) = Memory
 
 abbrev pub load_fault : LoadFault → MergeFault
-load_fault load.Memory = Memory
+load_fault (load.Memory _) = Memory
 load_fault e = Load e
 
 -- the fault of the log with this index: memory is no log's
 abbrev pub at_log : ℕ → ShowFault → MergeFault
-at_log n show.Memory = Memory
+at_log n (show.Memory _) = Memory
 at_log n e = Log n e
 
 -- how many calls of the port failed, after this answer to a merge
@@ -108,7 +109,7 @@ abbrev pub IsOfFinding : MergeFault → Type 0
 IsOfFinding NoLog = ⊤
 IsOfFinding (Load e) = ⊤
 IsOfFinding File = ⊤
-IsOfFinding Memory = ⊤
+IsOfFinding (OfMemory _) = ⊤
 IsOfFinding fault = ⊥
 
 -- faults of logs that are read and taken
@@ -129,7 +130,7 @@ IsOfMerging fault = ⊤
 -- faults of logs that are read alone
 abbrev pub IsOfReading : MergeFault → Type 0
 IsOfReading (Log n e) = e ≡ show.Read
-IsOfReading Memory = ⊤
+IsOfReading (OfMemory _) = ⊤
 IsOfReading fault = ⊥
 
 -- ---- logs

@@ -3,10 +3,11 @@ ghost use Rattle.std.specs.Prelude.{◌≡◌, ◌≢◌, ◌⊎◌, Some, Err, 
 ghost use Rattle.rga_store.specs.declared.text_store.TheConstants.{MAX_LIMIT};
 ghost use Rattle.mgr_show.specs.Log.{log_of};
 ghost use Rattle.mgr_show.specs.Shown.{IsOfInput};
-ghost use Rattle.mgr_show.specs.declared.fault.ShowFault.TheVariants.{Memory};
+ghost use Rattle.mgr_show.specs.Memory.{ShowMemory as Memory};
 ghost use Rattle.mgr_port.specs.Disk.{whole_steps};
 ghost use Rattle.mgr_port.specs.Logs.{SameElsewhere, StaysSame, StopsEarly, left, raised, renamed};
 ghost use Rattle.mgr_mend.specs.CompactionEnds.{EndsWell, EndsEarly, failures_after_compaction};
+ghost use Rattle.mgr_show.specs.Memory.{ShowMemory};
 
 use mg_files::PortFault;
 use mgr_port::Logs;
@@ -36,7 +37,7 @@ pub fn compact_note<L: Logs>(
     // Whatever fails, at least the last step is missing; and all where the log can't be read.
     ensures begun { OnErr result (IfSome (L.standing logs.old name.now)
         (λ s. EndsEarly dels s (L.standing logs.new name.now))) }
-    ensures untouched { IfErr result (λ e. e ≢ ShowFault.Write → e ≢ ShowFault.Memory
+    ensures untouched { IfErr result (λ e. e ≢ ShowFault.Write → e ≢ ShowMemory
         → IfSome (L.standing logs.old name.now)
         (λ s. StaysSame s (L.standing logs.new name.now))) }
     ensures others { SameElsewhere name.now (L.standing logs.old) (L.standing logs.new) }
@@ -46,12 +47,12 @@ pub fn compact_note<L: Logs>(
     let log = match logs.open_log(name) {
         Ok(log) => log,
         Err(PortFault::File) => return Err(ShowFault::Read),
-        Err(PortFault::Memory) => return Err(ShowFault::Memory),
+        Err(PortFault::Memory(memory)) => return Err(ShowFault::Memory(memory)),
     };
     let next = match logs.make_next(name, &log) {
         Ok(next) => next,
         Err(PortFault::File) => return Err(ShowFault::Write),
-        Err(PortFault::Memory) => return Err(ShowFault::Memory),
+        Err(PortFault::Memory(memory)) => return Err(ShowFault::Memory(memory)),
     };
     let mut reader = Counted::new(log);
     let mut writer = Counted::new(next);
@@ -86,6 +87,6 @@ fn give_name<L: Logs>(
     match logs.name_next(name, log, next) {
         Ok(()) => Ok(()),
         Err(PortFault::File) => Err(ShowFault::Write),
-        Err(PortFault::Memory) => Err(ShowFault::Memory),
+        Err(PortFault::Memory(memory)) => Err(ShowFault::Memory(memory)),
     }
 }

@@ -1,10 +1,11 @@
 //! Why logs are not merged.
 ghost use Rattle.std.specs.Prelude.{◌≡◌};
 ghost use Rattle.mgr_mend.specs.Merging.{at_log, load_fault, port_fault};
-ghost use Rattle.mgr_mend.specs.declared.fault.MergeFault.TheVariants.{Memory};
+ghost use Rattle.mgr_mend.specs.Memory.{MergeMemory as Memory};
 
 use mg_files::{LoadFault, PortFault};
 use mgr_show::ShowFault;
+use rga_ops::OutOfMemory;
 use std::alloc::AllocError;
 
 /// Why `mgr merge` leaves a note as it was, or, with `File` and `Memory`, may have written a part
@@ -28,14 +29,22 @@ pub enum MergeFault {
     /// A file of the note could not be read or written, or something else has it open.
     File,
     /// A growth of memory was refused.
-    Memory,
+    Memory(OutOfMemory),
+}
+
+impl From<OutOfMemory> for MergeFault {
+    ghost from_gives = { λ _ fault. fault ≡ Memory };
+
+    fn from(memory: OutOfMemory) -> MergeFault {
+        MergeFault::Memory(memory)
+    }
 }
 
 impl From<AllocError> for MergeFault {
     ghost from_gives = { λ _ fault. fault ≡ Memory };
 
-    fn from(_: AllocError) -> MergeFault {
-        MergeFault::Memory
+    fn from(refused: AllocError) -> MergeFault {
+        MergeFault::Memory(OutOfMemory::from(refused))
     }
 }
 
@@ -45,7 +54,7 @@ impl From<PortFault> for MergeFault {
     fn from(fault: PortFault) -> MergeFault {
         match fault {
             PortFault::File => MergeFault::File,
-            PortFault::Memory => MergeFault::Memory,
+            PortFault::Memory(memory) => MergeFault::Memory(memory),
         }
     }
 }
@@ -55,7 +64,7 @@ impl From<LoadFault> for MergeFault {
 
     fn from(fault: LoadFault) -> MergeFault {
         match fault {
-            LoadFault::Memory => MergeFault::Memory,
+            LoadFault::Memory(memory) => MergeFault::Memory(memory),
             other => MergeFault::Load(other),
         }
     }
@@ -67,7 +76,7 @@ impl MergeFault {
         ensures { result ≡ at_log index fault }
     {
         match fault {
-            ShowFault::Memory => MergeFault::Memory,
+            ShowFault::Memory(memory) => MergeFault::Memory(memory),
             other => MergeFault::Log(index, other),
         }
     }

@@ -8,9 +8,9 @@ ghost use Rattle.mgr_mend.specs.Taking.{are_any, are_untied, is_apart, is_known,
 
 use crate::reading::operations_of_line;
 use memchr::memchr;
-use rga_ops::{Id, Op};
+use rga_ops::{Id, Op, OutOfMemory};
 use rga_store::TextStore;
-use std::alloc::{AllocError, Global};
+use std::alloc::Global;
 
 /// By how much a counter may be above all that a note knows: who takes one that is far above can
 /// make few operations more.
@@ -22,7 +22,7 @@ pub(crate) fn is_apart<S: TextStore>(
     alloc: Global,
     store: &S,
     bytes: &[u8],
-) -> Result<bool, AllocError>
+) -> Result<bool, OutOfMemory>
     ensures { IfOk result (λ apart. apart ≡ is_apart (S.content store.now) bytes.now) }
 {
     if store.known() == 0 {
@@ -32,7 +32,7 @@ pub(crate) fn is_apart<S: TextStore>(
 }
 
 /// Whether a log has operations, and none is tied to what a store holds.
-fn are_untied<S: TextStore>(alloc: Global, store: &S, bytes: &[u8]) -> Result<bool, AllocError>
+fn are_untied<S: TextStore>(alloc: Global, store: &S, bytes: &[u8]) -> Result<bool, OutOfMemory>
     ensures { IfOk result (λ untied. untied
         ≡ are_untied (S.content store.now) (operations_of (all_lines bytes.now))) }
 {

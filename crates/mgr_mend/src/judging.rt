@@ -11,8 +11,8 @@ ghost use Rattle.mgr_mend.specs.Parts.{judged, AreWritableIfSound, HasLeast};
 
 use indexmap::IndexMap;
 use rga_lines::write_line;
-use rga_ops::{Id, Op};
-use std::alloc::{AllocError, Global};
+use rga_ops::{Id, Op, OutOfMemory};
+use std::alloc::Global;
 use std::cmp::Ordering;
 
 /// An operation, and whether another insertion is kept in its place.
@@ -24,7 +24,7 @@ pub(crate) struct Judged {
 
 /// Finds which of the operations are beaten: the insertions of an identifier but those with the
 /// least line.
-pub(crate) fn judge(alloc: Global, ops: &[Op]) -> Result<Vec<Judged>, AllocError>
+pub(crate) fn judge(alloc: Global, ops: &[Op]) -> Result<Vec<Judged>, OutOfMemory>
     ensures list { IfOk result (λ list. list.items ≡ map (judged ops.now) ops.now) }
     // What is well-formed can be read back.
     ensures writable { OnOk result (AreWritableIfSound ops.now) }
@@ -66,7 +66,7 @@ fn tell_deletion_writable(id: &Id)
 }
 
 /// Of each identifier that is inserted the insertion with the least line.
-fn least_insertions(alloc: Global, ops: &[Op]) -> Result<IndexMap<Id, Op>, AllocError>
+fn least_insertions(alloc: Global, ops: &[Op]) -> Result<IndexMap<Id, Op>, OutOfMemory>
     ensures { IfOk result (λ least. HasLeast ops.now least) }
 {
     let mut least = IndexMap::new(alloc);
@@ -77,7 +77,7 @@ fn least_insertions(alloc: Global, ops: &[Op]) -> Result<IndexMap<Id, Op>, Alloc
 }
 
 /// Puts an insertion into the place of the one that it beats, or where there is none.
-fn put_least(alloc: Global, least: &mut IndexMap<Id, Op>, op: &Op) -> Result<(), AllocError>
+fn put_least(alloc: Global, least: &mut IndexMap<Id, Op>, op: &Op) -> Result<(), OutOfMemory>
     ensures { OnOk result ((ops : List SpecOp) → HasLeast ops least.old
         → HasLeast (ops ++ op.now ∷ []) least.new) }
 {
@@ -102,7 +102,7 @@ fn least_of(least: &IndexMap<Id, Op>, id: Id) -> Option<Op>
 }
 
 /// Puts an insertion in the place of its identifier.
-fn enter(least: &mut IndexMap<Id, Op>, id: Id, op: Op) -> Result<(), AllocError>
+fn enter(least: &mut IndexMap<Id, Op>, id: Id, op: Op) -> Result<(), OutOfMemory>
     ensures { OnOk result ((other : Identifier) → get is_id least.new other
         ≡ (if is_id id other then Some op else get is_id least.old other)) }
 {
@@ -111,7 +111,7 @@ fn enter(least: &mut IndexMap<Id, Op>, id: Id, op: Op) -> Result<(), AllocError>
 }
 
 /// Whether the least insertion of its identifier beats the operation.
-fn is_beaten(alloc: Global, least: &IndexMap<Id, Op>, op: &Op) -> Result<bool, AllocError>
+fn is_beaten(alloc: Global, least: &IndexMap<Id, Op>, op: &Op) -> Result<bool, OutOfMemory>
     ensures { IfOk result (λ beaten. (ops : List SpecOp) → HasLeast ops least.now
         → Contains ops op.now → beaten ≡ spec.is_beaten ops op.now) }
 {
@@ -125,7 +125,7 @@ fn is_beaten(alloc: Global, least: &IndexMap<Id, Op>, op: &Op) -> Result<bool, A
 }
 
 /// Whether both are insertions of one identifier, and the line of the first is less.
-fn beats(alloc: Global, op: &Op, other: &Op) -> Result<bool, AllocError>
+fn beats(alloc: Global, op: &Op, other: &Op) -> Result<bool, OutOfMemory>
     ensures { IfOk result (λ less. less ≡ spec.beats op.now other.now) }
 {
     match (op, other) {
@@ -154,14 +154,10 @@ fn is_same_element(parent: Id, ch: char, above: Id, char: char) -> bool
 }
 
 /// Whether the line of the first operation is less, byte by byte.
-fn is_less(alloc: Global, op: &Op, other: &Op) -> Result<bool, AllocError>
+fn is_less(alloc: Global, op: &Op, other: &Op) -> Result<bool, OutOfMemory>
     ensures { IfOk result (λ less. less ≡ spec.is_less_line op.now other.now) }
 {
-    let Ok(line) = write_line(alloc, op) else {
-        return Err(AllocError);
-    };
-    let Ok(other_line) = write_line(alloc, other) else {
-        return Err(AllocError);
-    };
+    let line = write_line(alloc, op)?;
+    let other_line = write_line(alloc, other)?;
     Ok(line.as_bytes().cmp(other_line.as_bytes()) == Ordering::Less)
 }

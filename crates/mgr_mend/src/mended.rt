@@ -11,8 +11,8 @@ use crate::judging::{Judged, judge};
 use crate::reading::read_operations;
 use memchr::memchr;
 use rga_lines::write_line;
-use rga_ops::Op;
-use std::alloc::{AllocError, Global};
+use rga_ops::{Op, OutOfMemory};
+use std::alloc::Global;
 
 /// What was left out of a log, in lines.
 #[derive(Clone, Copy, PartialEq, Eq)]
@@ -42,8 +42,8 @@ pub struct Mended {
 /// after the last newline. Each other line is left out, and a rest that is none was cut off. Of
 /// insertions of one identifier that differ that one stays whose line, as `write_line` writes it,
 /// is the least, byte by byte. A line with one that does not stay is left out; in its place stand
-/// the lines of its other operations, each with its newline. `AllocError` alone.
-pub fn mend_log(alloc: Global, bytes: &[u8]) -> Result<Mended, AllocError>
+/// the lines of its other operations, each with its newline. Out of memory alone.
+pub fn mend_log(alloc: Global, bytes: &[u8]) -> Result<Mended, OutOfMemory>
     ensures log { IfOk result (λ m. m.log.items ≡ spec.mended bytes.now) }
     ensures refused { IfOk result (λ m. m.refused.items ≡ spec.refused_of bytes.now) }
     ensures left_out { IfOk result (λ m. m.left_out ≡ spec.left_out_of bytes.now) }
@@ -61,7 +61,7 @@ fn mend_lines(
     bytes: &[u8],
     counts: &[Option<usize>],
     judged: &[Judged],
-) -> Result<Mended, AllocError>
+) -> Result<Mended, OutOfMemory>
     requires counts { counts.now ≡ counts_of (spec.all_lines bytes.now) }
     requires judged { let all = spec.whole_operations bytes.now in
         judged.now ≡ map (spec_judged all) all }
@@ -134,7 +134,7 @@ fn put_part(
     part: &[u8],
     count: Option<usize>,
     own: &[Judged],
-) -> Result<Fate, AllocError>
+) -> Result<Fate, OutOfMemory>
     ensures fate { IfOk result (λ fate. fate ≡ judged_fate count own.now) }
     ensures log { IfOk result (λ fate. log.new.items
         ≡ log.old.items ++ spec.mended_as fate part.now (staying own.now)) }
@@ -175,7 +175,7 @@ fn has_beaten(own: &[Judged]) -> bool
 }
 
 /// Puts the lines of the operations that are not beaten.
-fn put_staying(alloc: Global, log: &mut Vec<u8>, own: &[Judged]) -> Result<(), AllocError>
+fn put_staying(alloc: Global, log: &mut Vec<u8>, own: &[Judged]) -> Result<(), OutOfMemory>
     ensures { OnOk result (log.new.items ≡ log.old.items ++ log_text (staying own.now)) }
 {
     let mut rest = own;
@@ -189,12 +189,10 @@ fn put_staying(alloc: Global, log: &mut Vec<u8>, own: &[Judged]) -> Result<(), A
 }
 
 /// Puts the line of an operation, with its newline.
-fn put_line(alloc: Global, log: &mut Vec<u8>, op: &Op) -> Result<(), AllocError>
+fn put_line(alloc: Global, log: &mut Vec<u8>, op: &Op) -> Result<(), OutOfMemory>
     ensures { OnOk result (log.new.items ≡ log.old.items ++ (line op.now ++ newline ∷ [])) }
 {
-    let Ok(line) = write_line(alloc, op) else {
-        return Err(AllocError);
-    };
+    let line = write_line(alloc, op)?;
     log.extend_from_slice(line.as_bytes())?;
     log.push(b'\n')?;
     Ok(())

@@ -5,6 +5,7 @@ ghost use Rattle.mgr_mend.specs.Merging.{BeginsInto, BeginsToPut, BeginsToWrite,
 ghost use Rattle.mgr_mend.specs.Merging.{IsOfFinding, IsOfLogs, IsOfMerging, IsOfNote};
 ghost use Rattle.mgr_mend.specs.Merging.{GoesOn, LeavesAll, LeavesText, Merges, MergesInto, PutsNote, Stays};
 ghost use Rattle.mgr_mend.specs.Merging.{calls_failed, reads_failed, taking_outcome};
+ghost use Rattle.mgr_mend.specs.Memory.{MergeMemory};
 
 use crate::fault::MergeFault;
 use crate::loading::{Beside, load_note};
@@ -50,7 +51,7 @@ pub fn merge_logs<S: TextStore, P: Port, F: Sources>(
     ensures text_stays { result ≡ Err MergeFault.TextStays
         → OnLogs (F.contents sources.old) (map string_bytes logs.now)
         (λ logs. LeavesText (P.calls port.old) (P.calls port.new) name.now adopt logs) }
-    ensures unwritten { IfErr result (λ e. e ≢ MergeFault.File → e ≢ MergeFault.Memory
+    ensures unwritten { IfErr result (λ e. e ≢ MergeFault.File → e ≢ MergeMemory
         → OnlyLoads (P.calls port.old) (P.calls port.new) name.now) }
     // Whatever fails, nothing is written, or a beginning of what is to be.
     ensures begun { OnErr result (OnlyLoads (P.calls port.old) (P.calls port.new) name.now
@@ -84,7 +85,7 @@ fn merge_loaded<S: TextStore, P: Port, F: Sources>(
     ensures text_stays { result ≡ Err MergeFault.TextStays
         → (P.calls port.new ≡ P.calls port.old) × OnLogs (F.contents sources.old)
         (map string_bytes logs.now) (λ logs. LeavesAll opened.old beside.now adopt logs) }
-    ensures unwritten { IfErr result (λ e. e ≢ MergeFault.File → e ≢ MergeFault.Memory
+    ensures unwritten { IfErr result (λ e. e ≢ MergeFault.File → e ≢ MergeMemory
         → P.calls port.new ≡ P.calls port.old) }
     ensures begun { OnErr result ((P.calls port.new ≡ P.calls port.old)
         ⊎ OnLogs (F.contents sources.old) (map string_bytes logs.now)

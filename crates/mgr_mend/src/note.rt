@@ -7,6 +7,7 @@ ghost use Rattle.mgr_port.specs.Logs.{SameElsewhere, StaysSame, StopsEarly, rena
 ghost use Rattle.mgr_mend.specs.CompactionEnds.{failures_after_compaction};
 ghost use Rattle.mgr_mend.specs.Mending.{mended, refused_of, left_out_of};
 ghost use Rattle.mgr_mend.specs.Ends.{MendsInPart, mended_standing};
+ghost use Rattle.mgr_show.specs.Memory.{ShowMemory};
 
 use crate::mended::{LeftOut, Mended, mend_log};
 use mg_files::PortFault;
@@ -41,7 +42,7 @@ pub fn mend_note<L: Logs>(alloc: Global, logs: &mut L, name: &str) -> Result<Lef
         → (L.standing logs.new name.now ≡ L.standing logs.old name.now)
         × (L.refused logs.new ≡ L.refused logs.old)) }
     ensures fault { IfErr result (λ e. (e ≡ ShowFault.Read) ⊎ (e ≡ ShowFault.Write)
-        ⊎ (e ≡ ShowFault.Memory)) }
+        ⊎ (e ≡ ShowMemory)) }
     ensures others { SameElsewhere name.now (L.standing logs.old) (L.standing logs.new) }
     ensures others_refused { SameElsewhere name.now (L.refused logs.old) (L.refused logs.new) }
     ensures device { L.failures logs.new
@@ -50,10 +51,11 @@ pub fn mend_note<L: Logs>(alloc: Global, logs: &mut L, name: &str) -> Result<Lef
     let (log, bytes) = match open_whole(logs, name) {
         Ok(opened) => opened,
         Err(PortFault::File) => return Err(ShowFault::Read),
-        Err(PortFault::Memory) => return Err(ShowFault::Memory),
+        Err(PortFault::Memory(memory)) => return Err(ShowFault::Memory(memory)),
     };
-    let Ok(mended) = mend_log(alloc, bytes.as_slice()) else {
-        return Err(ShowFault::Memory);
+    let mended = match mend_log(alloc, bytes.as_slice()) {
+        Ok(mended) => mended,
+        Err(memory) => return Err(ShowFault::Memory(memory)),
     };
     if mended.refused.as_slice().is_empty() {
         return Ok(mended.left_out);
@@ -61,7 +63,7 @@ pub fn mend_note<L: Logs>(alloc: Global, logs: &mut L, name: &str) -> Result<Lef
     match put_mended(logs, name, log, &mended) {
         Ok(()) => Ok(mended.left_out),
         Err(PortFault::File) => Err(ShowFault::Write),
-        Err(PortFault::Memory) => Err(ShowFault::Memory),
+        Err(PortFault::Memory(memory)) => Err(ShowFault::Memory(memory)),
     }
 }
 

@@ -7,8 +7,8 @@ ghost use Rattle.mgr_mend.specs.Parts.{count_said, counts_of};
 
 use memchr::memchr;
 use rga_lines::{Line, LineFault, read_any, read_deletion, read_insertions};
-use rga_ops::Op;
-use std::alloc::{AllocError, Global};
+use rga_ops::{Op, OutOfMemory};
+use std::alloc::Global;
 
 /// What the lines of a log say, and its rest as one more.
 #[derive(Drop)]
@@ -20,7 +20,7 @@ pub(crate) struct LogOperations {
 }
 
 /// Reads the operations of all lines that have some, and of the rest.
-pub(crate) fn read_operations(alloc: Global, bytes: &[u8]) -> Result<LogOperations, AllocError>
+pub(crate) fn read_operations(alloc: Global, bytes: &[u8]) -> Result<LogOperations, OutOfMemory>
     ensures ops { IfOk result (λ log. log.ops.items ≡ whole_operations bytes.now) }
     ensures counts { IfOk result (λ log. log.counts.items ≡ counts_of (all_lines bytes.now)) }
 {
@@ -46,7 +46,7 @@ fn add_line(
     counts: &mut Vec<Option<usize>>,
     own: &mut Vec<Op>,
     line: &[u8],
-) -> Result<(), AllocError>
+) -> Result<(), OutOfMemory>
     ensures ops { OnOk result (ops.new.items ≡ ops.old.items ++ line_operations line.now) }
     ensures counts { OnOk result (counts.new.items
         ≡ counts.old.items ++ count_said (operations_at line.now) ∷ []) }
@@ -59,7 +59,7 @@ fn add_line(
 
 /// Reads the operations of a line into the list, in place of what stood there, and answers how many
 /// they are: `None` if the line is no operation.
-fn read_line(alloc: Global, ops: &mut Vec<Op>, line: &[u8]) -> Result<Option<usize>, AllocError>
+fn read_line(alloc: Global, ops: &mut Vec<Op>, line: &[u8]) -> Result<Option<usize>, OutOfMemory>
     ensures ops { OnOk result (ops.new.items ≡ line_operations line.now) }
     ensures count { IfOk result (λ count. count ≡ count_said (operations_at line.now)) }
 {
@@ -71,12 +71,12 @@ fn read_line(alloc: Global, ops: &mut Vec<Op>, line: &[u8]) -> Result<Option<usi
     match read_insertions(ops, line) {
         Ok(true) => Ok(Some(ops.as_slice().len())),
         Ok(false) => read_other(alloc, ops, line),
-        Err(_) => Err(AllocError),
+        Err(memory) => Err(memory),
     }
 }
 
 /// The same of any line, whatever it is.
-fn read_other(alloc: Global, ops: &mut Vec<Op>, line: &[u8]) -> Result<Option<usize>, AllocError>
+fn read_other(alloc: Global, ops: &mut Vec<Op>, line: &[u8]) -> Result<Option<usize>, OutOfMemory>
     ensures ops { OnOk result (ops.new.items ≡ line_operations line.now) }
     ensures count { IfOk result (λ count. count ≡ count_said (operations_at line.now)) }
 {
@@ -89,27 +89,23 @@ fn read_other(alloc: Global, ops: &mut Vec<Op>, line: &[u8]) -> Result<Option<us
 }
 
 /// The operations that a line stands for; `None` for one that stands for none.
-pub(crate) fn operations_of_line(alloc: Global, line: &[u8]) -> Result<Option<Vec<Op>>, AllocError>
+pub(crate) fn operations_of_line(alloc: Global, line: &[u8]) -> Result<Option<Vec<Op>>, OutOfMemory>
     ensures { IfOk result (λ o. MatchOption o ((e : Fault) × (operations_at line.now ≡ Err e))
         (λ ops. operations_at line.now ≡ Ok ops.items)) }
 {
     match read_any(alloc, line) {
         Ok(Line::One(op)) => Ok(Some(vec![in alloc; op]?)),
         Ok(Line::Run(run)) => {
-            let Ok(ops) = run.ops(alloc) else {
-                return Err(AllocError);
-            };
+            let ops = run.ops(alloc)?;
             Ok(Some(ops))
         }
         Ok(Line::Deletions(run)) => {
-            let Ok(ops) = run.ops(alloc) else {
-                return Err(AllocError);
-            };
+            let ops = run.ops(alloc)?;
             Ok(Some(ops))
         }
         Ok(Line::Head) => Ok(None),
         Ok(Line::Last(_)) => Ok(None),
-        Err(LineFault::Memory) => Err(AllocError),
+        Err(LineFault::Memory(memory)) => Err(memory),
         Err(_) => Ok(None),
     }
 }

@@ -4,6 +4,7 @@ ghost use Rattle.rga_ops.specs.Content.{clock_of};
 ghost use Rattle.mgr_show.specs.Joined.{OnLogs};
 ghost use Rattle.mgr_mend.specs.Taking.{HasTaken, is_apart, log_merged, logs_taken, merged_from, torn_at};
 ghost use Rattle.mgr_mend.specs.Merging.{IsOfLogs, IsOfTaking, reads_failed};
+ghost use Rattle.mgr_mend.specs.Memory.{MergeMemory};
 
 use crate::fault::MergeFault;
 use crate::guards::{is_apart, is_far};
@@ -11,6 +12,7 @@ use crate::merged::Torn;
 use mg_buffer::Buffer;
 use mgr_show::{Sources, take_but_torn};
 use rga_exchange::{LogEnd, LogRead};
+use rga_ops::OutOfMemory;
 use rga_store::TextStore;
 use std::alloc::Global;
 
@@ -44,20 +46,17 @@ pub(crate) fn take_logs<S: TextStore, F: Sources>(
     Ok(torn)
 }
 
-/// Notes the last line of the log with this index if it was cut off. `Memory` alone.
-fn push_torn(torn: &mut Vec<Torn>, index: usize, read: LogRead) -> Result<(), MergeFault>
+/// Notes the last line of the log with this index if it was cut off. Out of memory alone.
+fn push_torn(torn: &mut Vec<Torn>, index: usize, read: LogRead) -> Result<(), OutOfMemory>
     requires { read.lines < 2 ^ 63 }
     ensures noted { OnOk result (torn.new.items
         ≡ torn.old.items ++ torn_at index read.lines read.end) }
-    ensures memory { IfErr result (λ e. e ≡ MergeFault.Memory) }
 {
     match read.end {
         LogEnd::Whole | LogEnd::Bare => Ok(()),
         LogEnd::Torn(_) => {
             let line = read.lines + 1;
-            let Ok(()) = torn.push(Torn { log: index, line }) else {
-                return Err(MergeFault::Memory);
-            };
+            torn.push(Torn { log: index, line })?;
             Ok(())
         }
     }
@@ -135,7 +134,7 @@ fn check_apart<S: TextStore>(
 ) -> Result<(), MergeFault>
     ensures together { OnOk result
         ((not adopt && is_apart (S.content store.now) bytes.now) ≡ false) }
-    ensures apart { IfErr result (λ e. (e ≡ MergeFault.Memory) ⊎ ((e ≡ MergeFault.Apart index)
+    ensures apart { IfErr result (λ e. (e ≡ MergeMemory) ⊎ ((e ≡ MergeFault.Apart index)
         × ((not adopt && is_apart (S.content store.now) bytes.now) ≡ true))) }
 {
     if adopt {

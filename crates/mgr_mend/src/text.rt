@@ -3,11 +3,13 @@ ghost use Rattle.std.specs.Prelude.{◌≡◌, ℕ, List, map, string_bytes, byt
 ghost use Rattle.std.specs.List.{list_any};
 ghost use Rattle.mgr_show.specs.Joined.{OnLogs};
 ghost use Rattle.mgr_mend.specs.Merging.{IsOfReading, is_text_of, owner, reads_failed};
+ghost use Rattle.mgr_mend.specs.Memory.{MergeMemory};
 
 use crate::fault::MergeFault;
 use crate::loading::Beside;
 use mg_buffer::Buffer;
 use mgr_show::{ShowFault, Sources, take_but_torn};
+use rga_ops::OutOfMemory;
 use rga_records::Records;
 use rga_store::{MAX_LIMIT, TextStore};
 use std::alloc::Global;
@@ -39,9 +41,7 @@ pub(crate) fn owner_of<S: TextStore, F: Sources>(
     let Some(text) = &beside.text else {
         return Ok(Owner::Note);
     };
-    let Ok(own) = buffer.text_string() else {
-        return Err(MergeFault::Memory);
-    };
+    let own = buffer.text_string()?;
     if is_same(own.as_bytes(), text) {
         return Ok(Owner::Note);
     }
@@ -92,26 +92,24 @@ fn is_of_named<F: Sources>(
     ensures reads { F.failures sources.new ≡ reads_failed result (F.failures sources.old) }
 {
     match sources.read(alloc, name) {
-        Ok(bytes) => is_text_of(alloc, text, bytes.as_slice()),
+        Ok(bytes) => Ok(is_text_of(alloc, text, bytes.as_slice())?),
         Err(fault) => Err(MergeFault::at_log(index, fault)),
     }
 }
 
-/// Whether a text is that of a log alone. `Memory` alone.
-fn is_text_of(alloc: Global, text: &[u8], bytes: &[u8]) -> Result<bool, MergeFault>
+/// Whether a text is that of a log alone. Out of memory alone.
+fn is_text_of(alloc: Global, text: &[u8], bytes: &[u8]) -> Result<bool, OutOfMemory>
     ensures is { IfOk result (λ is. is ≡ is_text_of text.now bytes.now) }
-    ensures memory { IfErr result (λ e. e ≡ MergeFault.Memory) }
 {
-    let Ok(mut records) = Records::new(alloc, MAX_LIMIT) else {
-        return Err(MergeFault::Memory);
+    let mut records = match Records::new(alloc, MAX_LIMIT) {
+        Ok(records) => records,
+        Err(refused) => return Err(refused.memory()),
     };
     match take_but_torn(alloc, &mut records, bytes) {
         Ok(_) => {}
-        Err(ShowFault::Memory) => return Err(MergeFault::Memory),
+        Err(ShowFault::Memory(memory)) => return Err(memory),
         Err(_) => return Ok(false),
     }
-    let Ok(own) = records.text_string(alloc) else {
-        return Err(MergeFault::Memory);
-    };
+    let own = records.text_string(alloc)?;
     Ok(is_same(own.as_bytes(), text))
 }

@@ -1,8 +1,12 @@
 //! Files that are whole whenever the machine stops, and of which nothing is destroyed.
+ghost use Rattle.std.specs.Prelude.{◌≡◌, Err, IsErr};
+ghost use Rattle.std.specs.declared.fs.TryLockError.TheVariants.{WouldBlock};
+ghost use Rattle.mgr_port.specs.Verdicts.{mode_like};
+
 use crate::patient::Patient;
 use crate::stamp::Stamp;
-use mg_files::{LogLines, PortFault};
-use rga_exchange::Counted;
+use mg_files::LogLines;
+use rga_exchange::{Counted, SendFault};
 use std::alloc::Global;
 use std::fs::{File, Metadata, OpenOptions, Permissions, TryLockError};
 use std::io::{ErrorKind, Write};
@@ -61,7 +65,14 @@ pub(crate) fn stands_for<R: Files>(rt: &R, path: &str, file: &File) -> io::Resul
 /// Locks a file for as long as it is open. `WouldBlock` where something else has it locked; a file
 /// system that has no locks is no reason to stop.
 pub(crate) fn lock(file: &File) -> io::Result<()> {
-    match file.try_lock() {
+    goes_on_after(file.try_lock())
+}
+
+/// Whether a note may be opened by what was answered to a try for a lock of its file.
+fn goes_on_after(answer: Result<(), TryLockError>) -> io::Result<()>
+    ensures { answer ≡ Err WouldBlock → IsErr result }
+{
+    match answer {
         Ok(()) | Err(TryLockError::Error(_)) => Ok(()),
         Err(TryLockError::WouldBlock) => Err(io::Error::from(ErrorKind::WouldBlock)),
     }
@@ -228,13 +239,17 @@ pub(crate) fn set_mode(file: &File, mode: u32) -> io::Result<()> {
 /// Gives a new log the owner and the group of another file, where that is allowed, and its mode, but
 /// that nobody runs it and its owner can add to it.
 pub(crate) fn take_mode(log: &File, standing: &Metadata) -> io::Result<()> {
-    // Another group is not let in.
-    let allowed = if take_owner(log, standing)? {
-        0o666
-    } else {
-        0o606
-    };
-    set_mode(log, (standing.mode() & allowed) | OWN)
+    let is_owned = take_owner(log, standing)?;
+    set_mode(log, mode_like(standing.mode(), is_owned))
+}
+
+/// The mode of a new file that stands for another, by the mode of that one and by whether it has its
+/// owner and group. Another group is not let in.
+fn mode_like(mode: u32, is_owned: bool) -> u32
+    ensures { result ≡ mode_like mode is_owned }
+{
+    let allowed = if is_owned { 0o666 } else { 0o606 };
+    (mode & allowed) | OWN
 }
 
 /// Gives a new file the owner and the group of another, and tells whether it has them.
@@ -253,8 +268,8 @@ pub(crate) fn write_lines(file: &mut File, lines: &LogLines) -> io::Result<()> {
     let failed = writer.into_inner().failed;
     match written {
         Ok(()) => Ok(()),
-        Err(PortFault::File) => Err(io::Error::from(failed.unwrap_or(ErrorKind::Other))),
-        Err(PortFault::Memory) => Err(io::Error::from(ErrorKind::OutOfMemory)),
+        Err(SendFault::Write) => Err(io::Error::from(failed.unwrap_or(ErrorKind::Other))),
+        Err(SendFault::Memory(memory)) => Err(io::Error::from(memory)),
     }
 }
 

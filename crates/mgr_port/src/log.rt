@@ -1,9 +1,12 @@
 //! A log that this port has open.
+ghost use Rattle.std.specs.Prelude.{◌≡◌, ◌↔◌, true};
+ghost use Rattle.mgr_port.specs.Verdicts.{MayGrow};
+
 use crate::files::{metadata_if_there, write_lines};
 use crate::staged::{Date, remove_next};
 use crate::stamp::{LATER, Stamp};
 use mg_files::LogLines;
-use std::fs::File;
+use std::fs::{File, Metadata};
 use std::io;
 use std::io::{ErrorKind, Read};
 use std::os::unix::fs::FileExt;
@@ -16,13 +19,28 @@ const END: usize = 256;
 #[derive(Drop)]
 pub(crate) struct Log {
     file: File,
+    pub(crate) left: LeftLog,
+}
+
+/// What a log was when this port left it.
+#[derive(Clone, Copy)]
+pub(crate) struct LeftLog {
     pub(crate) stamp: Stamp,
     end: End,
 }
 
+/// What is found of a log that was left: the file that has its name; how the open one ends where it
+/// was left, if it is that long; and whether it ends in a newline now.
+#[derive(Clone, Copy)]
+pub(crate) struct FoundLog {
+    stamp: Stamp,
+    end: Option<End>,
+    ends_in_newline: bool,
+}
+
 /// The last bytes of a log.
 #[derive(Clone, Copy, PartialEq, Eq)]
-struct End {
+pub(crate) struct End {
     bytes: [u8; END],
     length: usize,
 }
@@ -33,7 +51,10 @@ impl Log {
         let mut stamp = Stamp::of(&file.metadata()?);
         stamp.length = length;
         let end = End::of(&file, length)?;
-        Ok(Log { file, stamp, end })
+        Ok(Log {
+            file,
+            left: LeftLog { stamp, end },
+        })
     }
 
     /// Takes another name from it, if it has that: one that was killed when it gave the log its name may
@@ -66,37 +87,55 @@ impl Log {
         path: &str,
         lines: &LogLines,
     ) -> io::Result<()> {
-        if !self.only_grew(rt, path)? {
-            return Err(io::Error::from(ErrorKind::NotFound));
-        }
+        self.check_growth(rt, path)?;
         write_lines(&mut self.file, lines)?;
         self.file.sync_all()?;
         let stamp = Stamp::of(&self.file.metadata()?);
-        if stamp.length <= self.stamp.length || !self.only_grew(rt, path)? {
+        if stamp.length <= self.left.stamp.length {
             return Err(io::Error::from(ErrorKind::NotFound));
         }
-        self.end = End::of(&self.file, stamp.length)?;
-        self.stamp = stamp;
+        self.check_growth(rt, path)?;
+        let end = End::of(&self.file, stamp.length)?;
+        self.left = LeftLog { stamp, end };
         Ok(())
     }
 
-    /// Whether the path stands for the log, which has what it had, and at most lines behind it.
-    fn only_grew<R: Files>(&self, rt: &R, path: &str) -> io::Result<bool> {
-        let Some(there) = metadata_if_there(rt, path)? else {
-            return Ok(false);
-        };
-        let now = Stamp::of(&there);
-        if !now.is_of_the_file(&self.stamp) || now.length < self.stamp.length {
-            return Ok(false);
+    /// `NotFound` unless the path stands for the log, which has what it had, and at most lines behind
+    /// it.
+    fn check_growth<R: Files>(&self, rt: &R, path: &str) -> io::Result<()> {
+        if let Some(there) = metadata_if_there(rt, path)? {
+            if may_grow(&self.left, &self.look(&there)) {
+                return Ok(());
+            }
         }
-        if End::of(&self.file, self.stamp.length)? != self.end {
-            return Ok(false);
-        }
-        if now.length == self.stamp.length {
-            return Ok(true);
-        }
-        ends_in_a_newline(&self.file, now.length)
+        Err(io::Error::from(ErrorKind::NotFound))
     }
+
+    /// What is found of the log, where this has its name.
+    fn look(&self, there: &Metadata) -> FoundLog {
+        let stamp = Stamp::of(there);
+        FoundLog {
+            stamp,
+            end: End::of(&self.file, self.left.stamp.length).ok(),
+            ends_in_newline: ends_in_a_newline(&self.file, stamp.length).unwrap_or(false),
+        }
+    }
+}
+
+/// Whether lines may be put behind a log that was left, by what is found of it.
+fn may_grow(left: &LeftLog, found: &FoundLog) -> bool
+    ensures { (result ≡ true) ↔ MayGrow left.now found.now }
+{
+    if !found.stamp.is_of_the_file(&left.stamp) {
+        return false;
+    }
+    if found.stamp.length < left.stamp.length {
+        return false;
+    }
+    if found.end != Some(left.end) {
+        return false;
+    }
+    found.stamp.length == left.stamp.length || found.ends_in_newline
 }
 
 impl End {

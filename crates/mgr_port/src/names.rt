@@ -1,9 +1,9 @@
 //! The names of a note's files.
+use rga_ops::{OutOfMemory, of_io};
 use std::alloc::Global;
+use std::fs;
 use std::fs::File;
-use std::io::ErrorKind;
 use std::rt::Files;
-use std::{fs, io};
 
 /// The paths of a note's files. All but the first are made of it.
 #[derive(Drop)]
@@ -18,11 +18,11 @@ pub(crate) struct Paths {
 }
 
 impl Paths {
-    /// `OutOfMemory`, and no other error, where a growth of memory was refused.
+    /// Out of memory alone.
     pub(crate) fn new<R: Files<File = File> + AllocGlobal>(
         rt: &R,
         name: &str,
-    ) -> io::Result<Paths> {
+    ) -> Result<Paths, OutOfMemory> {
         let log = log_path(rt, name)?;
         Ok(Paths {
             text: path(rt.alloc(), name, "")?,
@@ -33,7 +33,7 @@ impl Paths {
     }
 
     /// The path of what is kept as refused of the log.
-    pub(crate) fn refused(&self, alloc: Global) -> io::Result<String> {
+    pub(crate) fn refused(&self, alloc: Global) -> Result<String, OutOfMemory> {
         path(alloc, self.log.as_str(), ".refused")
     }
 }
@@ -41,7 +41,10 @@ impl Paths {
 /// The path of the log of a name. Where a link stands there, it is that of the log behind it: a new
 /// log would take the place of the link alone, and who has the log under its own name would go on
 /// with the old one.
-fn log_path<R: Files<File = File> + AllocGlobal>(rt: &R, name: &str) -> io::Result<String> {
+fn log_path<R: Files<File = File> + AllocGlobal>(
+    rt: &R,
+    name: &str,
+) -> Result<String, OutOfMemory> {
     let log = path(rt.alloc(), name, ".ops")?;
     match fs::symlink_metadata(rt, log.as_str()) {
         Ok(standing) if standing.is_symlink() => {}
@@ -49,13 +52,15 @@ fn log_path<R: Files<File = File> + AllocGlobal>(rt: &R, name: &str) -> io::Resu
     }
     match fs::canonicalize(rt, log.as_str()) {
         Ok(path) => Ok(path.into_string()),
-        Err(error) if error.kind() == ErrorKind::OutOfMemory => Err(error),
-        // It leads to none.
-        Err(_) => Ok(log),
+        Err(error) => match of_io(&error) {
+            Some(memory) => Err(memory),
+            // It leads to none.
+            None => Ok(log),
+        },
     }
 }
 
 /// A name with this behind it.
-fn path(alloc: Global, name: &str, end: &str) -> io::Result<String> {
+fn path(alloc: Global, name: &str, end: &str) -> Result<String, OutOfMemory> {
     Ok(format!(in alloc; "{name}{end}")?)
 }

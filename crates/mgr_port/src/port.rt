@@ -1,8 +1,9 @@
 //! A port of files and sockets.
-ghost use Rattle.std.specs.Prelude.{◌≡◌, ◌≢◌, ◌<◌, Err, IfOk, IfErr, length};
+ghost use Rattle.std.specs.Prelude.{◌≡◌, ◌≢◌, ◌<◌, [], ◌∷◌, Err, IfOk, length};
+ghost use Rattle.std.specs.Net.Addr.{ipv4_octets};
+ghost use Rattle.std.specs.Net.Socket.{v4_ip, v4_port};
 ghost use Rattle.mg_files.specs.Calls.{failures_after, failures_after_link};
 ghost use Rattle.mg_files.specs.declared.port.LinkFault.TheVariants.{NoPort};
-ghost use Rattle.mg_files.specs.declared.port.PortFault.TheVariants.{Memory};
 ghost use Rattle.mgr_port.specs.Logs.{raised};
 
 use crate::log::Log;
@@ -12,10 +13,12 @@ use crate::note::Note;
 use crate::rewriting::{OpenLog, keep_refused, leave_next, make_next, name_next};
 use mg_files::{Found, LinkFault, LogLines, Port, PortFault};
 use rga_exchange::Counted;
+use rga_ops::{OutOfMemory, of_io};
 use std::fs::File;
 use std::io;
-use std::io::ErrorKind;
-use std::net::{Ipv4Addr, Net, OpenListener, OpenStream, Shutdown, TcpListener, TcpStream};
+use std::net::{
+    Ipv4Addr, Net, OpenListener, OpenStream, Shutdown, SocketAddrV4, TcpListener, TcpStream,
+};
 use std::rt::Files;
 
 /// Files by their paths: the text of a buffer under its name, its log under that name with `.ops`
@@ -71,11 +74,13 @@ fn told<T: Drop>(failures: &mut u64, answer: io::Result<T>) -> Result<T, PortFau
 {
     match answer {
         Ok(value) => Ok(value),
-        Err(error) if error.kind() == ErrorKind::OutOfMemory => Err(PortFault::Memory),
-        Err(_) => {
-            *failures = failures.saturating_add(1);
-            Err(PortFault::File)
-        }
+        Err(error) => match of_io(&error) {
+            Some(memory) => Err(PortFault::Memory(memory)),
+            None => {
+                *failures = failures.saturating_add(1);
+                Err(PortFault::File)
+            }
+        },
     }
 }
 
@@ -86,7 +91,7 @@ fn link_told<T: Drop>(failures: &mut u64, answer: io::Result<T>) -> Result<T, Li
 {
     match told(failures, answer) {
         Ok(value) => Ok(value),
-        Err(PortFault::Memory) => Err(LinkFault::Memory),
+        Err(PortFault::Memory(memory)) => Err(LinkFault::Memory(memory)),
         Err(PortFault::File) => Err(LinkFault::Socket),
     }
 }
@@ -103,9 +108,8 @@ fn index_of<R: Files<File = File> + AllocGlobal>(
     rt: &R,
     notes: &mut Vec<Note>,
     name: &str,
-) -> Result<usize, PortFault>
-    ensures found { IfOk result (λ i. i < length notes.new.items) }
-    ensures memory { IfErr result (λ e. e ≡ Memory) }
+) -> Result<usize, OutOfMemory>
+    ensures { IfOk result (λ i. i < length notes.new.items) }
 {
     let known = notes
         .iter()
@@ -113,13 +117,9 @@ fn index_of<R: Files<File = File> + AllocGlobal>(
     if let Some(index) = known {
         return Ok(index);
     }
-    let Ok(paths) = Paths::new(rt, name) else {
-        return Err(PortFault::Memory);
-    };
+    let paths = Paths::new(rt, name)?;
     let index = notes.as_slice().len();
-    let Ok(()) = notes.push(Note::new(paths)) else {
-        return Err(PortFault::Memory);
-    };
+    notes.push(Note::new(paths))?;
     Ok(index)
 }
 
@@ -131,13 +131,21 @@ fn close_replaced(notes: &mut Vec<Note>) {
     }
 }
 
+/// The address at which peers are met: that of this machine alone, 127.0.0.1, and the number.
+fn own_address(number: u16) -> SocketAddrV4
+    ensures machine { ipv4_octets (v4_ip result) ≡ 127 ∷ 0 ∷ 0 ∷ 1 ∷ [] }
+    ensures number { v4_port result ≡ number }
+{
+    SocketAddrV4::new(Ipv4Addr::new(127, 0, 0, 1), number)
+}
+
 /// The first peer that connects at a number, and no other. While none is there yet, files are closed.
 fn await_peer<R: Files<File = File> + Net>(
     rt: &R,
     notes: &mut Vec<Note>,
     number: u16,
 ) -> io::Result<R::Stream> {
-    let listener = TcpListener::bind(rt, (Ipv4Addr::LOCALHOST, number))?;
+    let listener = TcpListener::bind(rt, own_address(number))?;
     close_replaced(notes);
     let (stream, _) = listener.accept()?;
     Ok(stream)
@@ -211,7 +219,7 @@ impl<R: Files<File = File> + Net + AllocGlobal + Drop> Port for FilePort<R> {
         let Some(number) = self.number else {
             return Err(LinkFault::NoPort);
         };
-        let answer = TcpStream::connect(&self.rt, (Ipv4Addr::LOCALHOST, number));
+        let answer = TcpStream::connect(&self.rt, own_address(number));
         link_told(&mut self.failures, answer)
     }
 

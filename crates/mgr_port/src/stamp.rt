@@ -1,4 +1,7 @@
 //! Which file a name stands for, and whether it is as it was left.
+ghost use Rattle.std.specs.Prelude.{◌≡◌, ◌⊎◌, ◌↔◌, true};
+ghost use Rattle.mgr_port.specs.Verdicts.{AreOfOneFile, WasGiven};
+
 use std::fs::Metadata;
 use std::os::unix::fs::MetadataExt;
 
@@ -39,7 +42,9 @@ impl Stamp {
     }
 
     /// Whether both are of one file, whatever stands in it.
-    pub(crate) fn is_of_the_file(&self, other: &Stamp) -> bool {
+    pub(crate) fn is_of_the_file(&self, other: &Stamp) -> bool
+        ensures { (result ≡ true) ↔ AreOfOneFile self.now other.now }
+    {
         self.device == other.device && self.inode == other.inode
     }
 }
@@ -50,17 +55,32 @@ impl Stamp {
 /// them to many files.
 pub(crate) fn is_dated_by(text: &Metadata, log: &Stamp) -> bool {
     let changed = Stamp::of(text).changed;
-    if changed == log.changed.later() {
-        return true;
-    }
     let touched = Time {
         seconds: text.ctime(),
         nanos: text.ctime_nsec(),
     };
-    changed == log.changed && changed.nanos != 0 && touched != changed
+    is_dated(changed, touched, log.changed, log.changed.later())
+}
+
+/// The same, by when the text was changed, when anything of its file was, its date too, when the log
+/// was changed, and by when this port dates a text of that log.
+fn is_dated(changed: Time, touched: Time, log: Time, put: Time) -> bool
+    ensures { (result ≡ true) ↔ ((changed ≡ put) ⊎ WasGiven changed touched log) }
+{
+    if changed == put {
+        return true;
+    }
+    if changed != log {
+        return false;
+    }
+    if changed.nanos == 0 {
+        return false;
+    }
+    touched != changed
 }
 
 impl Time {
+    /// Later by what this port dates a text later.
     fn later(self) -> Time {
         let nanos = self.nanos.saturating_add(LATER as i64);
         if nanos < SECOND {

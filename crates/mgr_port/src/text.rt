@@ -1,4 +1,9 @@
 //! A text, as this port found and left it.
+ghost use Rattle.std.specs.Prelude.{◌≡◌, ◌≢◌, None, Some, true, false, nat_eq, if◌then◌else◌};
+ghost use Rattle.mgr_port.specs.declared.stamp.Stamp.{Stamp};
+ghost use Rattle.mgr_port.specs.declared.text.Loss.TheVariants as Loss;
+ghost use Rattle.mgr_port.specs.declared.text.Way.TheVariants as Way;
+
 use crate::disk::{Named, put_whole};
 use crate::files::{
     Keeping, check_writable, keep, lock, make_beside, open_locked, plain_if_there, repeat,
@@ -57,7 +62,7 @@ impl Text {
             return Ok(None);
         };
         let found = file.metadata()?;
-        if is_dated_by(&found, &log.stamp) {
+        if is_dated_by(&found, &log.left.stamp) {
             self.own = Some(Stamp::of(&found));
             return Ok(None);
         }
@@ -179,17 +184,44 @@ impl<'a> NextText<'a> {
         rt: &R,
         path: &str,
     ) -> io::Result<bool> {
-        let Some(there) = plain_if_there(rt, path)? else {
-            return Ok(true);
-        };
-        if self.own == Some(Stamp::of(&there)) {
-            return Ok(true);
+        let there = plain_if_there(rt, path)?.map(|there| Stamp::of(&there));
+        match loss_of(self.own, there, self.bytes.len() as u64) {
+            Loss::Nothing => Ok(true),
+            Loss::Bytes => Ok(false),
+            Loss::OtherBytes => Ok(fs::read(rt, path)?.as_slice() == self.bytes),
         }
-        if there.len() != self.bytes.len() as u64 {
-            return Ok(false);
-        }
-        Ok(fs::read(rt, path)?.as_slice() == self.bytes)
     }
+}
+
+/// What is lost of a file if another takes its place.
+#[derive(Clone, Copy, PartialEq, Eq)]
+enum Loss {
+    /// Nothing: it is not there, or this port read it or put it.
+    Nothing,
+    /// What nobody else may have.
+    Bytes,
+    /// The same, unless it has the bytes of the other.
+    OtherBytes,
+}
+
+/// What is lost of the file that is there, if this port left that one, and if one of such a length
+/// takes its place.
+fn loss_of(own: Option<Stamp>, there: Option<Stamp>, length: u64) -> Loss
+    ensures none { there ≡ None → result ≡ Loss.Nothing }
+    ensures own { (s : Stamp) → there ≡ Some s → own ≡ Some s → result ≡ Loss.Nothing }
+    ensures other { (s : Stamp) → there ≡ Some s → own ≢ Some s →
+        result ≡ (if nat_eq s.length length then Loss.OtherBytes else Loss.Bytes) }
+{
+    let Some(there) = there else {
+        return Loss::Nothing;
+    };
+    if own == Some(there) {
+        return Loss::Nothing;
+    }
+    if there.length == length {
+        return Loss::OtherBytes;
+    }
+    Loss::Bytes
 }
 
 /// Locks the next text, writes all of it, and gives it the text's name.
@@ -219,13 +251,41 @@ fn make_next<R: Files<File = File> + AllocGlobal>(
     there: &Option<Metadata>,
 ) -> io::Result<Option<File>> {
     let path = paths.next_text.as_str();
-    match fs::symlink_metadata(rt, paths.text.as_str()) {
-        Ok(standing) if there.is_some() && standing.is_file() => make_like(rt, path, &standing),
-        Ok(_) => Ok(None),
-        Err(error) if error.kind() == ErrorKind::NotFound => {
-            Ok(Some(make_beside(rt, path, ALL)?))
-        }
-        Err(error) => Err(error),
+    let standing = match fs::symlink_metadata(rt, paths.text.as_str()) {
+        Ok(standing) => Some(standing),
+        Err(error) if error.kind() == ErrorKind::NotFound => None,
+        Err(error) => return Err(error),
+    };
+    let is_plain = standing.as_ref().map(|standing| standing.is_file());
+    match (way_of(is_plain, there.is_some()), standing) {
+        (Way::New, _) => Ok(Some(make_beside(rt, path, ALL)?)),
+        (Way::Like, Some(standing)) => make_like(rt, path, &standing),
+        _ => Ok(None),
+    }
+}
+
+/// How a text comes under a name.
+#[derive(Clone, Copy, PartialEq, Eq)]
+enum Way {
+    /// As a new file, where there is none.
+    New,
+    /// As a new file, with the mode, the owner and the group of the one that is there.
+    Like,
+    /// Into the file that is there.
+    InPlace,
+}
+
+/// How a text comes under a name: by whether what stands there itself is a plain file, if anything
+/// does, and by whether a file is there, be it behind a link. A link stays one.
+fn way_of(is_plain: Option<bool>, is_there: bool) -> Way
+    ensures new { is_plain ≡ None → result ≡ Way.New }
+    ensures link { is_plain ≡ Some false → result ≡ Way.InPlace }
+    ensures plain { is_plain ≡ Some true → result ≡ (if is_there then Way.Like else Way.InPlace) }
+{
+    match is_plain {
+        None => Way::New,
+        Some(is_plain) if is_plain && is_there => Way::Like,
+        Some(_) => Way::InPlace,
     }
 }
 

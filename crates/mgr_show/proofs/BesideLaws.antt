@@ -7,7 +7,8 @@ use Rattle.rga_exchange.specs.declared.log.LogRead.{LogRead}
 use Rattle.mgr_show.specs.Shown.{log_content, shown_bytes}
 use Rattle.mgr_show.specs.Stored.{IsRead}
 use Rattle.mgr_show.specs.declared.fault.ShowFault.{ShowFault}
-use Rattle.mgr_show.specs.declared.fault.ShowFault.TheVariants.{Write, Memory}
+use Rattle.mgr_show.specs.declared.fault.ShowFault.TheVariants.{Write}
+use Rattle.mgr_show.specs.Memory.{ShowMemory as Memory}
 use Rattle.mgr_show.specs.Numbers.{failures_of_look, text_is, FailedReads}
 use Rattle.mgr_show.specs.declared.numbers.TextIs.{TextIs}
 use Rattle.mgr_show.specs.declared.numbers.TextIs.TheVariants.{Unread}

@@ -10,10 +10,11 @@ use Rattle.rga_exchange.specs.Compacting.{compact_lines, compact_text}
 use Rattle.mgr_show.specs.Shown.{IsAccepted, log_content}
 use Rattle.mgr_show.specs.declared.fault.ShowFault.{ShowFault}
 use Rattle.mgr_show.specs.declared.fault.ShowFault.TheVariants as fault
+use Rattle.mgr_show.specs.Memory.{ShowMemory}
 
 abbrev pub send_fault : SendFault → ShowFault
 send_fault send.Write = fault.Write
-send_fault send.Memory = fault.Memory
+send_fault (send.Memory _) = ShowMemory
 
 -- the compacted lines of a log: deletions are in runs where these are asked for, and where the log has some
 abbrev pub compacted_lines : Bool → List ℕ → List (List ℕ)

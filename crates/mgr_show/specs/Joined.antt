@@ -19,6 +19,7 @@ use Rattle.mgr_show.specs.declared.fault.ShowFault.{ShowFault}
 use Rattle.mgr_show.specs.declared.fault.ShowFault.TheVariants as fault
 use Rattle.mgr_show.specs.declared.fault.JoinFault.{JoinFault}
 use Rattle.mgr_show.specs.declared.fault.JoinFault.TheVariants as join
+use Rattle.mgr_show.specs.Memory.{JoinMemory}
 
 -- ---- what stands under names
 
@@ -78,12 +79,12 @@ all_operations logs = flat_map log_operations logs
 
 -- the fault of the log with this index: memory is no log's
 abbrev pub at_log : ℕ → ShowFault → JoinFault
-at_log n fault.Memory = join.Memory
+at_log n (fault.Memory _) = JoinMemory
 at_log n e = join.Log n e
 
 abbrev pub join_fault : SendFault → JoinFault
 join_fault send.Write = join.Write
-join_fault send.Memory = join.Memory
+join_fault (send.Memory _) = JoinMemory
 
 -- faults that the bytes of logs decide
 abbrev pub IsOfLog : JoinFault → Type 0
@@ -94,7 +95,7 @@ IsOfLog e = ⊥
 -- faults of a file that is read, or of its bytes
 abbrev pub IsOfFile : ShowFault → Type 0
 IsOfFile fault.Write = ⊥
-IsOfFile fault.Memory = ⊥
+IsOfFile (fault.Memory _) = ⊥
 IsOfFile e = ⊤
 
 -- a log that is named is one of so many, and the fault is its own

@@ -14,3 +14,4 @@ pub mod Numbers
 pub mod Told
 pub mod Claims
 pub mod Missing
+pub mod Memory

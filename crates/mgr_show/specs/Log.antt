@@ -12,6 +12,7 @@ use Rattle.rga_exchange.specs.Log.{log_outcome}
 use Rattle.rga_exchange.specs.Taking.{Intake}
 use Rattle.mgr_show.specs.declared.fault.ShowFault.{ShowFault}
 use Rattle.mgr_show.specs.declared.fault.ShowFault.TheVariants as fault
+use Rattle.mgr_show.specs.Memory.{ShowMemory}
 
 -- the content of a log, or why its text is not shown
 abbrev pub ShowOutcome : Type 0
@@ -21,7 +22,7 @@ abbrev pub show_fault : LogFault → ShowFault
 show_fault (log.Line n e) = fault.Line n e
 show_fault (log.Refused n e) = fault.Refused n e
 show_fault log.Read = fault.Read
-show_fault log.Memory = fault.Memory
+show_fault (log.Memory _) = ShowMemory
 
 -- behind n lines; a line that was cut off is the next one
 abbrev pub at_end : Content → ℕ → LogEnd → ShowOutcome

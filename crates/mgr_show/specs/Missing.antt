@@ -18,6 +18,7 @@ use Rattle.mgr_show.specs.Sources.{failures_after}
 use Rattle.mgr_show.specs.Claims.{after_head}
 use Rattle.mgr_show.specs.declared.fault.MissingFault.{MissingFault}
 use Rattle.mgr_show.specs.declared.fault.MissingFault.TheVariants as fault
+use Rattle.mgr_show.specs.Memory.{MissingMemory}
 
 -- ---- claims
 
@@ -50,13 +51,13 @@ log_held bytes = with_log_fault (note_of MAX_LIMIT bytes)
 
 abbrev pub send_fault : SendFault → MissingFault
 send_fault send.Write = fault.Write
-send_fault send.Memory = fault.Memory
+send_fault (send.Memory _) = MissingMemory
 
 -- faults that the bytes of the claims decide
 abbrev pub IsOfClaims : MissingFault → Type 0
 IsOfClaims fault.Head = ⊤
 IsOfClaims (fault.Claims claim.Read) = ⊥
-IsOfClaims (fault.Claims claim.Memory) = ⊥
+IsOfClaims (fault.Claims (claim.Memory _)) = ⊥
 IsOfClaims (fault.Claims e) = ⊤
 IsOfClaims e = ⊥
 

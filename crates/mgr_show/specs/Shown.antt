@@ -13,7 +13,7 @@ use Rattle.mgr_show.specs.Log.{log_of}
 abbrev pub IsOfInput : ShowFault → Type 0
 IsOfInput fault.Read = ⊥
 IsOfInput fault.Write = ⊥
-IsOfInput fault.Memory = ⊥
+IsOfInput (fault.Memory _) = ⊥
 IsOfInput e = ⊤
 
 -- the text of a content in UTF-8

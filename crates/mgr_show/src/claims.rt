@@ -49,9 +49,7 @@ pub fn write_claims<S: Sources, W: Write>(
     ensures writes { CountsAs ShowFault.Write result writer.old writer.new }
 {
     let log = read_note(alloc, sources, name)?;
-    let Ok(text) = claims_text(alloc, &log.store) else {
-        return Err(ShowFault::Memory);
-    };
+    let text = claims_text(alloc, &log.store)?;
     send_lines(text.as_slice(), writer)?;
     Ok(())
 }

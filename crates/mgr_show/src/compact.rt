@@ -11,6 +11,7 @@ ghost use Rattle.rga_exchange.specs.Compacting.{compact_text};
 ghost use Rattle.mgr_show.specs.Log.{log_of};
 ghost use Rattle.mgr_show.specs.Shown.{IsOfInput};
 ghost use Rattle.mgr_show.specs.Compacted.{Compacts, BeginsToCompact};
+ghost use Rattle.mgr_show.specs.Memory.{ShowMemory};
 
 use crate::fault::ShowFault;
 use crate::show::take_whole_log;
@@ -39,7 +40,7 @@ pub fn compact_log<R: Read, W: Write>(
     // A fault of the input is the first one of its bytes, however the reads cut them.
     ensures refused { IfErr result (λ e. IsOfInput e → OnBytes R.remaining reader.old
         (λ bytes. log_of MAX_LIMIT bytes ≡ Err e)) }
-    ensures unwritten { IfErr result (λ e. e ≢ ShowFault.Write → e ≢ ShowFault.Memory
+    ensures unwritten { IfErr result (λ e. e ≢ ShowFault.Write → e ≢ ShowMemory
         → writer.new ≡ writer.old) }
     // Whatever fails, nothing was written or a beginning of the lines of an accepted log.
     ensures begun { OnErr result (OnBytes R.remaining reader.old (λ bytes.
@@ -52,8 +53,9 @@ pub fn compact_log<R: Read, W: Write>(
     ensures reads { CountsAs ShowFault.Read result reader.old reader.new }
     ensures writes { CountsAs ShowFault.Write result writer.old writer.new }
 {
-    let Ok(mut records) = Records::new(alloc, MAX_LIMIT) else {
-        return Err(ShowFault::Memory);
+    let mut records = match Records::new(alloc, MAX_LIMIT) {
+        Ok(records) => records,
+        Err(refused) => return Err(ShowFault::Memory(refused.memory())),
     };
     let mut deletion_runs = dels;
     take_whole_log(alloc, &mut records, reader, &mut deletion_runs)?;
@@ -80,9 +82,7 @@ pub(crate) fn compact_records<W: Write>(
 {
     // What is known is told with the fact that each operation is well-formed.
     let _known = records.known();
-    let Ok(ops) = records.ops(alloc) else {
-        return Err(SendFault::Memory);
-    };
+    let ops = records.ops(alloc)?;
     compact_ops(alloc, &ops, dels, writer)?;
     Ok(())
 }

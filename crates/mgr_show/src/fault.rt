@@ -1,5 +1,6 @@
 //! Why commands that read logs end without what they are to write.
 ghost use Rattle.std.specs.Prelude.{◌≡◌};
+ghost use Rattle.mgr_show.specs.Memory.{ShowMemory, JoinMemory, MissingMemory};
 ghost use Rattle.mgr_show.specs.Log.{show_fault};
 ghost use Rattle.mgr_show.specs.Compacted.{send_fault};
 ghost use Rattle.mgr_show.specs.Joined.{at_log, join_fault};
@@ -7,7 +8,8 @@ ghost use Rattle.mgr_show.specs.Missing.{send_fault as missing_fault};
 
 use rga_exchange::{LogFault, ReceiveFault, SendFault};
 use rga_lines::LineFault;
-use rga_ops::Refusal;
+use rga_ops::{OutOfMemory, Refusal};
+use std::alloc::AllocError;
 
 /// Why `mgr show` ends without the whole text, or `mgr compact` without the whole log. Lines count
 /// from 1.
@@ -24,7 +26,23 @@ pub enum ShowFault {
     /// The device of the output failed.
     Write,
     /// A growth of memory was refused.
-    Memory,
+    Memory(OutOfMemory),
+}
+
+impl From<OutOfMemory> for ShowFault {
+    ghost from_gives = { λ _ fault. fault ≡ ShowMemory };
+
+    fn from(memory: OutOfMemory) -> ShowFault {
+        ShowFault::Memory(memory)
+    }
+}
+
+impl From<AllocError> for ShowFault {
+    ghost from_gives = { λ _ fault. fault ≡ ShowMemory };
+
+    fn from(refused: AllocError) -> ShowFault {
+        ShowFault::Memory(OutOfMemory::from(refused))
+    }
 }
 
 impl From<LogFault> for ShowFault {
@@ -35,7 +53,7 @@ impl From<LogFault> for ShowFault {
             LogFault::Line(number, fault) => ShowFault::Line(number, fault),
             LogFault::Refused(number, refusal) => ShowFault::Refused(number, refusal),
             LogFault::Read => ShowFault::Read,
-            LogFault::Memory => ShowFault::Memory,
+            LogFault::Memory(memory) => ShowFault::Memory(memory),
         }
     }
 }
@@ -46,7 +64,7 @@ impl From<SendFault> for ShowFault {
     fn from(fault: SendFault) -> ShowFault {
         match fault {
             SendFault::Write => ShowFault::Write,
-            SendFault::Memory => ShowFault::Memory,
+            SendFault::Memory(memory) => ShowFault::Memory(memory),
         }
     }
 }
@@ -61,7 +79,7 @@ pub enum JoinFault {
     /// The device of the output failed.
     Write,
     /// A growth of memory was refused.
-    Memory,
+    Memory(OutOfMemory),
 }
 
 impl JoinFault {
@@ -70,9 +88,17 @@ impl JoinFault {
         ensures { result ≡ at_log index fault }
     {
         match fault {
-            ShowFault::Memory => JoinFault::Memory,
+            ShowFault::Memory(memory) => JoinFault::Memory(memory),
             other => JoinFault::Log(index, other),
         }
+    }
+}
+
+impl From<OutOfMemory> for JoinFault {
+    ghost from_gives = { λ _ fault. fault ≡ JoinMemory };
+
+    fn from(memory: OutOfMemory) -> JoinFault {
+        JoinFault::Memory(memory)
     }
 }
 
@@ -82,7 +108,7 @@ impl From<SendFault> for JoinFault {
     fn from(fault: SendFault) -> JoinFault {
         match fault {
             SendFault::Write => JoinFault::Write,
-            SendFault::Memory => JoinFault::Memory,
+            SendFault::Memory(memory) => JoinFault::Memory(memory),
         }
     }
 }
@@ -100,7 +126,15 @@ pub enum MissingFault {
     /// The device of the output failed.
     Write,
     /// A growth of memory was refused.
-    Memory,
+    Memory(OutOfMemory),
+}
+
+impl From<OutOfMemory> for MissingFault {
+    ghost from_gives = { λ _ fault. fault ≡ MissingMemory };
+
+    fn from(memory: OutOfMemory) -> MissingFault {
+        MissingFault::Memory(memory)
+    }
 }
 
 impl From<SendFault> for MissingFault {
@@ -109,7 +143,7 @@ impl From<SendFault> for MissingFault {
     fn from(fault: SendFault) -> MissingFault {
         match fault {
             SendFault::Write => MissingFault::Write,
-            SendFault::Memory => MissingFault::Memory,
+            SendFault::Memory(memory) => MissingFault::Memory(memory),
         }
     }
 }

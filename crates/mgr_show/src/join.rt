@@ -8,15 +8,17 @@ ghost use Rattle.mgr_show.specs.Log.{shown_from};
 ghost use Rattle.mgr_show.specs.Shown.{IsOfInput};
 ghost use Rattle.mgr_show.specs.Sources.{failures_after};
 ghost use Rattle.mgr_show.specs.Joined.{has_far_counter, joined_from, join_of, reads_failed, OnLogs, IsOfLog, NamesOneOf, Joins, BeginsToJoin};
+ghost use Rattle.mgr_show.specs.Memory.{JoinMemory};
 
 use crate::compact::compact_records;
 use crate::fault::{JoinFault, ShowFault};
 use crate::show::take_whole_log;
 use crate::sources::Sources;
 use rga_exchange::Counted;
+use rga_ops::OutOfMemory;
 use rga_records::Records;
 use rga_store::{MAX_LIMIT, Taker};
-use std::alloc::Global;
+use std::alloc::{AllocError, Global};
 use std::io::Write;
 
 /// By how much a counter may be above the number of identifiers: who takes one that is far above
@@ -44,7 +46,7 @@ pub fn join_logs<S: Sources, W: Write>(
     ensures refused { IfErr result (λ e. IsOfLog e → OnLogs (S.contents sources.old)
         (map string_bytes names.now) (λ logs. join_of MAX_LIMIT logs ≡ Err e)) }
     ensures named { IfErr result (λ e. NamesOneOf (length names.now) e) }
-    ensures unwritten { IfErr result (λ e. e ≢ JoinFault.Write → e ≢ JoinFault.Memory
+    ensures unwritten { IfErr result (λ e. e ≢ JoinFault.Write → e ≢ JoinMemory
         → writer.new ≡ writer.old) }
     // Whatever fails, nothing was written or a beginning of the lines of the join.
     ensures begun { OnErr result (OnLogs (S.contents sources.old) (map string_bytes names.now)
@@ -56,8 +58,9 @@ pub fn join_logs<S: Sources, W: Write>(
     ensures reads { S.failures sources.new ≡ reads_failed result (S.failures sources.old) }
     ensures writes { CountsAs JoinFault.Write result writer.old writer.new }
 {
-    let Ok(mut records) = Records::new(alloc, MAX_LIMIT) else {
-        return Err(JoinFault::Memory);
+    let mut records = match Records::new(alloc, MAX_LIMIT) {
+        Ok(records) => records,
+        Err(refused) => return Err(JoinFault::Memory(refused.memory())),
     };
     let mut deletion_runs = false;
     take_logs(alloc, sources, names, &mut records, &mut deletion_runs)?;
@@ -142,7 +145,7 @@ fn take_named<S: Sources, T: Taker>(
         deletion_runs,
     ) {
         // No machine has the bytes on which a reader of them would spend its calls.
-        Err(ShowFault::Read) => Err(ShowFault::Memory),
+        Err(ShowFault::Read) => Err(ShowFault::Memory(OutOfMemory::from(AllocError))),
         taken => taken,
     }
 }

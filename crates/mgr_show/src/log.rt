@@ -55,8 +55,6 @@ pub fn write_numbers<S: Sources, W: Write>(
     ensures writes { CountsAs ShowFault.Write result writer.old writer.new }
 {
     let numbers = numbers_of(alloc, sources, name)?;
-    let Ok(text) = numbers_text(alloc, name, json, numbers) else {
-        return Err(ShowFault::Memory);
-    };
+    let text = numbers_text(alloc, name, json, numbers)?;
     write_text(&text, writer)
 }

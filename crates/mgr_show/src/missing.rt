@@ -3,14 +3,16 @@ ghost use Rattle.std.specs.Prelude.{◌≡◌, ◌≢◌, ◌⊎◌, ℕ, List, 
 ghost use Rattle.rga_exchange.specs.Counting.{CountsAs, WritesNothing};
 ghost use Rattle.mgr_show.specs.Missing.{claims_heard, log_held, reads_failed, OnBoth, IsOfClaims, IsOfLog, WritesMissing, BeginsMissing};
 ghost use Rattle.mgr_show.specs.Note.{log_source};
+ghost use Rattle.mgr_show.specs.Memory.{MissingMemory};
 
 use crate::fault::{MissingFault, ShowFault};
 use crate::sources::Sources;
 use crate::stored::read_note;
 use rga_brief::{Summary, hear_summary, missing};
 use rga_exchange::{Counted, ReceiveFault, append_log};
+use rga_ops::OutOfMemory;
 use rga_store::TextStore;
-use std::alloc::Global;
+use std::alloc::{AllocError, Global};
 use std::io::Write;
 
 /// Reads claims, as `write_claims` writes them, and then the log of a note. Writes the operations
@@ -37,7 +39,7 @@ pub fn write_missing<S: Sources, W: Write>(
         IfSome (S.contents sources.old (log_source name.now)) (λ bytes.
         log_held bytes ≡ Err e)) }
     ensures whole { (number : ℕ) → result ≢ Err (MissingFault.Log (ShowFault.Torn number)) }
-    ensures unwritten { IfErr result (λ e. e ≢ MissingFault.Write → e ≢ MissingFault.Memory
+    ensures unwritten { IfErr result (λ e. e ≢ MissingFault.Write → e ≢ MissingMemory
         → writer.new ≡ writer.old) }
     ensures nothing { IfErr result (λ e. e ≢ MissingFault.Write
         → WritesNothing W.contents writer.old writer.new) }
@@ -55,13 +57,11 @@ pub fn write_missing<S: Sources, W: Write>(
     let peer = read_claims(alloc, sources, claims)?;
     let log = match read_note(alloc, sources, name) {
         Ok(log) => log,
-        Err(ShowFault::Memory) => return Err(MissingFault::Memory),
+        Err(ShowFault::Memory(memory)) => return Err(MissingFault::Memory(memory)),
         Err(fault) => return Err(MissingFault::Log(fault)),
     };
     let _known = log.store.known();
-    let Ok(ops) = missing(alloc, &log.store, &peer) else {
-        return Err(MissingFault::Memory);
-    };
+    let ops = missing(alloc, &log.store, &peer)?;
     let number = append_log(alloc, &ops, writer)?;
     Ok(number)
 }
@@ -84,7 +84,7 @@ fn read_claims<S: Sources>(
 {
     match sources.read(alloc, claims) {
         Ok(bytes) => hear_claims(alloc, bytes.as_slice()),
-        Err(ShowFault::Memory) => Err(MissingFault::Memory),
+        Err(ShowFault::Memory(memory)) => Err(MissingFault::Memory(memory)),
         Err(_) => Err(MissingFault::Claims(ReceiveFault::Read)),
     }
 }
@@ -93,7 +93,7 @@ fn read_claims<S: Sources>(
 #[tactic(auto, unfolding(crate::specs::Claims::head_line))]
 fn hear_claims(alloc: Global, bytes: &[u8]) -> Result<Summary, MissingFault>
     ensures ok { IfOk result (λ peer. claims_heard bytes.now ≡ Ok peer) }
-    ensures fault { IfErr result (λ e. (e ≡ MissingFault.Memory)
+    ensures fault { IfErr result (λ e. (e ≡ MissingMemory)
         ⊎ (IsOfClaims e × (claims_heard bytes.now ≡ Err e))) }
 {
     let Some(lines) = bytes.strip_prefix(b"{\"op\":\"claims\",\"version\":1}\n") else {
@@ -101,8 +101,9 @@ fn hear_claims(alloc: Global, bytes: &[u8]) -> Result<Summary, MissingFault>
     };
     match hear_summary(alloc, &mut Counted::new(lines)) {
         Ok(peer) => Ok(peer),
+        Err(ReceiveFault::Memory(memory)) => Err(MissingFault::Memory(memory)),
         // No machine has the bytes on which a reader of them would spend its calls.
-        Err(ReceiveFault::Read | ReceiveFault::Memory) => Err(MissingFault::Memory),
+        Err(ReceiveFault::Read) => Err(MissingFault::Memory(OutOfMemory::from(AllocError))),
         Err(fault) => Err(MissingFault::Claims(fault)),
     }
 }

@@ -8,11 +8,13 @@ ghost use Rattle.mgr_show.specs.Log.{HasFollowed};
 ghost use Rattle.mgr_show.specs.Shown.{log_content, shown_bytes, IsOfInput};
 ghost use Rattle.mgr_show.specs.Note.{log_name, first_lines, front_of, note_from, note_of, IsReadable};
 ghost use Rattle.mgr_show.specs.Sources.{failures_after};
+ghost use Rattle.mgr_show.specs.Memory.{ShowMemory};
 
 use crate::fault::ShowFault;
 use crate::show::write_text;
 use crate::sources::Sources;
 use rga_exchange::{Counted, LogFault, LogRead, take_log};
+use rga_ops::OutOfMemory;
 use rga_records::Records;
 use rga_store::{MAX_LIMIT, Taker};
 use std::alloc::{AllocError, Global};
@@ -75,22 +77,20 @@ fn text_of_note<S: Sources>(
 {
     let log = log_name(alloc, name)?;
     let bytes = sources.read(alloc, log.as_str())?;
-    let Ok(mut records) = Records::new(alloc, MAX_LIMIT) else {
-        return Err(ShowFault::Memory);
+    let mut records = match Records::new(alloc, MAX_LIMIT) {
+        Ok(records) => records,
+        Err(refused) => return Err(ShowFault::Memory(refused.memory())),
     };
     take_but_torn(alloc, &mut records, front(bytes.as_slice(), lines))?;
-    let Ok(text) = records.text_string(alloc) else {
-        return Err(ShowFault::Memory);
-    };
+    let text = records.text_string(alloc)?;
     Ok(text)
 }
 
-/// The name of the log of a note. `Memory` alone.
-pub(crate) fn log_name(alloc: Global, name: &str) -> Result<String, ShowFault>
+/// The name of the log of a note. Out of memory alone.
+pub(crate) fn log_name(alloc: Global, name: &str) -> Result<String, OutOfMemory>
     ensures name { IfOk result (λ log. string_bytes log ≡ log_name name.now) }
-    ensures memory { IfErr result (λ e. e ≡ ShowFault.Memory) }
 {
-    format!(in alloc; "{}.ops", name).map_err(|_| ShowFault::Memory)
+    Ok(format!(in alloc; "{}.ops", name)?)
 }
 
 /// The first lines of a log, if so many are asked for; else all of it.
@@ -143,7 +143,7 @@ pub fn take_but_torn<T: Taker>(
     match take_log(alloc, taker, &mut Counted::new(bytes), &mut false) {
         Ok(read) => Ok(read),
         // No machine has the bytes on which a reader of them would spend its calls.
-        Err(LogFault::Read) => Err(ShowFault::Memory),
+        Err(LogFault::Read) => Err(ShowFault::Memory(OutOfMemory::from(AllocError))),
         Err(fault) => Err(ShowFault::from(fault)),
     }
 }

@@ -4,6 +4,7 @@ ghost use Rattle.mgr_show.specs.Shown.{IsOfInput, log_content, shown_bytes};
 ghost use Rattle.mgr_show.specs.Note.{log_name};
 ghost use Rattle.mgr_show.specs.About.{read_of};
 ghost use Rattle.mgr_show.specs.Numbers.{failures_of_look, text_is, AreNumbers, FailedReads};
+ghost use Rattle.mgr_show.specs.Memory.{ShowMemory};
 
 use crate::counts::{Counts, counts_of};
 use crate::fault::ShowFault;
@@ -12,6 +13,7 @@ use crate::sources::Sources;
 use crate::stored::{StoredLog, read_log};
 use rga_exchange::LogEnd;
 use rga_flat::FlatStore;
+use rga_ops::OutOfMemory;
 use rga_store::TextStore;
 use std::alloc::Global;
 
@@ -60,9 +62,7 @@ pub(crate) fn numbers_of<S: Sources>(
     let file = log_name(alloc, name)?;
     let StoredLog { bytes, store, read } = read_log::<FlatStore, S>(alloc, sources, file.as_str())?;
     let text = look_at_text(alloc, sources, name, &store)?;
-    let Ok(counts) = counts_of(alloc, &store) else {
-        return Err(ShowFault::Memory);
-    };
+    let counts = counts_of(alloc, &store)?;
     Ok(Numbers {
         counts,
         bytes,
@@ -71,17 +71,16 @@ pub(crate) fn numbers_of<S: Sources>(
     })
 }
 
-/// Whether the text that stands under a name is that of a store. `Memory` alone.
+/// Whether the text that stands under a name is that of a store. Out of memory alone.
 fn look_at_text<S: Sources>(
     alloc: Global,
     sources: &mut S,
     name: &str,
     store: &FlatStore,
-) -> Result<TextIs, ShowFault>
+) -> Result<TextIs, OutOfMemory>
     ensures text { IfOk result (λ is. is ≢ TextIs.Unread →
         IfSome (S.contents sources.old name.now)
         (λ text. is ≡ text_is text (shown_bytes store.now.content))) }
-    ensures memory { IfErr result (λ e. e ≡ ShowFault.Memory) }
     ensures same { (other : List ℕ) → S.contents sources.new other ≡ S.contents sources.old other }
     ensures looked { IfOk result (λ is.
         S.failures sources.new ≡ failures_of_look is (S.failures sources.old)) }
@@ -90,11 +89,10 @@ fn look_at_text<S: Sources>(
     let bytes = match sources.read(alloc, name) {
         Ok(bytes) => bytes,
         Err(ShowFault::Read) => return Ok(TextIs::Unread),
-        Err(_) => return Err(ShowFault::Memory),
+        Err(ShowFault::Memory(memory)) => return Err(memory),
+        Err(_) => unreachable!(),
     };
-    let Ok(text) = store.text_string(alloc) else {
-        return Err(ShowFault::Memory);
-    };
+    let text = store.text_string(alloc)?;
     if bytes.as_slice() == text.as_bytes() {
         return Ok(TextIs::Same);
     }

@@ -8,6 +8,7 @@ ghost use Rattle.rga_exchange.specs.Taking.{intake, content_intake, HasTakenWhol
 ghost use Rattle.rga_exchange.specs.declared.taking.Form.TheVariants.{Log};
 ghost use Rattle.mgr_show.specs.Log.{log_of, shown_from};
 ghost use Rattle.mgr_show.specs.Shown.{IsOfInput, ShowsLog, BeginsToShow};
+ghost use Rattle.mgr_show.specs.Memory.{ShowMemory};
 
 use crate::fault::ShowFault;
 use rga_exchange::{Counted, LogEnd, take_log};
@@ -32,7 +33,7 @@ pub fn show_ops<R: Read, W: Write>(
     // A fault of the input is the first one of its bytes, however the reads cut them.
     ensures refused { IfErr result (λ e. IsOfInput e → OnBytes R.remaining reader.old
         (λ bytes. log_of MAX_LIMIT bytes ≡ Err e)) }
-    ensures nothing { IfErr result (λ e. e ≢ ShowFault.Write → e ≢ ShowFault.Memory
+    ensures nothing { IfErr result (λ e. e ≢ ShowFault.Write → e ≢ ShowMemory
         → WritesNothing W.contents writer.old writer.new) }
     ensures unwritten { IfErr result (λ e. e ≢ ShowFault.Write → writer.new ≡ writer.old) }
     // Whatever fails, nothing was written or a beginning of the text of an accepted log.
@@ -48,13 +49,12 @@ pub fn show_ops<R: Read, W: Write>(
     ensures reads { CountsAs ShowFault.Read result reader.old reader.new }
     ensures writes { CountsAs ShowFault.Write result writer.old writer.new }
 {
-    let Ok(mut records) = Records::new(alloc, MAX_LIMIT) else {
-        return Err(ShowFault::Memory);
+    let mut records = match Records::new(alloc, MAX_LIMIT) {
+        Ok(records) => records,
+        Err(refused) => return Err(ShowFault::Memory(refused.memory())),
     };
     take_whole_log(alloc, &mut records, reader, &mut false)?;
-    let Ok(text) = records.text_string(alloc) else {
-        return Err(ShowFault::Memory);
-    };
+    let text = records.text_string(alloc)?;
     write_text(text.as_str(), writer)
 }
 

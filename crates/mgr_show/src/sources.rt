@@ -1,6 +1,7 @@
 //! Files that are read by their names.
 ghost use Rattle.std.specs.Prelude.{◌≡◌, ◌⊎◌, ℕ, List, Option, IfOk, IfErr, IfSome};
 ghost use Rattle.mgr_show.specs.Sources.{failures_after};
+ghost use Rattle.mgr_show.specs.Memory.{ShowMemory};
 
 use crate::fault::ShowFault;
 use std::alloc::Global;
@@ -19,7 +20,7 @@ pub trait Sources {
     fn read(&mut self, alloc: Global, name: &str) -> Result<Vec<u8>, ShowFault>
         ensures bytes { IfOk result (λ read. IfSome (contents self.old name.now)
             (λ bytes. read.items ≡ bytes)) }
-        ensures fault { IfErr result (λ e. (e ≡ ShowFault.Read) ⊎ (e ≡ ShowFault.Memory)) }
+        ensures fault { IfErr result (λ e. (e ≡ ShowFault.Read) ⊎ (e ≡ ShowMemory)) }
         ensures same { (other : List ℕ) → contents self.new other ≡ contents self.old other }
         ensures device { failures self.new ≡ failures_after result (failures self.old) };
 }

@@ -5,12 +5,14 @@ ghost use Rattle.mgr_show.specs.Shown.{IsOfInput};
 ghost use Rattle.mgr_show.specs.Note.{log_source, note_of};
 ghost use Rattle.mgr_show.specs.Sources.{failures_after};
 ghost use Rattle.mgr_show.specs.Stored.{IsRead};
+ghost use Rattle.mgr_show.specs.Memory.{ShowMemory};
 
 use crate::fault::ShowFault;
 use crate::note::{log_name, take_but_torn};
 use crate::sources::Sources;
 use rga_exchange::LogRead;
 use rga_flat::FlatStore;
+use rga_ops::OutOfMemory;
 use rga_store::{MAX_LIMIT, TextStore};
 use std::alloc::Global;
 
@@ -47,8 +49,9 @@ pub(crate) fn read_log<T: TextStore, S: Sources>(
     ensures reads { S.failures sources.new ≡ failures_after result (S.failures sources.old) }
 {
     let bytes = sources.read(alloc, name)?;
-    let Ok(mut store) = T::new(alloc, MAX_LIMIT) else {
-        return Err(ShowFault::Memory);
+    let mut store = match T::new(alloc, MAX_LIMIT) {
+        Ok(store) => store,
+        Err(refused) => return Err(ShowFault::Memory(refused.memory())),
     };
     let read = take_but_torn(alloc, &mut store, bytes.as_slice())?;
     Ok(StoredLog {
@@ -78,14 +81,14 @@ pub(crate) fn read_note<S: Sources>(
     read_log(alloc, sources, source.as_str())
 }
 
-/// The name under which the log of a note is read: `-` is taken as it is. `Memory` alone.
+/// The name under which the log of a note is read: `-` is taken as it is. Out of memory
+/// alone.
 #[tactic(auto, unfolding(crate::specs::Note::log_source))]
-fn source_name(alloc: Global, name: &str) -> Result<String, ShowFault>
+fn source_name(alloc: Global, name: &str) -> Result<String, OutOfMemory>
     ensures name { IfOk result (λ source. string_bytes source ≡ log_source name.now) }
-    ensures memory { IfErr result (λ e. e ≡ ShowFault.Memory) }
 {
     if name == "-" {
-        return String::from_str(alloc, name).map_err(|_| ShowFault::Memory);
+        return Ok(String::from_str(alloc, name)?);
     }
     log_name(alloc, name)
 }

@@ -58,9 +58,7 @@ pub fn write_authors<S: Sources, W: Write>(
 {
     let file = log_name(alloc, name)?;
     let log = read_log::<FlatStore, S>(alloc, sources, file.as_str())?;
-    let Ok(text) = content_text(alloc, &log.store, by_lines) else {
-        return Err(ShowFault::Memory);
-    };
+    let text = content_text(alloc, &log.store, by_lines)?;
     write_text(&text, writer)
 }
 

@@ -4,7 +4,8 @@ ghost use Rattle.mg_screen.specs.Frame.{screen_rows};
 
 use crate::plans::chars_of;
 use mg_buffer::line_of;
-use mg_screen::{FrameFault, Pane, Position, Screen, cursor};
+use mg_screen::{Pane, Position, Screen, cursor};
+use rga_ops::OutOfMemory;
 use std::alloc::{AllocError, Global};
 
 /// A window of two text rows.
@@ -30,7 +31,7 @@ fn pane_over<'a>(
 }
 
 /// A window from line 0 on, and one from line 1 on below it.
-fn screen_over<'a>(alloc: Global, text: &'a [char], point: usize) -> Result<Screen<'a>, FrameFault>
+fn screen_over<'a>(alloc: Global, text: &'a [char], point: usize) -> Result<Screen<'a>, OutOfMemory>
     requires { point ≤ length text.now }
     ensures { IfOk result (λ s. screen_rows s ≡ 7) }
 {

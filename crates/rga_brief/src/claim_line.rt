@@ -1,7 +1,7 @@
 //! Lines where claims are told.
 ghost use Rattle.std.specs.Prelude.{◌≡◌, ◌≢◌, IfOk, IfErr, Err};
 ghost use Rattle.rga_lines.specs.Table.{any_line_at};
-ghost use Rattle.rga_lines.specs.declared.fault.LineFault.TheVariants.{Memory};
+ghost use Rattle.rga_lines.specs.Memory.{LineMemory as Memory};
 ghost use Rattle.rga_brief.specs.Lines.{claim_line_at, claim_said, end_said};
 
 use crate::claim::Claim;

@@ -4,12 +4,14 @@ ghost use Rattle.rga_exchange.specs.Counting.{CountsAs, OnBytes};
 ghost use Rattle.rga_lines.specs.Stream.{lines_of};
 ghost use Rattle.rga_lines.specs.declared.fault.LineFault.{LineFault as FaultOfLine};
 ghost use Rattle.rga_lines.specs.declared.line.TheConstants.{MAX_LINE};
-ghost use Rattle.rga_exchange.specs.declared.fault.ReceiveFault.TheVariants.{Memory, Read as ReadFailed, Line as FaultyLine};
+ghost use Rattle.rga_exchange.specs.declared.fault.ReceiveFault.TheVariants.{Read as ReadFailed, Line as FaultyLine};
+ghost use Rattle.rga_exchange.specs.Memory.{ReceiveMemory as Memory};
 ghost use Rattle.rga_brief.specs.declared.claim.Claim.{Claim as ClaimName};
 ghost use Rattle.rga_brief.specs.Heard.{ReadsToBlock};
 ghost use Rattle.rga_brief.specs.Lines.{claim_line_at};
 ghost use Rattle.rga_brief.specs.Told.{bytes_heard, ended, summary_heard};
 ghost use Rattle.rga_brief.specs.declared.claim_line.ClaimLine.TheVariants.{One, Last};
+ghost use Rattle.rga_exchange.specs.Memory.{ReceiveMemory};
 
 use crate::claim::Claim;
 use crate::claim_line::{ClaimLine, read_claim_line};
@@ -32,7 +34,7 @@ pub fn hear_summary<R: Read>(
     reader: &mut Counted<R>,
 ) -> Result<Summary, ReceiveFault>
     // However the reads cut the bytes, they lead to what all of them lead to.
-    ensures outcome { result ≢ Err ReceiveFault.Read → result ≢ Err ReceiveFault.Memory
+    ensures outcome { result ≢ Err ReceiveFault.Read → result ≢ Err ReceiveMemory
         → OnBytes R.remaining reader.old (λ bytes. summary_heard bytes ≡ result) }
     ensures last { OnOk result (ReadsToBlock R.remaining reader.old reader.new) }
     ensures device { CountsAs ReceiveFault.Read result reader.old reader.new }
@@ -50,9 +52,7 @@ pub fn hear_summary<R: Read>(
         if count == 0 {
             return Err(ReceiveFault::Cut);
         }
-        let Ok(()) = splitter.feed(&block[..count]) else {
-            return Err(ReceiveFault::Memory);
-        };
+        splitter.feed(&block[..count])?;
     }
 }
 
@@ -109,13 +109,11 @@ fn take_claim(
 {
     match read_claim_line(alloc, line) {
         Ok(ClaimLine::One(claim)) => {
-            let Ok(()) = claims.push(claim) else {
-                return Err(ReceiveFault::Memory);
-            };
+            claims.push(claim)?;
             Ok(None)
         }
         Ok(ClaimLine::Last(number)) => Ok(Some(number)),
-        Err(LineFault::Memory) => Err(ReceiveFault::Memory),
+        Err(LineFault::Memory(memory)) => Err(ReceiveFault::Memory(memory)),
         Err(fault) => Err(ReceiveFault::Line(claims.len() as u64 + 1, fault)),
     }
 }
@@ -128,8 +126,5 @@ fn end_claims(alloc: Global, claims: &[Claim], number: u64) -> Result<Summary, R
     if number != claims.len() as u64 {
         return Err(ReceiveFault::Count);
     }
-    match summary_from(alloc, claims) {
-        Ok(summary) => Ok(summary),
-        Err(_) => Err(ReceiveFault::Memory),
-    }
+    Ok(summary_from(alloc, claims)?)
 }

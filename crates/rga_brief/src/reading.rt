@@ -6,10 +6,10 @@ ghost use Rattle.rga_brief.specs.Claims as spec;
 use crate::block::Block;
 use crate::claim::{Claim, HALF};
 use crate::digests::Digests;
-use rga_lines::two_numbers;
+use rga_lines::{of_json, two_numbers};
 use rga_ops::OutOfMemory;
 use serde_json::Value;
-use std::alloc::{AllocError, Global};
+use std::alloc::Global;
 
 /// What a line of a summary says, given without its newline: a JSON object (RFC 8259), in any
 /// spelling, with exactly these members, of which `del` and `ins` may be left out
@@ -26,8 +26,10 @@ pub fn read_claim(alloc: Global, text: &str) -> Result<Option<Claim>, OutOfMemor
 {
     match Value::from_str(alloc, text) {
         Ok(value) => Ok(claim_of(&value)),
-        Err(e) if e.is_memory() => Err(OutOfMemory::from(AllocError)),
-        Err(_) => Ok(None),
+        Err(error) => match of_json(&error) {
+            Some(memory) => Err(memory),
+            None => Ok(None),
+        },
     }
 }
 

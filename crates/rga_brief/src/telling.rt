@@ -111,8 +111,6 @@ pub fn send_missing<S: Teller, W: Write>(
     ensures flushed { OnOk result (writer.new.flushed ≡ true) }
     ensures device { CountsAs SendFault.Write result writer.old writer.new }
 {
-    let Ok(ops) = missing(alloc, store, peer) else {
-        return Err(SendFault::Memory);
-    };
+    let ops = missing(alloc, store, peer)?;
     send_list(alloc, &ops, writer)
 }

@@ -20,6 +20,7 @@ use Rattle.rga_store.specs.Taking.{TakesMore}
 use Rattle.rga_store.proofs.TakingLaws.{joined_taken}
 use Rattle.rga_exchange.specs.declared.fault.LogFault.{LogFault}
 use Rattle.rga_exchange.specs.declared.fault.LogFault.TheVariants as fault
+use Rattle.rga_exchange.specs.Memory.{LogMemory}
 use Rattle.rga_exchange.specs.declared.log.LogEnd.{LogEnd}
 use Rattle.rga_exchange.specs.declared.log.LogEnd.TheVariants.{Whole, Bare, Torn}
 use Rattle.rga_exchange.specs.declared.taking.LineTaken.{LineTaken}
@@ -90,7 +91,7 @@ module _ (took : Intake) (n : ℕ) (rest : List ℕ) where
   pub rest_takes : (r : Result LineTaken LogFault) → length rest ≢ 0 → TakesAs took (after_line Log took.limit (n + 1) took.old (any_line_at rest)) (operations_of (rest ∷ [])) r → TakesRest took n rest (bare_answer (length rest) r)
   rest_takes r some h = grind arith
 
-  pub rest_fails : (e : LogFault) → TakesRest took n rest (Err e) → (e ≢ fault.Memory → after_rest took.limit n took.old rest ≡ ran (Err e) took.new) × TakesNone took × (e ≢ fault.Read)
+  pub rest_fails : (e : LogFault) → TakesRest took n rest (Err e) → (e ≢ LogMemory → after_rest took.limit n took.old rest ≡ ran (Err e) took.new) × TakesNone took × (e ≢ fault.Read)
   rest_fails e h = grind (arith)
 
 -- how the rest of a log ends it, at content c behind n lines

@@ -23,6 +23,7 @@ use Rattle.rga_lines.proofs.StandLemmas.{stands, stands_for, stands_for_none}
 use Rattle.rga_lines.proofs.SplitterLemmas.{GivesLine}
 use Rattle.rga_exchange.specs.declared.fault.LogFault.{LogFault}
 use Rattle.rga_exchange.specs.declared.fault.LogFault.TheVariants as fault
+use Rattle.rga_exchange.specs.Memory.{LogMemory}
 use Rattle.rga_exchange.specs.declared.taking.LineTaken.{LineTaken}
 use Rattle.rga_exchange.specs.declared.taking.LineTaken.TheVariants.{Operations, EndLine}
 use Rattle.rga_exchange.specs.declared.taking.Form.{Form}
@@ -300,8 +301,8 @@ module _ {form : Form} {limit own : ℕ} {c d : Content} {first : List Op → Ty
   fault_stops y (fault.Line k w) h = (first_taken h.2, line_stops line (AtFault (fault.Line k w)) is taken given h.0 h.2.same)
   fault_stops y (fault.Refused k w) h = (first_taken h.1, line_stops line (AtFault (fault.Refused k w)) is taken given h.0 h.1.same)
   fault_stops y fault.Read h = absurd h
-  fault_stops y fault.Memory h = first_taken h
+  fault_stops y (fault.Memory _) h = first_taken h
 
 -- at a fault the first of them were taken, and but for want of memory the stream stops there
-pub faulted : (form : Form) (took : Intake) (p : Stage) (n j : ℕ) (s : Splitting) (e : LogFault) → TakesLines form took p n j s (Err e) → TakesFirst form took p n j × ((e ≡ fault.Memory → ⊥) → StopsAs form took p n (AtFault e))
+pub faulted : (form : Form) (took : Intake) (p : Stage) (n j : ℕ) (s : Splitting) (e : LogFault) → TakesLines form took p n j s (Err e) → TakesFirst form took p n j × ((e ≡ LogMemory → ⊥) → StopsAs form took p n (AtFault e))
 faulted form took p n j s e h = grind arith

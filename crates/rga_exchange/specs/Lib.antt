@@ -11,3 +11,4 @@ pub mod Sending
 pub mod Stops
 pub mod RunLines
 pub mod DeletionRuns
+pub mod Memory

@@ -14,6 +14,7 @@ use Rattle.rga_lines.specs.declared.fault.LineFault.TheVariants as line_fault
 use Rattle.rga_exchange.specs.declared.taking.Form.TheVariants as form
 use Rattle.rga_exchange.specs.declared.fault.LogFault.{LogFault}
 use Rattle.rga_exchange.specs.declared.fault.LogFault.TheVariants as fault
+use Rattle.rga_exchange.specs.Memory.{LogMemory}
 use Rattle.rga_exchange.specs.declared.log.LogEnd.{LogEnd}
 use Rattle.rga_exchange.specs.declared.log.LogEnd.TheVariants.{Whole, Bare, Torn}
 use Rattle.rga_exchange.specs.declared.log.LogRead.{LogRead}
@@ -55,7 +56,7 @@ bare_answer bytes (Ok (EndLine number)) = Ok (Torn bytes)
 bare_answer bytes (Err (fault.Line n e)) = Ok (Torn bytes)
 bare_answer bytes (Err (fault.Refused n e)) = Err (fault.Refused n e)
 bare_answer bytes (Err fault.Read) = Err fault.Read
-bare_answer bytes (Err fault.Memory) = Err fault.Memory
+bare_answer bytes (Err (fault.Memory _)) = Err LogMemory
 
 -- what became of the rest behind n lines: an operation or a run is taken, or nothing is
 abbrev pub TakesRest : Intake → ℕ → List ℕ → Result LogEnd LogFault → Type 0
@@ -63,7 +64,7 @@ TakesRest took n rest (Ok end) = (after_rest took.limit n took.old rest ≡ end_
 TakesRest took n rest (Err (fault.Line k e)) = ⊥
 TakesRest took n rest (Err (fault.Refused k e)) = (after_rest took.limit n took.old rest ≡ (took.new, Err (fault.Refused k e))) × TakesNone took
 TakesRest took n rest (Err fault.Read) = ⊥
-TakesRest took n rest (Err fault.Memory) = TakesNone took
+TakesRest took n rest (Err (fault.Memory _)) = TakesNone took
 
 -- the rest comes where all lines were taken; the end of an exchange is no line of a log
 abbrev pub after_stop : ℕ → List ℕ → ℕ → Content → Stop → LogOutcome
@@ -101,7 +102,7 @@ module _ {R A E : Type 0} (remaining : R → Option (List ℕ)) (r s : Calls R) 
 
   pub record TakesLog : Type 0 where
     -- however the reads cut the bytes, they lead to what the whole log leads to
-    pub outcome : result ≢ told (Err fault.Read) → result ≢ told (Err fault.Memory) → OnBytes remaining r (LeadsToAnswer took told result)
+    pub outcome : result ≢ told (Err fault.Read) → result ≢ told (Err LogMemory) → OnBytes remaining r (LeadsToAnswer took told result)
     pub joined : OnOk result (OnBytes remaining r (λ bytes. took.new ≡ join took.old (content_of (log_operations bytes))))
     pub whole_lines : result ≡ told (Err fault.Read) → HasTakenWholeLines form.Log remaining r s took
     -- whatever the fault, all lines that were whole before the last block were taken, the first of those that end in it,

@@ -42,7 +42,7 @@ TakesAs took outcome ops (Ok (EndLine number)) = (outcome ≡ Err (AtEnd number)
 TakesAs took outcome ops (Err (fault.Line n e)) = (outcome ≡ Err (AtFault (fault.Line n e))) × (ops ≡ []) × TakesNone took
 TakesAs took outcome ops (Err (fault.Refused n e)) = (outcome ≡ Err (AtFault (fault.Refused n e))) × TakesNone took
 TakesAs took outcome ops (Err fault.Read) = ⊥
-TakesAs took outcome ops (Err fault.Memory) = TakesNone took
+TakesAs took outcome ops (Err (fault.Memory _)) = TakesNone took
 
 -- From the one stage to the other the first lines of the bytes that waited were taken. Whatever bytes follow are cut as if
 -- all had been there from the start.
@@ -77,7 +77,7 @@ TakesLines form took p n j s (Ok (Some number)) = TakesFirst form took p n j × 
 TakesLines form took p n j s (Err (fault.Line k e)) = TakesFirst form took p n j × StopsAs form took p n (AtFault (fault.Line k e))
 TakesLines form took p n j s (Err (fault.Refused k e)) = TakesFirst form took p n j × StopsAs form took p n (AtFault (fault.Refused k e))
 TakesLines form took p n j s (Err fault.Read) = ⊥
-TakesLines form took p n j s (Err fault.Memory) = TakesFirst form took p n j
+TakesLines form took p n j s (Err (fault.Memory _)) = TakesFirst form took p n j
 
 -- all bytes of a stream lead to n lines, and stop so there
 abbrev pub LeadsTo : Form → Intake → List ℕ → ℕ → Stop → Type 0

@@ -11,6 +11,7 @@ use Rattle.rga_exchange.specs.declared.fault.LogFault.{LogFault}
 use Rattle.rga_exchange.specs.declared.fault.LogFault.TheVariants as log
 use Rattle.rga_exchange.specs.declared.fault.ReceiveFault.{ReceiveFault}
 use Rattle.rga_exchange.specs.declared.fault.ReceiveFault.TheVariants as fault
+use Rattle.rga_exchange.specs.Memory.{ReceiveMemory}
 use Rattle.rga_exchange.specs.Taking.{body, Stop, AllTaken, AtEnd, AtFault, stream_taken}
 use Rattle.rga_exchange.specs.declared.taking.Form.{Form}
 use Rattle.rga_exchange.specs.declared.taking.Form.TheVariants.{Exchange}
@@ -20,7 +21,7 @@ abbrev pub receive_fault : LogFault → ReceiveFault
 receive_fault (log.Line n e) = fault.Line n e
 receive_fault (log.Refused n e) = fault.Refused n e
 receive_fault log.Read = fault.Read
-receive_fault log.Memory = fault.Memory
+receive_fault (log.Memory _) = ReceiveMemory
 
 -- the number of operations, where the end line came and names it
 abbrev pub number_received : ℕ → Stop → Result ℕ ReceiveFault

@@ -14,6 +14,7 @@ use Rattle.rga_lines.specs.declared.fault.LineFault.TheVariants as line_fault
 use Rattle.rga_exchange.specs.declared.taking.Form.{Form}
 use Rattle.rga_exchange.specs.declared.fault.LogFault.{LogFault}
 use Rattle.rga_exchange.specs.declared.fault.LogFault.TheVariants as fault
+use Rattle.rga_exchange.specs.Memory.{LogMemory}
 use Rattle.rga_exchange.specs.declared.log.LogEnd.{LogEnd}
 use Rattle.rga_exchange.specs.declared.log.LogEnd.TheVariants.{Whole, Bare, Torn}
 use Rattle.rga_exchange.specs.Taking.{may_be_head, body, Stop, AllTaken, AtEnd, AtFault, Progress, progress, taken_whole, AreTaken}
@@ -65,7 +66,7 @@ GoesOnWith form limit n c lines (AtEnd number) = StartsWithEnd lines number
 GoesOnWith form limit n c lines (AtFault (fault.Line k e)) = (k ≡ n + 1) × StartsAtFault form k lines e
 GoesOnWith form limit n c lines (AtFault (fault.Refused k e)) = (k ≡ n + 1) × StartsRefused limit c lines e
 GoesOnWith form limit n c lines (AtFault fault.Read) = ⊥
-GoesOnWith form limit n c lines (AtFault fault.Memory) = ⊥
+GoesOnWith form limit n c lines (AtFault (fault.Memory _)) = ⊥
 
 -- The first of the lines are operations that were taken, behind the head of an exchange where it has one, as many as were
 -- and to the content that they lead to; what comes then is why no more are.
@@ -82,7 +83,7 @@ abbrev pub fault_further : LogFault → LogFault
 fault_further (fault.Line n e) = fault.Line (n + 1) e
 fault_further (fault.Refused n e) = fault.Refused (n + 1) e
 fault_further fault.Read = fault.Read
-fault_further fault.Memory = fault.Memory
+fault_further (fault.Memory _) = LogMemory
 
 abbrev pub stop_further : Stop → Stop
 stop_further AllTaken = AllTaken

@@ -52,9 +52,7 @@ pub fn compact<S: TextStore, W: Write>(
 {
     // What is known is told with the fact that each operation is well-formed.
     let _known = store.known();
-    let Ok(ops) = store.ops() else {
-        return Err(SendFault::Memory);
-    };
+    let ops = store.ops()?;
     compact_ops(alloc, &ops, dels, writer)
 }
 
@@ -179,7 +177,7 @@ fn next_line(
     most: u64,
     ends: &mut RunEnds,
     deleted: &mut RunEnds,
-) -> Result<Option<String>, SendFault>
+) -> Result<Option<String>, OutOfMemory>
     requires all { ops.now ≡ operations (content_of ops.now) }
     requires checked { checked op.now ≡ Ok tt }
     requires some { 0 < most }
@@ -191,7 +189,6 @@ fn next_line(
         ≡ ends_behind (content_of ops.now) (slice_index ends.old) op.now replica) }
     ensures deleted { OnOk result ((replica : ℕ) → slice_index deleted.new replica
         ≡ deleted_behind (content_of ops.now) most (slice_index deleted.old) op.now replica) }
-    ensures memory { IfErr result (λ e. e ≡ SendFault.Memory) }
 {
     match op {
         Op::Insert { id, parent, ch } => run_line(alloc, ops, index, *id, *parent, *ch, ends),
@@ -208,7 +205,7 @@ fn deletion_run_line(
     id: Id,
     most: u64,
     deleted: &mut RunEnds,
-) -> Result<Option<String>, SendFault>
+) -> Result<Option<String>, OutOfMemory>
     requires all { ops.now ≡ operations (content_of ops.now) }
     requires checked { checked (Delete id) ≡ Ok tt }
     requires some { 0 < most }
@@ -218,7 +215,6 @@ fn deletion_run_line(
         (Delete id)) }
     ensures deleted { OnOk result ((replica : ℕ) → slice_index deleted.new replica
         ≡ deleted_behind (content_of ops.now) most (slice_index deleted.old) (Delete id) replica) }
-    ensures memory { IfErr result (λ e. e ≡ SendFault.Memory) }
 {
     // What an identifier may be is told with its counter.
     let _counter = id.counter();
@@ -227,9 +223,7 @@ fn deletion_run_line(
     }
     let count = deletions_from(ops, index, id, most);
     deleted.note(id, count);
-    let Ok(line) = deletion_line(alloc, &DeletionRun { id, count }) else {
-        return Err(SendFault::Memory);
-    };
+    let line = deletion_line(alloc, &DeletionRun { id, count })?;
     Ok(Some(line))
 }
 
@@ -292,7 +286,7 @@ fn run_line(
     parent: Id,
     ch: char,
     ends: &mut RunEnds,
-) -> Result<Option<String>, SendFault>
+) -> Result<Option<String>, OutOfMemory>
     requires all { ops.now ≡ operations (content_of ops.now) }
     requires checked { checked (Insert id parent ch) ≡ Ok tt }
     ensures line { IfOk result (λ line. option_map_or (λ text. string_bytes text ∷ []) line []
@@ -300,7 +294,6 @@ fn run_line(
         (Insert id parent ch)) }
     ensures ends { OnOk result ((replica : ℕ) → slice_index ends.new replica
         ≡ ends_behind (content_of ops.now) (slice_index ends.old) (Insert id parent ch) replica) }
-    ensures memory { IfErr result (λ e. e ≡ SendFault.Memory) }
 {
     let rises = parent.counter() < id.counter();
     prove!(rises);
@@ -309,9 +302,7 @@ fn run_line(
     }
     let run = run_from(alloc, ops, index, id, parent, ch)?;
     ends.note(id, run.chars.len() as u64);
-    let Ok(line) = shortest_line(alloc, &run) else {
-        return Err(SendFault::Memory);
-    };
+    let line = shortest_line(alloc, &run)?;
     Ok(Some(line))
 }
 

@@ -7,6 +7,7 @@ ghost use Rattle.rga_store.specs.Taking.{TakesMore};
 ghost use Rattle.rga_exchange.specs.DeletionRuns.{is_deletion_run, has_deletion_runs};
 ghost use Rattle.rga_exchange.specs.Taking.{intake};
 ghost use Rattle.rga_exchange.specs.Log.{TakesLog, log_end, bare_answer, TakesRest};
+ghost use Rattle.rga_exchange.specs.Memory.{LogMemory};
 
 use crate::Counted;
 use crate::fault::{LogFault, ReceiveFault};
@@ -87,7 +88,7 @@ fn take_rest<T: Taker>(
     requires { lines < 2 ^ 63 }
     ensures taken { TakesRest (intake T.limit T.content T.follows taker.old taker.new)
         lines rest.now result }
-    ensures deletion_runs { result ≢ Err LogFault.Memory → deletion_runs.new
+    ensures deletion_runs { result ≢ Err LogMemory → deletion_runs.new
         ≡ (deletion_runs.old || is_deletion_run (any_line_at rest.now)) }
     ensures limit { T.limit taker.new ≡ T.limit taker.old }
 {

@@ -7,6 +7,7 @@ ghost use Rattle.rga_store.specs.Taking.{TakesMore};
 ghost use Rattle.rga_exchange.specs.Taking.{intake, HasTakenLines, HasTakenWholeLines};
 ghost use Rattle.rga_exchange.specs.Receiving.{exchange_outcome, EndsWithLastRead};
 ghost use Rattle.rga_exchange.specs.declared.taking.Form.TheVariants.{Exchange};
+ghost use Rattle.rga_exchange.specs.Memory.{ReceiveMemory};
 
 use crate::Counted;
 use crate::fault::ReceiveFault;
@@ -33,7 +34,7 @@ pub fn receive<T: Taker, R: Read>(
     reader: &mut Counted<R>,
 ) -> Result<u64, ReceiveFault>
     // However the reads cut the bytes, they lead to what all of them lead to.
-    ensures outcome { result ≢ Err ReceiveFault.Read → result ≢ Err ReceiveFault.Memory
+    ensures outcome { result ≢ Err ReceiveFault.Read → result ≢ Err ReceiveMemory
         → OnBytes R.remaining reader.old (λ bytes. exchange_outcome
         (T.limit taker.old) (T.content taker.old) bytes ≡ (T.content taker.new, result)) }
     ensures joined { OnOk result (OnBytes R.remaining reader.old (λ bytes.

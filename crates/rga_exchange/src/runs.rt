@@ -116,18 +116,15 @@ fn push_front<W: Write>(
 }
 
 /// That line, and how many it has beside.
-fn first_line(alloc: Global, op: &Op, behind: &[Op]) -> Result<(String, usize), SendFault>
+fn first_line(alloc: Global, op: &Op, behind: &[Op]) -> Result<(String, usize), OutOfMemory>
     ensures line { IfOk result (λ p. string_bytes p.0 ≡ front_line op.now behind.now) }
     ensures count { IfOk result (λ p. p.1 ≡ front_count op.now behind.now) }
     ensures within { IfOk result (λ p. p.1 ≤ length behind.now) }
-    ensures memory { IfErr result (λ e. e ≡ SendFault.Memory) }
 {
     match op {
         Op::Insert { id, parent, ch } => line_of_run(alloc, *id, *parent, *ch, behind),
         Op::Delete { .. } => {
-            let Ok(line) = write_line(alloc, op) else {
-                return Err(SendFault::Memory);
-            };
+            let line = write_line(alloc, op)?;
             Ok((line, 0))
         }
     }
@@ -140,17 +137,14 @@ fn line_of_run(
     parent: Id,
     ch: char,
     behind: &[Op],
-) -> Result<(String, usize), SendFault>
+) -> Result<(String, usize), OutOfMemory>
     ensures line { IfOk result (λ p.
         string_bytes p.0 ≡ front_line (Insert id parent ch) behind.now) }
     ensures count { IfOk result (λ p. p.1 ≡ front_count (Insert id parent ch) behind.now) }
     ensures within { IfOk result (λ p. p.1 ≤ length behind.now) }
-    ensures memory { IfErr result (λ e. e ≡ SendFault.Memory) }
 {
     let run = run_in_front(alloc, id, parent, ch, behind)?;
-    let Ok(line) = shortest_line(alloc, &run) else {
-        return Err(SendFault::Memory);
-    };
+    let line = shortest_line(alloc, &run)?;
     Ok((line, run.chars.len() - 1))
 }
 

@@ -8,12 +8,13 @@ ghost use Rattle.rga_lines.specs.Stream.{newline, rest_of};
 ghost use Rattle.rga_exchange.specs.Sending.{log_text, exchange_text, stream_text, AreWritable, StandsFor};
 ghost use Rattle.rga_exchange.specs.Sending.{AppendsFirst, WritesFirst};
 ghost use Rattle.rga_exchange.specs.Receiving.{exchange_outcome};
+ghost use Rattle.rga_exchange.specs.Memory.{SendMemory};
 
 use crate::Counted;
 use crate::block::Block;
 use crate::fault::SendFault;
 use rga_lines::{write_end, write_head};
-use rga_ops::Op;
+use rga_ops::{Op, OutOfMemory};
 use rga_store::TextStore;
 use std::alloc::Global;
 use std::io::Write;
@@ -43,9 +44,7 @@ pub fn send<S: TextStore, W: Write>(
     ensures flushed { OnOk result (writer.new.flushed ≡ true) }
     ensures device { CountsAs SendFault.Write result writer.old writer.new }
 {
-    let Ok(ops) = store.ops() else {
-        return Err(SendFault::Memory);
-    };
+    let ops = store.ops()?;
     send_list(alloc, &ops, writer)
 }
 
@@ -71,9 +70,7 @@ pub fn send_list<W: Write>(
     ensures device { CountsAs SendFault.Write result writer.old writer.new }
 {
     let number = list.len() as u64;
-    let Ok(end) = write_end(alloc, number) else {
-        return Err(SendFault::Memory);
-    };
+    let end = write_end(alloc, number)?;
     let mut block = begin_exchange(alloc)?;
     push_lines(list, &mut block, writer)?;
     block.push(end.as_bytes())?;
@@ -82,13 +79,10 @@ pub fn send_list<W: Write>(
 }
 
 /// A block with the head of an exchange.
-fn begin_exchange(alloc: Global) -> Result<Block, SendFault>
+fn begin_exchange(alloc: Global) -> Result<Block, OutOfMemory>
     ensures ok { IfOk result (λ block. block ≡ head_line ++ newline ∷ []) }
-    ensures fault { IfErr result (λ e. e ≡ SendFault.Memory) }
 {
-    let Ok(head) = write_head(alloc) else {
-        return Err(SendFault::Memory);
-    };
+    let head = write_head(alloc)?;
     let mut block = Block::new(alloc)?;
     block.push(head.as_bytes())?;
     Ok(block)
@@ -116,7 +110,7 @@ pub fn append_log<W: Write>(
     // Whatever is answered, such a log, with what was written behind it, stands for that content
     // joined with the first so many of the operations.
     ensures gained { AppendsFirst W.contents writer.old writer.new ops.now }
-    ensures memory { result ≡ Err SendFault.Memory →
+    ensures memory { result ≡ Err SendMemory →
         WritesNothing W.contents writer.old writer.new }
     ensures flushed { OnOk result (writer.new.flushed ≡ true) }
     ensures device { CountsAs SendFault.Write result writer.old writer.new }

@@ -9,7 +9,8 @@ ghost use Rattle.rga_exchange.specs.Taking.{AtFault, refused_at, taken_whole};
 ghost use Rattle.rga_exchange.specs.Taking.{intake, HasTakenLines, HasTakenWholeLines};
 ghost use Rattle.rga_exchange.specs.Parts.{stage, left_at, line_outcome, head_answer, TakesAs, TakesLines};
 ghost use Rattle.rga_exchange.specs.Parts.{LeadsTo, EndsAs, HasTakenAllBut, StopsReading};
-ghost use Rattle.rga_exchange.specs.declared.fault.LogFault.TheVariants.{Memory, Read as ReadFailed};
+ghost use Rattle.rga_exchange.specs.declared.fault.LogFault.TheVariants.{Read as ReadFailed};
+ghost use Rattle.rga_exchange.specs.Memory.{LogMemory as Memory};
 
 use crate::Counted;
 use crate::block::BLOCK;
@@ -112,9 +113,7 @@ pub(crate) fn take_stream<T: Taker, R: Read>(
                 end: StreamEnd::Input(splitter.finish()),
             });
         }
-        let Ok(()) = splitter.feed(&block[..count]) else {
-            return Err(LogFault::Memory);
-        };
+        splitter.feed(&block[..count])?;
     }
 }
 
@@ -191,7 +190,7 @@ fn take_line<T: Taker>(
     ensures taken { TakesAs (intake T.limit T.content T.follows taker.old taker.new)
         (line_outcome form T.limit T.content taker.old number line.now)
         (operations_of (line.now ∷ [])) result }
-    ensures deletion_runs { result ≢ Err LogFault.Memory → deletion_runs.new
+    ensures deletion_runs { result ≢ Err Memory → deletion_runs.new
         ≡ (deletion_runs.old || is_deletion_run (any_line_at line.now)) }
     ensures limit { T.limit taker.new ≡ T.limit taker.old }
 {
@@ -201,7 +200,7 @@ fn take_line<T: Taker>(
     match read_insertions(ops, line) {
         Ok(true) => take_all(taker, number, ops),
         Ok(false) => take_other(alloc, form, taker, number, line, deletion_runs),
-        Err(_) => Err(LogFault::Memory),
+        Err(memory) => Err(LogFault::Memory(memory)),
     }
 }
 
@@ -217,28 +216,24 @@ pub(crate) fn take_other<T: Taker>(
     ensures taken { TakesAs (intake T.limit T.content T.follows taker.old taker.new)
         (line_outcome form T.limit T.content taker.old number line.now)
         (operations_of (line.now ∷ [])) result }
-    ensures deletion_runs { result ≢ Err LogFault.Memory → deletion_runs.new
+    ensures deletion_runs { result ≢ Err Memory → deletion_runs.new
         ≡ (deletion_runs.old || is_deletion_run (any_line_at line.now)) }
     ensures limit { T.limit taker.new ≡ T.limit taker.old }
 {
     match read_any(alloc, line) {
         Ok(Line::One(op)) => take(taker, number, op),
         Ok(Line::Run(run)) => {
-            let Ok(ops) = run.ops(alloc) else {
-                return Err(LogFault::Memory);
-            };
+            let ops = run.ops(alloc)?;
             take_all(taker, number, &ops)
         }
         Ok(Line::Deletions(run)) => {
             *deletion_runs = true;
-            let Ok(ops) = run.ops(alloc) else {
-                return Err(LogFault::Memory);
-            };
+            let ops = run.ops(alloc)?;
             take_all(taker, number, &ops)
         }
         Ok(Line::Head) => pass_head(form, number),
         Ok(Line::Last(count)) => Ok(LineTaken::EndLine(count)),
-        Err(LineFault::Memory) => Err(LogFault::Memory),
+        Err(LineFault::Memory(memory)) => Err(LogFault::Memory(memory)),
         Err(fault) => Err(LogFault::Line(number, fault)),
     }
 }
@@ -261,7 +256,7 @@ pub(crate) fn take<T: Taker>(taker: &mut T, number: u64, op: Op) -> Result<LineT
 {
     match taker.apply(op) {
         Ok(_) => Ok(LineTaken::Operations(1)),
-        Err(Refusal::Memory(_)) => Err(LogFault::Memory),
+        Err(Refusal::Memory(memory)) => Err(LogFault::Memory(memory)),
         Err(refusal) => Err(LogFault::Refused(number, refusal)),
     }
 }
@@ -275,7 +270,7 @@ fn take_all<T: Taker>(taker: &mut T, number: u64, ops: &[Op]) -> Result<LineTake
 {
     match taker.apply_all(ops) {
         Ok(()) => Ok(LineTaken::Operations(ops.len() as u64)),
-        Err(Refusal::Memory(_)) => Err(LogFault::Memory),
+        Err(Refusal::Memory(memory)) => Err(LogFault::Memory(memory)),
         Err(fault) => Err(LogFault::Refused(number, fault)),
     }
 }

@@ -1,4 +1,6 @@
 //! A store as records and one sequence.
+ghost use Rattle.std.specs.Prelude.{◌≡◌, Ok, length};
+ghost use Rattle.rga_ops.specs.Order.{waiting};
 
 use crate::reading::{count_inserted, string_of};
 use crate::taking::take;
@@ -165,7 +167,9 @@ impl TextStore for FlatStore {
         self.sequence.place_of(id, self.records.near(id))
     }
 
-    fn waiting_count(&self) -> Result<usize, OutOfMemory> {
+    fn waiting_count(&self) -> Result<usize, OutOfMemory>
+        ensures exact { result ≡ Ok (length (waiting self.now.content)) }
+    {
         let count = count_inserted(&self.records);
         Ok(count - self.sequence.len())
     }

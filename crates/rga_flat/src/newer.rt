@@ -25,8 +25,8 @@ pub(crate) fn is_newer(ops: &[Op], clock: u64) -> bool {
 }
 
 /// Takes insertions that are newer than all that is known into the records, the first behind a parent
-/// and each other behind the one before it, and notes them, for which there is room. `Memory` alone,
-/// and then none is taken.
+/// and each other behind the one before it, and notes them, for which there is room: all, or none. A
+/// refusal of memory takes none.
 pub(crate) fn gather_newer<'a>(
     alloc: Global,
     records: &mut Records,
@@ -54,11 +54,13 @@ pub(crate) fn gather_newer<'a>(
     let before = steps.as_slice().len();
     scan(records, waiting, parent, ops, steps, entries);
     let chain = entries.as_slice();
-    if let Err(refusal) = records.insert_chain(alloc, parent, near, chain) {
-        entries.truncate(0);
-        steps.truncate(before);
-        return Err(refusal);
+    let answer = records.insert_chain(alloc, parent, near, chain);
+    if let Ok(true) = answer {
+        return Ok(());
     }
+    entries.truncate(0);
+    steps.truncate(before);
+    answer?;
     Ok(())
 }
 

@@ -8,6 +8,7 @@ ghost use Rattle.rga_ops.specs.Identifier.{Identifier, id_cmp};
 ghost use Rattle.rga_ops.specs.Content.{Content};
 ghost use Rattle.rga_ops.specs.Answer.{taken, taken_one_by_one};
 ghost use Rattle.rga_store.specs.Back.{without_noted, CanTakeBack};
+ghost use Rattle.rga_store.specs.Growth.{has_unknown};
 ghost use Rattle.rga_flat.specs.Based.{IsBased};
 ghost use Rattle.rga_flat.specs.Flat.{IsFlat};
 ghost use Rattle.rga_flat.specs.Waiting.{StayListed, under, has_list, is_listed, SettlesLists};
@@ -19,12 +20,12 @@ use crate::waiting::clear_lists;
 use rga_ops::{Id, Op, Refusal, Taken};
 use rga_records::Records;
 use rga_sequence::{MOST_AT_ONCE, Sequence};
-use rga_store::{Step, note};
+use rga_store::{Step, has_unknown, note};
 use std::alloc::Global;
 use std::collections::{BTreeMap, BTreeSet};
 
 /// Takes the operations one by one, or none of them: the first that is refused leaves all as it
-/// was. `Memory` may be wanting before that one is found.
+/// was. Memory may be refused before that one is found, but not if all is known.
 pub(crate) fn take_whole(
     alloc: Global,
     records: &mut Records,
@@ -37,11 +38,15 @@ pub(crate) fn take_whole(
         ≡ Ok records.new.content) }
     ensures refused { IfErr result (λ e. e ≢ Memory →
         taken_one_by_one records.old.limit records.old.content ops.now ≡ Err e) }
+    ensures growth { OnErr result (has_unknown records.old.content ops.now ≡ true) }
     ensures same { OnErr result (records.new.content ≡ records.old.content) }
     ensures flat { IsFlat records.new.content sequence.new
         (under waiting.new) (has_list waiting.new) }
     ensures limit { records.new.limit ≡ records.old.limit }
 {
+    if !has_unknown(records, ops) {
+        return Ok(());
+    }
     let mut steps = Vec::with_capacity(alloc, ops.len())?;
     let mut done = BTreeSet::new(alloc);
     let mut index = 0;

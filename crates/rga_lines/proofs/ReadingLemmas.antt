@@ -4,6 +4,7 @@ use Rattle.rga_lines.proofs.Prelude.{Run, Deletions, MAX_LINE, DeletionRun, is_o
 use Rattle.rga_lines.specs.Table.{any_line_at, line_at}
 use Rattle.rga_lines.proofs.SoundLemmas.{IsSound, IsSoundOperation, sound_line}
 use Rattle.rga_lines.specs.declared.fault.LineFault.TheVariants as fault
+use Rattle.rga_lines.specs.Memory.{LineMemory}
 
 -- ---- the whole
 
@@ -29,7 +30,7 @@ unfolding line_at
 alone bytes r e = ap operation_alone e
 
 -- what was said of the bytes, with no refusal of memory, says of them what it says alone
-pub said_alone : (bytes : List ℕ) (said : AnyReading) (r : Reading) → (said ≢ Err fault.Memory → said ≡ any_line_at bytes) → operation_alone said ≡ r → r ≢ Err fault.Memory → r ≡ line_at bytes
+pub said_alone : (bytes : List ℕ) (said : AnyReading) (r : Reading) → (said ≢ Err LineMemory → said ≡ any_line_at bytes) → operation_alone said ≡ r → r ≢ Err LineMemory → r ≡ line_at bytes
 unfolding line_at
 said_alone bytes said r says is other = sym is ∙ ap operation_alone (says (λ e. other (sym is ∙ ap operation_alone e)))
 

@@ -5,3 +5,4 @@ pub mod Table
 pub mod Runs
 pub mod FaultName
 pub mod Faults
+pub mod Memory

@@ -4,7 +4,7 @@ ghost use Rattle.rga_lines.specs.Runs.{run_deletions, IsDeletionRun};
 
 use crate::fault::LineFault;
 use rga_ops::{Id, Op, OutOfMemory};
-use std::alloc::{AllocError, Global};
+use std::alloc::Global;
 
 /// Deletions of elements of one replica with rising counters: the identifier of the first one, and
 /// how many they are.
@@ -28,7 +28,7 @@ impl DeletionRun {
         let mut left = self.count;
         'deletions: while left > 0 {
             let Ok(id) = Id::new(counter, replica) else {
-                return Err(OutOfMemory::from(AllocError));
+                unreachable!()
             };
             ops.push(Op::Delete { id })?;
             counter += 1;

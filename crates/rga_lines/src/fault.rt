@@ -1,7 +1,8 @@
 //! What can be wrong with a line.
-ghost use Rattle.std.specs.Prelude.{◌≡◌};
-ghost use Rattle.rga_lines.specs.declared.fault.LineFault.TheVariants.{Memory};
+ghost use Rattle.std.specs.Prelude.{◌≡◌, IsSome, ◌↔◌};
+ghost use Rattle.rga_lines.specs.Memory.{LineMemory as Memory};
 ghost use Rattle.rga_lines.specs.FaultName.{fault_name};
+ghost use Rattle.serde_json.specs.Errors.{IsMemory};
 
 use rga_ops::OutOfMemory;
 use std::alloc::{AllocError, AllocFailed};
@@ -35,7 +36,7 @@ pub enum LineFault {
     /// An insertion, or a run, whose counter is not above its parent's.
     Order,
     /// A growth of memory was refused.
-    Memory,
+    Memory(OutOfMemory),
 }
 
 impl LineFault {
@@ -51,7 +52,7 @@ impl LineFault {
             LineFault::Id => "Id",
             LineFault::Char => "Char",
             LineFault::Order => "Order",
-            LineFault::Memory => "Memory",
+            LineFault::Memory(_) => "Memory",
         }
     }
 }
@@ -59,16 +60,16 @@ impl LineFault {
 impl From<OutOfMemory> for LineFault {
     ghost from_gives = { λ _ e. e ≡ Memory };
 
-    fn from(_: OutOfMemory) -> LineFault {
-        LineFault::Memory
+    fn from(memory: OutOfMemory) -> LineFault {
+        LineFault::Memory(memory)
     }
 }
 
 impl From<AllocError> for LineFault {
     ghost from_gives = { λ _ e. e ≡ Memory };
 
-    fn from(_: AllocError) -> LineFault {
-        LineFault::Memory
+    fn from(refused: AllocError) -> LineFault {
+        LineFault::Memory(OutOfMemory::from(refused))
     }
 }
 
@@ -76,7 +77,19 @@ impl From<AllocError> for LineFault {
 impl<T: Drop> From<AllocFailed<T>> for LineFault {
     ghost from_gives = { λ _ e. e ≡ Memory };
 
-    fn from(_: AllocFailed<T>) -> LineFault {
-        LineFault::Memory
+    fn from(failed: AllocFailed<T>) -> LineFault {
+        LineFault::Memory(OutOfMemory::from(failed))
+    }
+}
+
+/// The refusal of memory that an error of serde_json tells of, which holds none itself. `None` if it
+/// tells of something else.
+pub fn of_json(error: &serde_json::Error) -> Option<OutOfMemory>
+    ensures { IsSome result ↔ IsMemory error.now }
+{
+    if error.is_memory() {
+        Some(OutOfMemory::from(AllocError))
+    } else {
+        None
     }
 }

@@ -37,7 +37,7 @@ mod values;
 mod writing;
 
 pub use deletion_run::DeletionRun;
-pub use fault::LineFault;
+pub use fault::{LineFault, of_json};
 pub use line::{Line, MAX_LINE};
 pub use reading::{read_any, read_line};
 pub use run::{MAX_RUN, Run};

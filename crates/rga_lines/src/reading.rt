@@ -1,8 +1,10 @@
 //! What the bytes of a line say.
 ghost use Rattle.std.specs.Prelude.{◌≡◌, ◌≢◌, ◌<◌, length, Ok, Err};
 ghost use Rattle.rga_lines.specs.Table.{operation_alone, any_line_at, line_at, longest_line};
-ghost use Rattle.rga_lines.specs.declared.fault.LineFault.TheVariants.{Memory, Long};
+ghost use Rattle.rga_lines.specs.declared.fault.LineFault.TheVariants.{Long};
+ghost use Rattle.rga_lines.specs.Memory.{LineMemory as Memory};
 
+use crate::fault::of_json;
 use crate::spelled::spelled;
 use crate::{Line, LineFault, MAX_LINE, line_of};
 use rga_ops::Op;
@@ -39,8 +41,10 @@ pub fn read_any(alloc: Global, bytes: &[u8]) -> Result<Line, LineFault>
     }
     match Value::from_slice(alloc, bytes) {
         Ok(value) => line_of(alloc, &value),
-        Err(e) if e.is_memory() => Err(LineFault::Memory),
-        Err(_) => Err(LineFault::Json),
+        Err(error) => match of_json(&error) {
+            Some(memory) => Err(LineFault::Memory(memory)),
+            None => Err(LineFault::Json),
+        },
     }
 }
 

@@ -4,7 +4,7 @@ ghost use Rattle.rga_lines.specs.Runs.{Stretch, stretch, stretch_code, stretch_o
 
 use crate::fault::LineFault;
 use rga_ops::{Id, Op, OutOfMemory};
-use std::alloc::{AllocError, Global};
+use std::alloc::Global;
 use std::marker::Model;
 
 /// The most operations of a run: the characters of one of insertions, or deletions.
@@ -42,7 +42,7 @@ impl Run {
         let mut rest = self.chars.as_slice();
         'chars: while let Some((ch, behind)) = rest.split_first() {
             let Ok(id) = Id::new(counter, replica) else {
-                return Err(OutOfMemory::from(AllocError));
+                unreachable!()
             };
             let op = Op::Insert {
                 id,

@@ -4,7 +4,8 @@ ghost use Rattle.std.specs.Prelude.{IsOk, IfOk, IfErr, OnOk, OnErr, MatchOption,
 ghost use Rattle.std.specs.Prelude.{vec_items, vec_len, length, take, drop, position};
 ghost use Rattle.rga_lines.specs.Stream.{Splitting, splitting_code, IsKept, HasNoNewline};
 ghost use Rattle.rga_lines.specs.Stream.{EndsNextLine, splitting_with, newline, fed, next_of};
-ghost use Rattle.rga_lines.specs.declared.fault.LineFault.TheVariants.{Long, Memory};
+ghost use Rattle.rga_lines.specs.declared.fault.LineFault.TheVariants.{Long};
+ghost use Rattle.rga_lines.specs.Memory.{LineMemory as Memory};
 
 use crate::{LineFault, MAX_LINE};
 use memchr::memchr;

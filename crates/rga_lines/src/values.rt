@@ -5,14 +5,14 @@ ghost use Rattle.serde_json.specs.View.{view, items_view};
 ghost use Rattle.rga_lines.specs.Table.{count_of, two_numbers, element_of, parent_of};
 ghost use Rattle.rga_lines.specs.Table.{single_reading, insertion, deletion, run, run_of_deletions, deletions_reading, heading, ending};
 ghost use Rattle.rga_lines.specs.Table.{with_run_end, last, of_kind, value_line};
-ghost use Rattle.rga_lines.specs.declared.fault.LineFault.TheVariants.{Memory};
+ghost use Rattle.rga_lines.specs.Memory.{LineMemory as Memory};
 
 use crate::deletion_run::DeletionRun;
 use crate::fault::LineFault;
 use crate::line::Line;
 use crate::parts::{element, element_or_root, only_char};
 use crate::run::{MAX_RUN, Run};
-use rga_ops::{Id, Op};
+use rga_ops::{Id, Op, OutOfMemory};
 use serde_json::Value;
 use std::alloc::Global;
 
@@ -132,9 +132,8 @@ fn run_of(alloc: Global, id: Id, parent: Id, text: &str) -> Result<Line, LineFau
 }
 
 /// The characters of a text. `Memory` is the only refusal.
-pub fn characters(alloc: Global, text: &str) -> Result<Vec<char>, LineFault>
+pub fn characters(alloc: Global, text: &str) -> Result<Vec<char>, OutOfMemory>
     ensures ok { IfOk result (λ v. v.items ≡ chars text.now) }
-    ensures fault { IfErr result (λ e. e ≡ Memory) }
 {
     Ok(text.chars().collect(alloc)?)
 }

@@ -20,6 +20,6 @@ mod splice;
 pub use answer::{Found, answer_to};
 pub use id::Id;
 pub use op::Op;
-pub use out_of_memory::OutOfMemory;
+pub use out_of_memory::{OutOfMemory, counted_together, of_io};
 pub use refusal::{Refusal, Taken};
 pub use splice::Splice;

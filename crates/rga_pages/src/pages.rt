@@ -1,5 +1,5 @@
 //! Records by identifier.
-ghost use Rattle.std.specs.Prelude.{◌≡◌, ◌++◌, [], is_some, false, true, None, Some, Ok, IfErr, OnOk, OnErr};
+ghost use Rattle.std.specs.Prelude.{◌≡◌, ◌≢◌, ◌++◌, [], is_some, false, true, None, Some, Ok, IfErr, OnOk, OnErr};
 ghost use Rattle.std.specs.BTreeMap.{insert_entry};
 ghost use Rattle.std.specs.Map.{remove_entry, set_value};
 ghost use Rattle.std.specs.Ordering.{eq_by_cmp};
@@ -14,7 +14,7 @@ use crate::removing::remove_at;
 use crate::search::{end_for, find, find_record};
 use crate::spot::Spot;
 use rga_ops::{Id, OutOfMemory};
-use std::alloc::{AllocError, Global};
+use std::alloc::Global;
 use std::marker::Model;
 
 /// Records by identifier, in sorted pages. Callers see the entries in the order of their
@@ -129,22 +129,22 @@ impl Pages {
         Ok(true)
     }
 
-    /// Entries come in behind all others, some few: what the last page has no room for begins one
-    /// more. `Memory` alone, which changes nothing; it is answered too where the first of them is
-    /// not above all others.
-    pub fn append(&mut self, entries: &[(Id, Record)]) -> Result<(), OutOfMemory>
+    /// Entries come in behind all others, some few, if the first of them is above these: what the
+    /// last page has no room for begins one more. Says whether they came in. A refusal of memory
+    /// changes nothing.
+    pub fn append(&mut self, entries: &[(Id, Record)]) -> Result<bool, OutOfMemory>
         requires { AreOrdered entries.now }
-        ensures entries { OnOk result (self.new ≡ self.old ++ entries.now) }
-        ensures err { OnErr result (self.new ≡ self.old) }
+        ensures entries { result ≡ Ok true → self.new ≡ self.old ++ entries.now }
+        ensures same { result ≢ Ok true → self.new ≡ self.old }
         ensures ordered { AreOrdered self.new }
         ensures was_ordered { AreOrdered self.old }
     {
         if !can_follow(&self.pages, entries) {
-            return Err(OutOfMemory::from(AllocError));
+            return Ok(false);
         }
         append(self.alloc, &mut self.pages, entries)?;
         self.last = end_of(&self.pages);
-        Ok(())
+        Ok(true)
     }
 
     /// The record of an identifier is another, if there is one. Takes no memory.

@@ -1,5 +1,5 @@
 //! Records of insertions of which each is the parent of the next, all at once.
-ghost use Rattle.std.specs.Prelude.{◌≡◌, ◌≤◌, [], length, vec_capacity, OnOk, OnErr, IfErr};
+ghost use Rattle.std.specs.Prelude.{◌≡◌, ◌≢◌, ◌≤◌, [], true, Ok, length, vec_capacity};
 ghost use Rattle.rga_records.specs.Chains.{grown, latest_of, AreNewer, AreRows};
 ghost use Rattle.rga_records.specs.Records.{content_of_records, AreOrdered};
 
@@ -10,25 +10,25 @@ use rga_sequence::{Entry, Near};
 use std::alloc::Global;
 
 /// The elements of a chain get their records, and where they may stand: behind their parent, which
-/// may stand near there. `Memory` alone, which changes nothing.
+/// may stand near there. Says whether they got them: not if one stands behind their places already.
+/// A refusal of memory changes nothing.
 pub(crate) fn append_chain(
     alloc: Global,
     entries: &mut Pages,
     parent: Id,
     near: Near,
     chain: &[Entry],
-) -> Result<(), OutOfMemory>
+) -> Result<bool, OutOfMemory>
     requires ordered { AreOrdered entries.old }
     requires newer { AreNewer (content_of_records entries.old) parent chain.now }
-    ensures content { OnOk result (content_of_records entries.new
-        ≡ grown (content_of_records entries.old) parent chain.now) }
-    ensures same { OnErr result
-        (content_of_records entries.new ≡ content_of_records entries.old) }
+    ensures content { result ≡ Ok true → content_of_records entries.new
+        ≡ grown (content_of_records entries.old) parent chain.now }
+    ensures same { result ≢ Ok true →
+        content_of_records entries.new ≡ content_of_records entries.old }
     ensures ordered { AreOrdered entries.new }
 {
     let mut rows = Vec::with_capacity(alloc, chain.len())?;
     add_rows(parent, near, chain, &mut rows);
-    // All that has a record is known, so what is newer comes behind it.
     entries.append(rows.as_slice())
 }
 

@@ -1,5 +1,5 @@
 //! Records by identifier, with the clock and the counts of their content.
-ghost use Rattle.std.specs.Prelude.{◌≡◌, ◌≤◌, ◌<◌, ◌+◌, ◌↔◌, length, take, drop, None, Ok, Err, OnOk, OnErr, IfOk, IfErr, is_some, string_bytes, encode_utf8_all, true, false};
+ghost use Rattle.std.specs.Prelude.{◌≡◌, ◌≢◌, ◌≤◌, ◌<◌, ◌+◌, ◌↔◌, length, take, drop, None, Ok, Err, OnOk, OnErr, IfOk, IfErr, is_some, string_bytes, encode_utf8_all, true, false};
 ghost use Rattle.std.specs.FinMap as finite_map;
 ghost use Rattle.std.specs.FinSet as finite_set;
 ghost use Rattle.rga_ops.specs.Prelude.{answer, clock_of, element_at, join, known_count, nothing, operations, single, text, IsSound};
@@ -321,25 +321,28 @@ impl Records {
 
     /// Takes insertions that are newer than all that is known, the first behind a parent and each
     /// other behind the one before it, and notes where the elements may come to stand: behind the
-    /// parent, which may stand near there. `Memory` alone, which changes nothing.
+    /// parent, which may stand near there. Says whether it took them: not if one has a record
+    /// already, of which nothing is known. A refusal of memory changes nothing.
     pub fn insert_chain(
         &mut self,
         alloc: Global,
         parent: Id,
         near: Near,
         chain: &[Entry],
-    ) -> Result<(), OutOfMemory>
+    ) -> Result<bool, OutOfMemory>
         requires newer { AreNewer self.old.content parent chain.now }
         requires room { known_count self.old.content + length chain.now ≤ self.old.limit }
-        ensures ok { OnOk result (self.new.content ≡ grown self.old.content parent chain.now) }
-        ensures same { OnErr result (self.new.content ≡ self.old.content) }
+        ensures ok { result ≡ Ok true → self.new.content ≡ grown self.old.content parent chain.now }
+        ensures same { result ≢ Ok true → self.new.content ≡ self.old.content }
         ensures limit { self.new.limit ≡ self.old.limit }
     {
-        append_chain(alloc, &mut self.entries, parent, near, chain)?;
+        if !append_chain(alloc, &mut self.entries, parent, near, chain)? {
+            return Ok(false);
+        }
         self.inserted += chain.len();
         self.known += chain.len();
         self.clock = latest(self.clock, chain);
-        Ok(())
+        Ok(true)
     }
 
     /// Takes a deletion that is new. `Memory` alone, which changes nothing; never for an identifier

@@ -1,12 +1,13 @@
 //! Records as what takes operations: a log is read into them whose text is asked for at its end.
-ghost use Rattle.std.specs.Prelude.{◌≡◌, ◌≢◌, Ok, Err, OnOk, OnErr, IfErr};
+ghost use Rattle.std.specs.Prelude.{◌≡◌, ◌≢◌, true, Ok, Err, OnOk, OnErr, IfErr};
 ghost use Rattle.rga_ops.specs.Prelude.{Memory};
 ghost use Rattle.rga_ops.specs.Answer.{taken_one_by_one};
+ghost use Rattle.rga_store.specs.Growth.{has_unknown};
 
 use crate::records_by_id::Records;
 use crate::taking::{remove_from, take_noted, take_op};
 use rga_ops::{Op, Refusal, Taken};
-use rga_store::{Taker, answer_to_list};
+use rga_store::{Holder, Taker, answer_to_list, has_unknown};
 
 impl Taker for Records {
     ghost use Rattle.rga_store.specs.Growth.{NeedsRoom};
@@ -38,16 +39,28 @@ impl Taker for Records {
     }
 }
 
+impl Holder for Records {
+    ghost held = { λ s. s.content };
+
+    fn has(&self, op: &Op) -> bool {
+        self.contains(op)
+    }
+}
+
 /// Takes operations one by one, or none of them: the first that is refused leaves all as it was.
-/// `Memory` may be wanting before that one is found.
+/// Memory may be refused before that one is found, but not if all is known.
 fn take_whole(records: &mut Records, ops: &[Op]) -> Result<(), Refusal>
     ensures ok { OnOk result (taken_one_by_one records.old.limit records.old.content ops.now
         ≡ Ok records.new.content) }
     ensures refused { IfErr result (λ e. e ≢ Memory →
         taken_one_by_one records.old.limit records.old.content ops.now ≡ Err e) }
+    ensures growth { OnErr result (has_unknown records.old.content ops.now ≡ true) }
     ensures same { OnErr result (records.new.content ≡ records.old.content) }
     ensures limit { records.new.limit ≡ records.old.limit }
 {
+    if !has_unknown(records, ops) {
+        return Ok(());
+    }
     let mut steps = Vec::with_capacity(records.alloc(), ops.len())?;
     for op in ops {
         if let Err(refusal) = take_noted(records, op, &mut steps) {

@@ -10,4 +10,5 @@ pub mod ElementSteps
 pub mod EarlySteps
 pub mod BackLaws
 pub mod TakingLaws
+pub mod KnownListLaws
 pub mod PositionLaws

@@ -11,8 +11,10 @@ mod answer;
 mod early_answer;
 mod list_answer;
 mod new_operations;
+mod unknown;
 
 pub use answer::answer_at;
 pub use early_answer::early_answer_at;
 pub use list_answer::{Lookup, answer_to_list};
 pub use new_operations::new_operations_at;
+pub use unknown::{Holder, has_unknown};

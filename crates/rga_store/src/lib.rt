@@ -21,7 +21,9 @@ mod taker;
 mod telling;
 mod text_store;
 
-pub use answers::{Lookup, answer_at, answer_to_list, early_answer_at, new_operations_at};
+pub use answers::{
+    Holder, Lookup, answer_at, answer_to_list, early_answer_at, has_unknown, new_operations_at,
+};
 pub use positions::position_of;
 pub use steps::{Step, note};
 pub use taker::Taker;

@@ -1,8 +1,9 @@
 //! What takes operations.
-ghost use Rattle.std.specs.Prelude.{◌≡◌, ◌≢◌, ℕ, List, [], ◌∷◌, ◌++◌, None, Ok, Err, OnOk, MatchResult};
+ghost use Rattle.std.specs.Prelude.{◌≡◌, ◌≢◌, ℕ, true, List, [], ◌∷◌, ◌++◌, None, Ok, Err, OnOk, MatchResult};
 ghost use Rattle.rga_ops.specs.Prelude.{Content, all_checked, answer, content_of, join, list_answer, single, Memory};
 ghost use Rattle.rga_ops.specs.ListAnswer.{early_conflict};
 ghost use Rattle.rga_ops.specs.declared.op.Op.{Op as Operation};
+ghost use Rattle.rga_store.specs.Growth.{has_unknown};
 ghost use Rattle.rga_store.specs.Taking.{TakesMore};
 
 use rga_ops::{Op, Refusal, Taken};
@@ -54,13 +55,15 @@ pub trait Taker {
     /// `Conflict` of the first that conflicts with the content or with one before it in the list;
     /// `Full` where more identifiers would be known than the limit allows. `Memory` may come in the
     /// place of any answer but that to an ill-formed operation, and to a conflict in front of which
-    /// nothing is inserted anew: these are found without memory. A refusal changes nothing.
+    /// nothing is inserted anew: these are found without memory, and so is that all is known. A
+    /// refusal changes nothing.
     fn apply_all(&mut self, ops: &[Op]) -> Result<(), Refusal>
         ensures exact { result ≢ Err Memory →
             result ≡ list_answer (limit self.old) (content self.old) ops.now }
         ensures memory { result ≡ Err Memory → all_checked ops.now ≡ Ok tt }
         ensures early { result ≡ Err Memory →
             early_conflict (content self.old) ops.now ≡ None }
+        ensures growth { result ≡ Err Memory → has_unknown (content self.old) ops.now ≡ true }
 
         ensures whole { result ≡ Ok tt →
             content self.new ≡ join (content self.old) (content_of ops.now) }

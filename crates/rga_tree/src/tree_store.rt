@@ -18,7 +18,7 @@ use crate::walk::{encoded, walked, walked_visible};
 use indexmap::IndexMap;
 use rga_ops::{Found, Id, Op, OutOfMemory, Refusal, Taken, answer_to};
 use rga_store::counts::{count_unless, raise};
-use rga_store::{Listener, Lookup, MAX_LIMIT, Taker, Teller, TextStore, answer_to_list};
+use rga_store::{Holder, Listener, Lookup, MAX_LIMIT, Taker, Teller, TextStore, answer_to_list};
 use std::alloc::Global;
 use std::marker::Model;
 
@@ -87,6 +87,17 @@ impl Taker for TreeStore {
         // Which refusal comes first depends on the whole list, so it is looked for only now.
         answer_to_list(alloc, self, ops)?;
         Err(refused)
+    }
+}
+
+impl Holder for TreeStore {
+    ghost held = { λ s. s.content };
+
+    fn has(&self, op: &Op) -> bool {
+        match op {
+            Op::Insert { id, parent, ch } => self.get(*id) == Some((*parent, *ch)),
+            Op::Delete { id } => self.is_deleted(*id),
+        }
     }
 }
 
@@ -219,10 +230,7 @@ impl TextStore for TreeStore {
     }
 
     fn contains(&self, op: &Op) -> bool {
-        match op {
-            Op::Insert { id, parent, ch } => self.get(*id) == Some((*parent, *ch)),
-            Op::Delete { id } => self.is_deleted(*id),
-        }
+        self.has(op)
     }
 
     fn clock(&self) -> u64 {

@@ -8,6 +8,7 @@ use crate::disk::MemoryDisk;
 use mg_files::PortFault;
 use mgr_port::{Logs, Named, put_whole};
 use rga_exchange::Counted;
+use rga_ops::of_io;
 use std::alloc::{AllocError, Global};
 use std::io;
 use std::io::{Cursor, ErrorKind, Read};
@@ -64,8 +65,8 @@ fn failures_with(failures: u64, more: u64) -> u64
 fn refused(failures: &mut u64, error: &io::Error) -> PortFault
     ensures { failures.new ≡ failures_after {A = Unit {0}} (Err result) failures.old }
 {
-    if error.kind() == ErrorKind::OutOfMemory {
-        return PortFault::Memory;
+    if let Some(memory) = of_io(error) {
+        return PortFault::Memory(memory);
     }
     *failures = failures.saturating_add(1);
     PortFault::File
@@ -150,7 +151,7 @@ impl Logs for MemoryLogs {
         let mut bytes = Vec::new(self.alloc);
         match log.read_to_end(&mut bytes) {
             Ok(_) => Ok(bytes),
-            Err(_) => Err(PortFault::Memory),
+            Err(_) => Err(PortFault::from(AllocError)),
         }
     }
 

@@ -63,9 +63,7 @@ impl Sources for MemorySources {
             self.failures = self.failures.saturating_add(1);
             return Err(ShowFault::Read);
         };
-        let Ok(copy) = Vec::from_slice(alloc, bytes) else {
-            return Err(ShowFault::Memory);
-        };
+        let copy = Vec::from_slice(alloc, bytes)?;
         Ok(copy)
     }
 }

@@ -1,26 +1,31 @@
 //! Lists of operations, taken whole or not at all. What was taken of a list is removed again where
 //! one of it is refused, and that takes no memory.
-ghost use Rattle.std.specs.Prelude.{◌≡◌, ◌≢◌, Ok, Err, OnOk, OnErr, IfErr};
+ghost use Rattle.std.specs.Prelude.{◌≡◌, ◌≢◌, true, Ok, Err, OnOk, OnErr, IfErr};
 ghost use Rattle.rga_ops.specs.Prelude.{Memory};
 ghost use Rattle.rga_ops.specs.Content.{join, single};
 ghost use Rattle.rga_ops.specs.Answer.{answer, taken, taken_one_by_one};
 ghost use Rattle.rga_store.specs.Back.{without_noted, CanTakeBack};
+ghost use Rattle.rga_store.specs.Growth.{has_unknown};
 
 use super::TreeStore;
 use rga_ops::{Op, Refusal, Taken};
-use rga_store::{Step, Taker, note};
+use rga_store::{Step, Taker, has_unknown, note};
 
 impl TreeStore {
     /// Takes the operations one by one, or none of them: the first that is refused leaves all as it
-    /// was. `Memory` may be wanting before that one is found.
+    /// was. Memory may be refused before that one is found, but not if all is known.
     pub(super) fn take_whole(&mut self, ops: &[Op]) -> Result<(), Refusal>
         ensures ok { OnOk result
             (taken_one_by_one self.old.limit self.old.content ops.now ≡ Ok self.new.content) }
         ensures refused { IfErr result (λ e. e ≢ Memory →
             taken_one_by_one self.old.limit self.old.content ops.now ≡ Err e) }
+        ensures growth { OnErr result (has_unknown self.old.content ops.now ≡ true) }
         ensures same { OnErr result (self.new.content ≡ self.old.content) }
         ensures limit { self.new.limit ≡ self.old.limit }
     {
+        if !has_unknown(self, ops) {
+            return Ok(());
+        }
         let mut steps = Vec::with_capacity(self.alloc, ops.len())?;
         for op in ops {
             if let Err(refusal) = self.take_noted(op, &mut steps) {

@@ -26,10 +26,10 @@ returns-in-Ok-from_slice-clause-exact c =
 pub returns-in-Ok-from_slice-clause-run : goal.returns-in-Ok-from_slice-clause-run
 returns-in-Ok-from_slice-clause-run c = read_is_sound c.args.line.now _ (returns-in-Ok-from_slice-clause-exact c)
 
-pub returns-in-Err-2-clause-exact : goal.returns-in-Err-2-clause-exact
-returns-in-Err-2-clause-exact c =
+pub returns-in-None-clause-exact : goal.returns-in-None-clause-exact
+returns-in-None-clause-exact c =
     let short = is_short c.args.line.now (Err c.in-Err.fault) c.in-Err.ensures.exact (ap Err c.in-Kind.is) in
-    λ _. sym (refused c.args.line.now short (c.in-Err-2.ensures.err (search rules)))
+    λ _. sym (refused c.args.line.now short (c.in-Err-from_slice.ensures.err (search rules)))
 
 pub returns-in_default-clause-exact : goal.returns-in_default-clause-exact
 returns-in_default-clause-exact c = other_said c.args.line.now (Err c.in-Err.fault) _ c.in-Err.ensures.exact (is_no_other c.in-Err.fault c.in_default.not-Kind) refl

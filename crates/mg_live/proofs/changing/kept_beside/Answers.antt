@@ -10,7 +10,7 @@ returns-then-text-count g c =
     let told = c.args.changes.now.text in
     let now = (state_at c.args.index c.args.editor.now.work).content in
     let count : c.text_len-count.result ≡ length told = c.text_len-count.ensures in
-    let many : length (text now) ≡ length told = omega (arith, ap length c.in-Some.ensures, c.if-text-count.true, count) in
+    let many : length (text now) ≡ length told = omega (arith, ap length c.in-Ok.ensures, c.if-text-count.true, count) in
     let same : told ≡ text now = as_many_kept c.args.id told now c.requires.reached many in
     subst (λ n. AreKept (kept n 0) told (text now)) (sym count) (same_kept told (text now) (length told) 0 (omega arith) (omega arith) same)
 
@@ -19,16 +19,16 @@ overflow_sub-result g c =
     let told = c.args.changes.now.text in
     let now = (state_at c.args.index c.args.editor.now.work).content in
     let count : c.text_len-count.result ≡ length told = c.text_len-count.ensures in
-    let more : length (text now) ≡ suc (length told) = omega (arith, ap length c.in-Some.ensures, c.if-text-count-2.false, c.if-text-count-gt1.false, count) in
-    omega (arith, count, place_within c.args.id told now c.in-Some-position_at.place c.in-Some-position_at.ensures.there more)
+    let more : length (text now) ≡ suc (length told) = omega (arith, ap length c.in-Ok.ensures, c.if-text-count-2.false, c.if-text-count-gt1.false, count) in
+    omega (arith, count, place_within c.args.id told now c.in-Some.place c.in-Some.ensures.there more)
 
 pub returns : goal.returns
 returns g c =
     let told = c.args.changes.now.text in
     let now = (state_at c.args.index c.args.editor.now.work).content in
-    let place = c.in-Some-position_at.place in
-    let there = c.in-Some-position_at.ensures.there in
+    let place = c.in-Some.place in
+    let there = c.in-Some.ensures.there in
     let count : c.text_len-count.result ≡ length told = c.text_len-count.ensures in
-    let more : length (text now) ≡ suc (length told) = omega (arith, ap length c.in-Some.ensures, c.if-text-count-2.false, c.if-text-count-gt1.false, count) in
+    let more : length (text now) ≡ suc (length told) = omega (arith, ap length c.in-Ok.ensures, c.if-text-count-2.false, c.if-text-count-gt1.false, count) in
     subst (λ n. AreKept (kept place (n - place)) told (text now)) (sym count)
     (one_more_kept c.args.id told now place c.requires.reached more there (place_within c.args.id told now place there more))

@@ -1,4 +1,5 @@
 use Rattle.std.proofs.Common.{◌∙◌, ◌&&◌, ap, refl}
+use Rattle.std.specs.Prelude.{is_ok}
 use Rattle.mg_editor.specs.Meeting.{role_of}
 use Rattle.mg_session.specs.Keys.{course_behind}
 use Rattle.mg_live.specs.Made.{if_memory}
@@ -18,16 +19,16 @@ returns g c = λ screen.
       answer = press.0;
       pressed = press.1;
       carry_answer = answer;
-      noted = noted;
-      noted_opened = noted_opened;
+      noted = is_ok noted;
+      noted_opened = is_ok noted_opened;
       presses = press.2;
       carried = rw (press.4, press.3) at carry.carried;
       device = carry.device;
       met = rw (press.4, press.3) at (met_as _ (role_of asked) from c.carry-answer.new.self answer carry.met);
       screen = refl;
       live = key_live c.args.editor.now from c.carry-answer.new.self press.1 press.0 c.args.live.now c.count_key.new.live c.note_made-noted.new.live
-          c.keep_saved.new.live c.note_opened-noted_opened.new.live noted noted_opened c.is_open-was_open.result c.is_save-saves.result answer asked
+          c.keep_saved.new.live c.note_opened-noted_opened.new.live (is_ok noted) (is_ok noted_opened) c.is_open-was_open.result c.is_save-saves.result answer asked
           c.count_key.ensures (c.note_made-noted.ensures _ _ c.mark_current-mark.ensures) press.3 c.keep_saved.ensures c.is_save-saves.ensures press.4
           c.note_opened-noted_opened.ensures c.is_open-was_open.ensures;
-      course = c.go_on.ensures ∙ ap (if_memory (noted && noted_opened)) (c.course_behind-course.ensures ∙ ap course_behind press.4);
+      course = c.go_on.ensures ∙ ap (if_memory (is_ok noted && is_ok noted_opened)) (c.course_behind-course.ensures ∙ ap course_behind press.4);
     }

@@ -1,5 +1,5 @@
 use Rattle.std.proofs.Common.{Err, inl, refl, rules}
-use Rattle.mg_session.specs.declared.fault.SessionFault.TheVariants.{Memory}
+use Rattle.mg_session.specs.Memory.{SessionMemory as Memory}
 use Rattle.mg_live.proofs.StartLaws.{adds_nothing, one_open}
 use Rattle.mg_live.proofs.StandingLaws.{session_ran}
 use Rattle.mg_live.proofs.session.run_live.Goals as goal
@@ -8,8 +8,8 @@ pub note_start-begun-requires : goal.note_start-begun-requires
 note_start-begun-requires g c =
     one_open c.args.settings.now (g.P.Port.calls c.args.port.now) (g.P.Port.calls c.open.new.port) c.in-Ok-open.editor c.in-Ok-open.ensures.loaded
 
-pub returns-in_default : goal.returns-in_default
-returns-in_default g c = record {
+pub returns-in-Err : goal.returns-in-Err
+returns-in-Err g c = record {
   ran = record { told = _; opened = Err Memory; loads = inl (adds_nothing (g.P.Port.calls c.args.port.now)); ran = (refl, refl, refl) };
   flushed = λ _ was. was;
   keys = search rules;

@@ -15,7 +15,7 @@ pane-requires-clause-height_to g c =
 
 pub returns : goal.returns
 returns g c =
-    let placed = c.in-Some.ensures in
+    let placed = c.in_ok-placed.ensures in
     let height = c.height_at-height in
-    let there = pane_there c.args.buffers.now.all c.args.windows.now.windows c.args.index height.result c.in-Some.placed c.at.result.now height.ensures placed.exact c.at.ensures in
+    let there = pane_there c.args.buffers.now.all c.args.windows.now.windows c.args.index height.result c.in_ok-placed.placed c.at.result.now height.ensures placed.exact c.at.ensures in
     IfOk-weaker c.pane.result _ _ (λ p is. there ∙ ap Some (sym is)) c.pane.ensures

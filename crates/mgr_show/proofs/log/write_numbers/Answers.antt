@@ -8,7 +8,7 @@ use Rattle.mgr_show.proofs.log.write_numbers.Goals as goal
 
 pub returns-clause-written : goal.returns-clause-written
 returns-clause-written g c =
-    let text : c.deref.result.now ≡ numbers_bytes c.args.json c.args.name.now c.in_ok-numbers.numbers = c.deref.ensures ∙ c.in-Ok.ensures in
+    let text : c.deref.result.now ≡ numbers_bytes c.args.json c.args.name.now c.in_ok-numbers.numbers = c.deref.ensures ∙ c.in_ok-text.ensures in
     on_ok_weaker c.write_text.result (λ written. record {
       numbers = c.in_ok-numbers.numbers;
       are = record { numbers = c.in_ok-numbers.ensures.numbers; text = c.in_ok-numbers.ensures.text };
@@ -17,7 +17,7 @@ returns-clause-written g c =
 
 pub returns-clause-begun : goal.returns-clause-begun
 returns-clause-begun g c =
-    let text : c.deref.result.now ≡ numbers_bytes c.args.json c.args.name.now c.in_ok-numbers.numbers = c.deref.ensures ∙ c.in-Ok.ensures in
+    let text : c.deref.result.now ≡ numbers_bytes c.args.json c.args.name.now c.in_ok-numbers.numbers = c.deref.ensures ∙ c.in_ok-text.ensures in
     on_err_always c.write_text.result (inr (record {
       numbers = c.in_ok-numbers.numbers;
       are = record { numbers = c.in_ok-numbers.ensures.numbers; text = c.in_ok-numbers.ensures.text };
@@ -26,7 +26,7 @@ returns-clause-begun g c =
 
 pub returns-clause-looked : goal.returns-clause-looked
 returns-clause-looked g c =
-    let text : c.deref.result.now ≡ numbers_bytes c.args.json c.args.name.now c.in_ok-numbers.numbers = c.deref.ensures ∙ c.in-Ok.ensures in
+    let text : c.deref.result.now ≡ numbers_bytes c.args.json c.args.name.now c.in_ok-numbers.numbers = c.deref.ensures ∙ c.in_ok-text.ensures in
     on_ok_weaker c.write_text.result (λ written. record {
       numbers = c.in_ok-numbers.numbers;
       looked = c.in_ok-numbers.ensures.looked;

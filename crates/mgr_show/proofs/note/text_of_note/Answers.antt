@@ -11,4 +11,4 @@ returns-clause-text g c =
     let named = ap (g.S.Sources.contents c.args.sources.now) (c.as_str.ensures.value ∙ c.in_ok-log.ensures.name) in
     let same = subst (λ known. IfSome known (λ bytes. c.in_ok-bytes.bytes.items ≡ bytes)) named c.in_ok-bytes.ensures.bytes in
     let cut = c.front.ensures ∙ ap (front_of c.args.lines) c.as_slice.ensures.value in
-    text_of_front _ c.args.lines _ _ _ _ _ _ same cut made.1 made.0 c.in_ok-take_but_torn.ensures.ok c.in-Ok-text_string.ensures.ok
+    text_of_front _ c.args.lines _ _ _ _ _ _ same cut made.1 made.0 c.in_ok-take_but_torn.ensures.ok c.in_ok-text.ensures.ok

@@ -24,7 +24,7 @@ reads-preserved g c =
     let tracks = heard_lines g.R.Read.remaining c.args.reader.now c.reads.reader c.reads.claims.items c.take_claims.new.claims.items c.reads.splitter.waiting c.take_claims.new.splitter.waiting c.reads.invariant.heard (c.in_ok-number.ensures.all cc) in
     let none = c.in_ok-number.ensures.none_left cc in
     let piece = take c.in-Ok.count c.read.new.buf in
-    let now : c.feed.new.self ≡ splitting_with (c.take_claims.new.splitter.waiting ++ piece) = fed_holds c.take_claims.new.splitter c.feed.new.self piece (c.in_ok-number.ensures.whole cc) c.in-Ok-feed.ensures.ok in
+    let now : c.feed.new.self ≡ splitting_with (c.take_claims.new.splitter.waiting ++ piece) = fed_holds c.take_claims.new.splitter c.feed.new.self piece (c.in_ok-number.ensures.whole cc) c.in_ok-feed.ensures.ok in
     let waits = ap (λ (s : Splitting). s.waiting) now in
     let m = length-take c.in-Ok.count c.read.new.buf in
     record {

@@ -18,14 +18,14 @@ pub returns-in-Ok-One-clause-taken : goal.returns-in-Ok-One-clause-taken
 returns-in-Ok-One-clause-taken g c =
     line_takes _ (intake g.T.Taker.limit g.T.Taker.content g.T.Taker.follows c.args.taker.now c.take.new.taker) _ c.args.line.now _ _ _ (sym (c.in-Ok-One.ensures.exact (λ e. absurd cc)) ∙ ap Ok c.in-Ok-One.field-0-is) refl c.take.ensures.taken
 
-pub returns-in-Ok-clause-taken : goal.returns-in-Ok-clause-taken
-returns-in-Ok-clause-taken g c =
-    line_takes _ (intake g.T.Taker.limit g.T.Taker.content g.T.Taker.follows c.args.taker.now c.take_all.new.taker) _ c.args.line.now _ _ _ (sym (c.in-Ok-Run.ensures.exact (λ e. absurd cc)) ∙ ap Ok c.in-Ok-Run.field-0-is) (append-nil _) (rw (c.deref.ensures.value, c.in-Ok.ensures.ok) at c.take_all.ensures.taken)
+pub returns-in_ok-ops-in-Ok-Run-clause-taken : goal.returns-in_ok-ops-in-Ok-Run-clause-taken
+returns-in_ok-ops-in-Ok-Run-clause-taken g c =
+    line_takes _ (intake g.T.Taker.limit g.T.Taker.content g.T.Taker.follows c.args.taker.now c.take_all.new.taker) _ c.args.line.now _ _ _ (sym (c.in-Ok-Run.ensures.exact (λ e. absurd cc)) ∙ ap Ok c.in-Ok-Run.field-0-is) (append-nil _) (rw (c.deref.ensures.value, c.in_ok-ops-in-Ok-Run.ensures.ok) at c.take_all.ensures.taken)
 
-pub returns-in-Ok-ops-clause-taken : goal.returns-in-Ok-ops-clause-taken
-returns-in-Ok-ops-clause-taken g c =
+pub returns-in_ok-ops-in-Ok-Deletions-clause-taken : goal.returns-in_ok-ops-in-Ok-Deletions-clause-taken
+returns-in_ok-ops-in-Ok-Deletions-clause-taken g c =
     line_takes _ (intake g.T.Taker.limit g.T.Taker.content g.T.Taker.follows c.args.taker.now c.take_all-in-Ok-Deletions.new.taker) _ c.args.line.now _ _ _ (sym (c.in-Ok-Deletions.ensures.exact (λ e. absurd cc)) ∙ ap Ok c.in-Ok-Deletions.field-0-is) (append-nil _)
-    (rw (c.deref-in-Ok-Deletions.ensures.value, c.in-Ok-ops.ensures.ok) at c.take_all-in-Ok-Deletions.ensures.taken)
+    (rw (c.deref-in-Ok-Deletions.ensures.value, c.in_ok-ops-in-Ok-Deletions.ensures.ok) at c.take_all-in-Ok-Deletions.ensures.taken)
 
 pub returns-in-Ok-Head-clause-taken : goal.returns-in-Ok-Head-clause-taken
 returns-in-Ok-Head-clause-taken g c =

@@ -77,7 +77,7 @@ pub reads-preserved : goal.reads-preserved
 reads-preserved g c =
     let none = rw c.in_default.is at c.in_ok-number.ensures.taken in
     let piece = take c.in-Ok.count c.read.new.buf in
-    let now : c.feed.new.self ≡ splitting_with (c.take_lines.new.splitter.waiting ++ piece) = fed_holds c.take_lines.new.splitter c.feed.new.self piece none.whole c.in-Ok-feed.ensures.ok in
+    let now : c.feed.new.self ≡ splitting_with (c.take_lines.new.splitter.waiting ++ piece) = fed_holds c.take_lines.new.splitter c.feed.new.self piece none.whole c.in_ok-feed.ensures.ok in
     let waits = ap (λ (s : Splitting). s.waiting) now in
     let k = length-append c.take_lines.new.splitter.waiting piece in
     let m = length-take c.in-Ok.count c.read.new.buf in
@@ -91,8 +91,8 @@ reads-preserved g c =
       told = rw waits (read_told _ _ _ _ _ c.take_lines.new.splitter.waiting piece (lines_told _ _ _ _ _ _ _ c.reads.invariant.told (c.in_ok-number.ensures.deletion_runs (ap Ok c.in_default.is))) c.in-Ok.ensures.bytes.0);
     }
 
-pub returns-in_default-feed-clause-lines : goal.returns-in_default-feed-clause-lines
-returns-in_default-feed-clause-lines g c =
+pub returns-in_err-feed-clause-lines : goal.returns-in_err-feed-clause-lines
+returns-in_err-feed-clause-lines g c =
     let none = rw c.in_default.is at c.in_ok-number.ensures.taken in
     let piece = take c.in-Ok.count c.read.new.buf in
     let m = length-take c.in-Ok.count c.read.new.buf in

@@ -8,5 +8,5 @@ returns-then-bytes-gt-MAX_LINE-clause-exact c = λ _. sym (too_long c.args.bytes
 pub returns-in-Ok-clause-exact : goal.returns-in-Ok-clause-exact
 returns-in-Ok-clause-exact c = λ n. c.line_of.ensures n ∙ sym (accepted c.args.bytes.now _ c.if-bytes-gt-MAX_LINE.false c.in-Ok.ensures.ok.0 c.in-Ok.ensures.ok.1)
 
-pub returns-in-Err-2-clause-exact : goal.returns-in-Err-2-clause-exact
-returns-in-Err-2-clause-exact c = λ _. sym (refused c.args.bytes.now c.if-bytes-gt-MAX_LINE.false (c.in-Err-2.ensures.err (search rules)))
+pub returns-in-None-clause-exact : goal.returns-in-None-clause-exact
+returns-in-None-clause-exact c = λ _. sym (refused c.args.bytes.now c.if-bytes-gt-MAX_LINE.false (c.in-Err.ensures.err (search rules)))

@@ -1,4 +1,4 @@
-use Rattle.std.proofs.Common.{◌≡◌, ℕ, ◌+◌, ◌-◌, ◌≤◌, length, ap, ◌∙◌, arith}
+use Rattle.std.proofs.Common.{◌≡◌, ℕ, ◌+◌, ◌-◌, ◌≤◌, Ok, length, ap, ◌∙◌, arith}
 use Rattle.rga_ops.specs.Order.{waiting}
 use Rattle.rga_store.specs.Kept.{Kept}
 use Rattle.rga_flat.proofs.ReadingLaws.{all_listed}
@@ -21,7 +21,7 @@ overflow_sub-result c =
 
 pub returns : goal.returns
 returns c = record {
-  ok =
-      rest _ _ _ _ _ (all_listed c.self.inside.records.content c.self.inside.sequence c.self.invariant.listed c.self.invariant.shown) c.count_inserted-count.ensures.count c.len.ensures
-      ∙ ap (λ (v : Kept). length (waiting v.content)) c.self.view_is;
+  exact =
+      ap Ok (rest _ _ _ _ _ (all_listed c.self.inside.records.content c.self.inside.sequence c.self.invariant.listed c.self.invariant.shown) c.count_inserted-count.ensures.count c.len.ensures
+      ∙ ap (λ (v : Kept). length (waiting v.content)) c.self.view_is);
 }
