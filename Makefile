@@ -7,6 +7,7 @@ MANDIR = $(PREFIX)/share/man
 DATADIR = $(PREFIX)/share/mgr
 DOCDIR = $(PREFIX)/share/doc/mgr
 COMPDIR = $(PREFIX)/share/bash-completion/completions
+LISPDIR = $(PREFIX)/share/emacs/site-lisp
 
 MAKEFLAGS += --no-print-directory
 
@@ -19,7 +20,7 @@ NEED_RT = command -v rt >/dev/null || { \
 
 NEED_PYTHON = command -v python3 >/dev/null || { echo "python3 is not installed" >&2; exit 1; }
 
-.PHONY: build try scenes test-front try-live try-hub try-exchange try-sharing try-engines crash hostile files test gate wrong-bodies other-store contracts bench bench-growth bench-live install uninstall clean help
+.PHONY: build try scenes test-front try-live try-hub try-exchange try-sharing try-engines try-emacs crash hostile files test gate wrong-bodies other-store contracts bench bench-growth bench-live install uninstall clean help
 
 build: build/mgr
 	@echo "build/mgr is up to date"
@@ -62,6 +63,11 @@ try-sharing: build/mgr
 # It takes some fifteen minutes, and needs rsync and Redis.
 try-engines: build/mgr
 	@scripts/try_engines.py build/mgr
+
+# mgr.el in batch Emacs: its tests, random sessions with an mgr-live at a hub, how long a key takes. It takes some four minutes.
+try-emacs: build/mgr
+	@$(NEED_PYTHON)
+	@scripts/try_emacs.py build/mgr
 
 # Saves, compactions, merges and mends that are killed at each call of the system, by strace.
 crash: build/mgr
@@ -131,10 +137,10 @@ build/generate build/native: build/%: bench/%.rs
 
 install: build/mgr
 	mkdir -p "$(DESTDIR)$(BINDIR)" "$(DESTDIR)$(MANDIR)/man1" "$(DESTDIR)$(DATADIR)/mgr_front/channels" \
-		"$(DESTDIR)$(DOCDIR)" "$(DESTDIR)$(COMPDIR)"
-	rm -f "$(DESTDIR)$(BINDIR)/mgr" "$(DESTDIR)$(BINDIR)/mgr-live" "$(DESTDIR)$(BINDIR)/mgr-hub"
+		"$(DESTDIR)$(DOCDIR)" "$(DESTDIR)$(COMPDIR)" "$(DESTDIR)$(LISPDIR)"
+	for program in mgr mgr-live mgr-channel mgr-hub; do rm -f "$(DESTDIR)$(BINDIR)/$$program" || exit 1; done
 	cp build/mgr "$(DESTDIR)$(BINDIR)"
-	for program in mgr-live mgr-hub; do \
+	for program in mgr-live mgr-channel mgr-hub; do \
 		sed 's|^INSTALLED = .*|INSTALLED = "$(DATADIR)"|' front/$$program >"$(DESTDIR)$(BINDIR)/$$program" && \
 		chmod 755 "$(DESTDIR)$(BINDIR)/$$program" || exit 1; done
 	rm -f "$(DESTDIR)$(DATADIR)/mgr_front"/*.py "$(DESTDIR)$(DATADIR)/mgr_front"/channels/*.py
@@ -142,17 +148,20 @@ install: build/mgr
 	cp front/mgr_front/channels/*.py "$(DESTDIR)$(DATADIR)/mgr_front/channels"
 	cp docs/mgr.1 docs/mgr-live.1 "$(DESTDIR)$(MANDIR)/man1"
 	ln -sf mgr-live.1 "$(DESTDIR)$(MANDIR)/man1/mgr-hub.1"
+	ln -sf mgr-live.1 "$(DESTDIR)$(MANDIR)/man1/mgr-channel.1"
 	cp docs/guide.md docs/commands.md "$(DESTDIR)$(DOCDIR)"
 	cp front/completions.bash "$(DESTDIR)$(COMPDIR)/mgr"
 	ln -sf mgr "$(DESTDIR)$(COMPDIR)/mgr-live"
 	ln -sf mgr "$(DESTDIR)$(COMPDIR)/mgr-hub"
+	ln -sf mgr "$(DESTDIR)$(COMPDIR)/mgr-channel"
+	cp editors/emacs/mgr.el "$(DESTDIR)$(LISPDIR)"
 
 # What install put there, and no folder that has something else.
 uninstall:
-	for program in mgr mgr-live mgr-hub; do \
+	for program in mgr mgr-live mgr-channel mgr-hub; do \
 		rm -f "$(DESTDIR)$(BINDIR)/$$program" "$(DESTDIR)$(MANDIR)/man1/$$program.1" "$(DESTDIR)$(COMPDIR)/$$program" || exit 1; done
 	rm -rf "$(DESTDIR)$(DATADIR)/mgr_front"
-	rm -f "$(DESTDIR)$(DOCDIR)/guide.md" "$(DESTDIR)$(DOCDIR)/commands.md"
+	rm -f "$(DESTDIR)$(LISPDIR)/mgr.el" "$(DESTDIR)$(DOCDIR)/guide.md" "$(DESTDIR)$(DOCDIR)/commands.md"
 	for folder in "$(DESTDIR)$(DATADIR)" "$(DESTDIR)$(DOCDIR)"; do \
 		if [ -d "$$folder" ]; then rmdir --ignore-fail-on-non-empty "$$folder"; fi; done
 
@@ -177,6 +186,9 @@ help:
 	@echo "               has four write in one note, in terminals of tmux, by a hub, a folder, a branch of git and a stream of"
 	@echo "               Redis, which are away, emptied, put back, cut off or slow meanwhile, while writers are killed or leave"
 	@echo "               (needs python3 and tmux; sshd; git; redis-server and python3-redis; faketime: what is not there is said)"
+	@echo "make try-emacs"
+	@echo "               tests mgr.el, has two Emacs and one mgr-live write at random at a hub, and measures keys (needs"
+	@echo "               python3 and emacs; elpa-package-lint, if it is there; 500 sessions by scripts/try_emacs.py --help)"
 	@echo "make test      looks up each name in the documents, looks for AllocErrors that sources make, proves all that"
 	@echo "               the kit does not have as proved, runs every test and plays every scene; the last line counts all"
 	@echo "               (needs python3)"
@@ -206,10 +218,12 @@ help:
 	@echo "make bench-live"
 	@echo "               measures writing together by mgr-hub, Redis and git, beside mg, Emacs, crdt.el and tmux where they are"
 	@echo "               installed (needs python3)"
-	@echo "make install   copies mgr, mgr-live and mgr-hub to BINDIR, their parts to DATADIR, their manuals to MANDIR/man1,"
-	@echo "               the guide and the list of commands to DOCDIR, and completions for bash to COMPDIR"
+	@echo "make install   copies mgr, mgr-live, mgr-channel and mgr-hub to BINDIR, their parts to DATADIR, their manuals to"
+	@echo "               MANDIR/man1, the guide and the list of commands to DOCDIR, completions for bash to COMPDIR, and mgr.el"
+	@echo "               to LISPDIR"
 	@echo "               (BINDIR=$(BINDIR), DATADIR=$(DATADIR), MANDIR=$(MANDIR),"
-	@echo "               DOCDIR=$(DOCDIR) and COMPDIR=$(COMPDIR), by PREFIX=$(PREFIX);"
+	@echo "               DOCDIR=$(DOCDIR), COMPDIR=$(COMPDIR)"
+	@echo "               and LISPDIR=$(LISPDIR), by PREFIX=$(PREFIX);"
 	@echo "               DESTDIR is put before them)"
 	@echo "make uninstall"
 	@echo "               removes what make install put there, with the same words"

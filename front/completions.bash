@@ -1,4 +1,4 @@
-# Completions of bash for mgr, mgr-live and mgr-hub: options, and notes by the names of their files.
+# Completions of bash for mgr, mgr-live, mgr-channel and mgr-hub: options, and notes by the names of their files.
 # `make install` puts them where bash looks for them; without it this file is to be sourced.
 
 # Folders and notes whose names begin so. A log stands for its note; what is kept beside one is left out.
@@ -46,6 +46,9 @@ _mgr() {
         mgr-live)
             _mgr_word "$word" --replica --fill --with --as --no-colour --adopt --history --take-file --keep-file --trim --version --help
             ;;
+        mgr-channel)
+            _mgr_word "$word" --replica --with --as --adopt --take-file --keep-file --version --help
+            ;;
         mgr-hub)
             _mgr_word "$word" --port --join --replica --version --help
             ;;
@@ -78,4 +81,4 @@ _mgr() {
     esac
 }
 
-complete -F _mgr mgr mgr-live mgr-hub
+complete -F _mgr mgr mgr-live mgr-channel mgr-hub

@@ -17,7 +17,7 @@ import contracts
 
 ROOT = pathlib.Path(__file__).resolve().parent.parent
 DOCUMENTS = [ROOT / "README.md", *sorted((ROOT / "docs").glob("*.md"))]
-SOURCES = ("*", "bench/*", "crates/**/*", "docs/mgr.1", "examples/**/*", "front/*", "scripts/*")
+SOURCES = ("*", "bench/*", "crates/**/*", "docs/mgr.1", "editors/**/*", "examples/**/*", "front/*", "scripts/*")
 ENDINGS = (".md", ".py", ".sh", ".rs", ".rt", ".antt", ".edit", ".txt")
 WORDS = re.compile(r"[A-Za-z_]\w*(?:::\w+)*")
 PATH = re.compile(r"\.?\w[\w.*-]*(?:/[\w.*-]+)*/?")

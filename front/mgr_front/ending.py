@@ -1,5 +1,6 @@
 """The end of an edit, whatever brought it: what was typed is taken, mgr saves it, and others are told."""
 
+from mgr_front.company import Company
 from mgr_front.guests import keep_apart
 from mgr_front.keys import NO_KEY
 from mgr_front.notes import Note, found, put_back
@@ -29,7 +30,7 @@ def finish(session: Session, note: Note) -> None:
         if not editor.end(PATIENCE, session.note):
             tell(f"mgr saves {note.name}: this waits for it")
             editor.end(take=session.note)
-        _leave(session)
+        leave(session.company, session.fault * (not session.apart))
     session.note_kept()
     for said in session.put_aside:
         tell(said)
@@ -41,13 +42,12 @@ def finish(session: Session, note: Note) -> None:
         tell(f"{name} is as it was; {Note(name).log} has what was written, and so have others")
 
 
-def _leave(session: Session) -> None:
-    """Leaves the others, once they took what was told last, and says what is not well."""
-    company = session.company
+def leave(company: Company | None, fault: str) -> None:
+    """Leaves the others, once they took what was told last, and says what is not well; `fault` is that of a save."""
     if company and not company.channel.close(LAST):
         company.hear()
         why = f": {company.state.why}" * (company.state.word == "alone")
         if company.is_shared:
             tell(f"what others lack they get at the next start{why}")
-    if session.fault and not session.apart:
-        tell(session.fault)
+    if fault:
+        tell(fault)

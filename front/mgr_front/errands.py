@@ -11,8 +11,8 @@ from mgr_front.statuses import Status
 
 Errand = Generator[bytes, Status, str | None]
 
-COPY_ALL, YANK = b"\x18h\x1bw", b"\x19"
-SET_MARK, KILL_REGION, NEXT_LINE, ARGUMENT = b"\x00", b"\x17", b"\x0e", b"\x15"
+COPY_ALL, YANK, FIND = b"\x18h\x1bw", b"\x19", b"\x18\x06"
+SET_MARK, KILL_REGION, NEXT_LINE, FORWARD_CHAR, ARGUMENT = b"\x00", b"\x17", b"\x0e", b"\x06", b"\x15"
 LEAVE = b"\x18\x03"
 BACKWARD_WORD, BUFFER_BEGIN, BUFFER_END = b"\x1bb", b"\x1b<", b"\x1b>"
 MOST_ARGUMENT = 9999
@@ -29,7 +29,7 @@ def copy_to(name: str, is_taken: bool) -> Errand:
     """Goes to a new buffer of that name with the text of this one, and saves it, unless the name is taken."""
     if is_taken:
         return f"{name} is there already"
-    yield COPY_ALL + b"\x18\x06" + name.encode() + b"\r"
+    yield COPY_ALL + FIND + name.encode() + b"\r"
     yield YANK + SAVE
     return None
 

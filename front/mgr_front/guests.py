@@ -9,13 +9,17 @@ import os
 import shutil
 import subprocess
 import tempfile
+from collections.abc import Generator
 
 from mgr_front.copies import Copy, state_folder
+from mgr_front.errands import COPY_ALL, FIND, YANK, switch_to
 from mgr_front.meeting import socket_name
 from mgr_front.notes import Note, Refused, read
 from mgr_front.opening import mend, put_text
 from mgr_front.program import log_of
+from mgr_front.saving import SAVE, SAVED
 from mgr_front.shared import OTHER
+from mgr_front.statuses import Status
 
 # How the names of folders begin whose logs have what a note's log could not take.
 APART = "apart-"
@@ -47,6 +51,16 @@ def place_apart(name: str) -> str:
         return os.path.join(tempfile.mkdtemp(prefix=APART, dir=copies_of(name)), "text")
     except OSError:
         return ""
+
+
+def put_apart(name: str) -> Generator[bytes, Status, str]:
+    """Puts the text of the current buffer, which is that note's, there by keys of mgr; returns the place if it did."""
+    if place := place_apart(name):
+        yield switch_to(name) + COPY_ALL + FIND + place.encode() + b"\r"
+        status = yield YANK + SAVE
+        if status.message == SAVED + place:
+            return place
+    return ""
 
 
 def keep_apart(mgr: str, note: Note, place: str) -> str:

@@ -3,7 +3,7 @@
 import os
 import signal
 import tempfile
-from collections.abc import Sequence
+from collections.abc import Callable, Sequence
 
 from mgr_front.channels import Apart
 from mgr_front.channels.stream import trim
@@ -24,6 +24,9 @@ from mgr_front.session import Session
 from mgr_front.signals import Signals
 
 LEAST_COLUMNS = 20
+
+# Edits a note that was opened, with others if there are some, and returns the status.
+Edit = Callable[[Opening, Company | None], int]
 
 
 def terminal_rows() -> int:
@@ -67,9 +70,14 @@ def edit(opening: Opening, company: Company | None) -> int:
     return shell_status(-signals.first if signals.first and status <= 0 else status)
 
 
-def begin(mgr: str, options: Options) -> int:
-    """Does what is to be done first, joins others if the note is shared, and edits it."""
+def on_terminal(mgr: str, options: Options) -> int:
+    """Edits on the terminal, if there is one."""
     terminal_rows()
+    return begin(mgr, options, edit)
+
+
+def begin(mgr: str, options: Options, edit: Edit) -> int:
+    """Does what is to be done first, joins others if the note is shared, and edits it."""
     note, company = Note(options.name), None
     if options.history:
         # Its pager is long to load, and others wait for nothing of it.
@@ -87,21 +95,31 @@ def begin(mgr: str, options: Options) -> int:
             return edit(opening, company)
 
 
-def main(words: Sequence[str], folder: str) -> int:
-    """Edits as the command line says, and returns the status; `folder` is where mgr-live stands."""
-    options = read_options(words)
+def trimmed(mgr: str, options: Options) -> int:
+    """Has the stream of Redis hold few lines."""
+    before, after = trim(":".join(options.way), mgr)
+    tell(f"the stream had {before:,} bytes of lines, and has {after:,}")
+    return 0
+
+
+def guarded(folder: str, options: Options, work: Callable[[str, Options], int]) -> int:
+    """Does something with mgr, and says why it cannot be done; `folder` is where the front's programs stand."""
     mgr = find(folder)
     if mgr is None:
         stop(f"the program {os.environ.get('MGR') or 'mgr'} is not there")
     try:
-        if not options.trims:
-            return begin(mgr, options)
-        before, after = trim(":".join(options.way), mgr)
-        tell(f"the stream had {before:,} bytes of lines, and has {after:,}")
-        return 0
+        return work(mgr, options)
     except Refused as refused:
         stop(str(refused), refused.status)
     except Apart as apart:
         stop(str(apart))
     except OSError as error:
         stop(f"{error.filename or options.name}: {error.strerror}")
+
+
+def main(words: Sequence[str], folder: str) -> int:
+    """Edits as the command line says, and returns the status; `folder` is where mgr-live stands."""
+    options = read_options(words)
+    if options.trims:
+        return guarded(folder, options, trimmed)
+    return guarded(folder, options, on_terminal)

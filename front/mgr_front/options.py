@@ -1,4 +1,4 @@
-"""The command lines of mgr-live and mgr-hub."""
+"""The command lines of mgr-live, mgr-channel and mgr-hub."""
 
 import argparse
 import os
@@ -21,6 +21,7 @@ EPILOG = (
     "The text is in NAME, its operations in the log NAME.ops. C-x C-s saves, C-x C-c leaves. "
     "mgr(1) has the keys, the files and the statuses. The environment variable MGR names the program mgr."
 )
+CHANNEL = "mgr-channel", "Stands between an editor program and mgr, and takes and tells changes as lines of JSON."
 
 # What a command line asks for: members by the names of its options.
 Options = argparse.Namespace
@@ -66,23 +67,30 @@ def _parser(program: str, description: str, epilog: str = "") -> argparse.Argume
     return made
 
 
-def parser() -> argparse.ArgumentParser:
-    made = _parser("mgr-live", "Edits a note on a terminal, by `mgr edit`, with the keys of mg(1).", EPILOG)
-    # The text that is put back, if one was chosen.
-    made.set_defaults(text=None)
+def channel_parser(program: Sequence[str] = CHANNEL) -> argparse.ArgumentParser:
+    """Returns what a program takes by which one writes in a note: it has a name, says what it does, and ends so."""
+    made = _parser(*program)
+    # Only mgr-live asks for a text that is put back.
+    made.set_defaults(text=None, history=False)
     add, either = made.add_argument, made.add_mutually_exclusive_group().add_argument
-    add("--fill", metavar="F", type=number_to(9999), help="the fill column of M-q")
     add("--with", dest="way", metavar="HOST:NOTE", type=way, default=("", ""), help=WAYS)
     add("--as", dest="person", metavar="NAME", default="", help="a name for others; else the login's")
-    for switch, word, name, said in (
-        (add, "--no-colour", "is_plain", "show others without colours"),
-        (add, "--trim", "trims", "only have the stream of Redis hold few lines"),
-        (add, "--adopt", "adopts", "join with another note: both become one"),
-        (add, "--history", "history", "show the texts that the note had; one may be put back"),
-        (either, "--take-file", "takes_file", "if text and log differ, bring the text's changes into the log"),
-        (either, "--keep-file", "keeps_file", "go on with the log then, and keep the text as NAME~"),
-    ):
-        switch(word, dest=name, action="store_true", help=said)
+    _switch(add, "--adopt", "adopts", "join with another note: both become one")
+    _switch(either, "--take-file", "takes_file", "if text and log differ, bring the text's changes into the log")
+    _switch(either, "--keep-file", "keeps_file", "go on with the log then, and keep the text as NAME~")
+    return made
+
+
+def _switch(add: Callable[..., object], word: str, name: str, said: str) -> None:
+    add(word, dest=name, action="store_true", help=said)
+
+
+def parser() -> argparse.ArgumentParser:
+    made = channel_parser(("mgr-live", "Edits a note on a terminal, by `mgr edit`, with the keys of mg(1).", EPILOG))
+    made.add_argument("--fill", metavar="F", type=number_to(9999), help="the fill column of M-q")
+    _switch(made.add_argument, "--no-colour", "is_plain", "show others without colours")
+    _switch(made.add_argument, "--trim", "trims", "only have the stream of Redis hold few lines")
+    _switch(made.add_argument, "--history", "history", "show the texts that the note had; one may be put back")
     return made
 
 
@@ -102,6 +110,11 @@ def read(words: Sequence[str]) -> Options:
     if options.trims and options.way[0] not in (REDIS, SECURE_REDIS):
         made.error("--trim goes with --with redis://HOST/KEY")
     return options
+
+
+def read_channel(words: Sequence[str]) -> Options:
+    """Returns what these words ask mgr-channel for; ends the program as `read` does."""
+    return channel_parser().parse_args(words)
 
 
 def read_hub(words: Sequence[str]) -> HubOptions:

@@ -1,5 +1,9 @@
-"""The report and the keys by which mgr saves."""
+"""The report and the keys by which mgr saves, and what is said of that."""
 
 # Nobody types: mgr saves what was made or taken, log and text.
 REST = b'{"op":"rest"}'
 CANCEL, SAVE = b"\x07", b"\x18\x13"
+
+# What is said where a buffer was saved, and, by what a status tells, where one could not be.
+SAVED = "Wrote "
+UNSAVED = {"file": "Not saved: File fault", "memory": "Not saved: Out of memory"}

@@ -1,6 +1,7 @@
 """What a program says for itself on standard error, and what it asks on the terminal."""
 
 import sys
+from collections.abc import Callable, Sequence
 from contextlib import suppress
 from typing import NoReturn
 
@@ -9,14 +10,24 @@ from mgr_front.screen import write_all
 # Statuses of the front's own: a text that is refused; a failed device, or none.
 REFUSED, FAILED = 1, 3
 
+# Who says and asks, unless something else is said, and what asks in place of the terminal.
+speaker = "mgr-live"
+chooser: Callable[[str, Sequence[str], str], str] | None = None
 
-def tell(what: str, program: str = "mgr-live") -> None:
+
+def speak_for(program: str, choose: Callable[[str, Sequence[str], str], str]) -> None:
+    """Has this program say what is said, and this ask what is asked."""
+    global speaker, chooser
+    speaker, chooser = program, choose
+
+
+def tell(what: str, program: str = "") -> None:
     # If the terminal is gone, so is whoever would read this.
     with suppress(OSError):
-        write_all(f"{program}: {what}\n".encode("utf-8", "surrogateescape"), to=2)
+        write_all(f"{program or speaker}: {what}\n".encode("utf-8", "surrogateescape"), to=2)
 
 
-def stop(what: str, status: int = FAILED, program: str = "mgr-live") -> NoReturn:
+def stop(what: str, status: int = FAILED, program: str = "") -> NoReturn:
     tell(what, program)
     sys.exit(status)
 
@@ -34,6 +45,8 @@ def answer(asked: str) -> str:
 
 def choice(question: str, *letters: str, default: str = "") -> str:
     """Asks for one of these letters until it is given. An empty answer is the default, if there is one."""
+    if chooser:
+        return chooser(question, letters, default)
     print(question, end="")
     asked = f"{', '.join(letters[:-1])} or {letters[-1]}? "
     while (answered := answer(asked).lower() or default) not in letters:

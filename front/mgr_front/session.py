@@ -14,14 +14,14 @@ from mgr_front.company import Company
 from mgr_front.completion import ANSWERED, KILL_EMACS, NAMED, accept, complete
 from mgr_front.dispatch import Dispatcher
 from mgr_front.editor import BLOCK, LEAST_ROWS, MOST_ROWS, Editor
-from mgr_front.errands import COPY_ALL, LEAVE, YANK, Errand, switch_to
-from mgr_front.guests import place_apart
+from mgr_front.errands import LEAVE, Errand, switch_to
+from mgr_front.guests import put_apart
 from mgr_front.keys import CANCEL, NO_KEY, RETURN, TAB, Keys, Typed
 from mgr_front.minibuffer import Page, Question
 from mgr_front.notes import KeptFiles, found, why_not_written
 from mgr_front.opening import NEW
 from mgr_front.remarks import Remarks
-from mgr_front.saving import REST, SAVE
+from mgr_front.saving import REST, SAVE, SAVED, UNSAVED
 from mgr_front.screen import Screen
 from mgr_front.signals import Signals
 from mgr_front.statuses import COMMAND, Status
@@ -39,10 +39,8 @@ IDLE = 1.0
 
 # For what the bell rings.
 RINGING = "Undefined key", "Search failed"
-# What is said where a buffer was saved, and where one could not be.
-SAVED = "Wrote "
+# What is said where nothing is left to save.
 PUT = SAVED, "No changes"
-UNSAVED = {"file": "Not saved: File fault", "memory": "Not saved: Out of memory"}
 LEAVING = "Leave: s puts the text, d leaves its file as it was? "
 APART = "Not saved: s tries again, d leaves and keeps it apart? "
 # How much may wait for mgr before no more keys are read.
@@ -388,13 +386,10 @@ class Session:
         """Puts the texts of buffers into the state folder, and returns the buffers where that fails."""
         failed = []
         for name in names:
-            if place := place_apart(name):
-                yield switch_to(name) + COPY_ALL + b"\x18\x06" + place.encode() + b"\r"
-                status = yield YANK + SAVE
-                if status.message == SAVED + place:
-                    self.apart[name] = place
-                    continue
-            failed.append(name)
+            if place := (yield from put_apart(name)):
+                self.apart[name] = place
+            else:
+                failed.append(name)
         return failed
 
     def rescue(self) -> Errand:

@@ -46,6 +46,8 @@ class Status:
     point: tuple[int, ...] = (0, 0, 0, 0)
     # Of places of others in the live buffer that show: counter, replica, row and column.
     places: tuple[tuple[int, ...], ...] = ()
+    # How the text of the live buffer changed, if that is asked for: each time a range, and what is in its place then.
+    changes: tuple[tuple[int, int, str], ...] = ()
 
     @property
     def mode_rows(self) -> list[int]:
@@ -84,7 +86,7 @@ class Statuses:
 
 def _status(frame: tuple[str, ...], operations: tuple[bytes, ...], told: dict[str, Any]) -> Status:
     prompt, buffer = told["prompt"] or {}, told["buffer"]
-    row, column = told["cursor"]
+    row, column = told["cursor"] or (0, 0)
     return Status(
         frame,
         (row, column),
@@ -99,5 +101,6 @@ def _status(frame: tuple[str, ...], operations: tuple[bytes, ...], told: dict[st
         is_live=buffer["name"] == (told["live"] or {}).get("name"),
         point=tuple(told["point"]),
         places=tuple(map(tuple, told["places"])),
+        changes=tuple((each["lo"], each["hi"], each["text"]) for each in told.get("changes", ())),
         **{name: told[name] for name in KEPT},
     )

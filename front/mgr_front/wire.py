@@ -27,6 +27,9 @@ OPERATION = re.compile(
     rb'|"id":%b,"op":"run","parent":%b,"text":%b|"count":\d{1,4},"id":%b,"op":"dels")\}'
     % (_TEXT, _ID, _ID, _ID, _ID, _ID, _TEXT, _ID)
 )
+DELETION = re.compile(rb'\{"id":\[(\d{1,16}),(\d{1,5})\],"op":"del"\}')
+# So many deletions stand in one line.
+MOST_DELETIONS = 4096
 SAYING = b'{"op":"'
 
 
@@ -42,6 +45,21 @@ def is_operation(line: bytes) -> bool:
 def operations(lines: Iterable[bytes]) -> list[bytes]:
     """Returns those lines that are operations."""
     return [line for line in lines if is_operation(line)]
+
+
+def in_runs(lines: Iterable[bytes]) -> list[bytes]:
+    """Returns the same operations, deletions of neighbours in one line: mgr takes that as one change of the text."""
+    made: list[bytes] = []
+    counter = replica = count = 0
+    for line in lines:
+        found = DELETION.fullmatch(line)
+        if found and count < MOST_DELETIONS and (int(found[1]), int(found[2])) == (counter + count, replica):
+            count += 1
+            made[-1] = b'{"count":%d,"id":[%d,%d],"op":"dels"}' % (count, counter, replica)
+            continue
+        counter, replica, count = (int(found[1]), int(found[2]), 1) if found else (0, 0, 0)
+        made.append(line)
+    return made
 
 
 def said(op: str, **members: Any) -> bytes:

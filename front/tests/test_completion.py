@@ -86,7 +86,7 @@ class TestCompletion(unittest.TestCase):
     @unittest.skipUnless(SOURCE.exists(), "the sources of mgr are not there")
     def test_the_commands_are_those_of_mgr(self) -> None:
         source = SOURCE.read_text()
-        self.assertEqual(source.count("name: b"), len(COMMANDS))
+        self.assertEqual(source.count('    b"'), len(COMMANDS))
         for name in COMMANDS:
             self.assertIn(f'b"{name}"', source)
 

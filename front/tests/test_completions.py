@@ -11,7 +11,7 @@ import unittest
 
 import context  # noqa: F401
 
-from mgr_front.options import hub_parser, parser
+from mgr_front.options import channel_parser, hub_parser, parser
 
 FILE = pathlib.Path(__file__).resolve().parent.parent / "completions.bash"
 MANUAL = FILE.parent.parent / "docs" / "mgr.1"
@@ -35,6 +35,7 @@ def options_of(made: argparse.ArgumentParser) -> list[str]:
 class TestCompletions(unittest.TestCase):
     def test_options(self) -> None:
         self.assertEqual(completed("mgr-live", "--"), options_of(parser()))
+        self.assertEqual(completed("mgr-channel", "--"), options_of(channel_parser()))
         self.assertEqual(completed("mgr-hub", "note", "--"), options_of(hub_parser()))
         told = {f"--{name}" for name in re.findall(r"Fl -(\w+)", MANUAL.read_text())}
         self.assertEqual(completed("/usr/bin/mgr", "edit", "note", "--"), sorted(told - {"--adopt", "--dels", "--json", "--lines"} | {"--help"}))

@@ -8,12 +8,23 @@ import unittest
 import context  # noqa: F401
 
 from mgr_front.peers import Peer
-from mgr_front.wire import BLOCK, LONGEST, MOST_WAITING, SILENCE, STUCK, Broken, Wire, claims_said, is_operation, said, saying
+from mgr_front.wire import BLOCK, LONGEST, MOST_DELETIONS, MOST_WAITING, SILENCE, STUCK, Broken, Wire, claims_said, in_runs, is_operation, said, saying
 
 INSERTION = '{"char":"%s","id":[3,2],"op":"ins","parent":[1,1]}'
 
 
 class TestLines(unittest.TestCase):
+    def test_deletions_of_neighbours_stand_in_one_line(self) -> None:
+        def deletions(*numbers: int) -> list[bytes]:
+            return [b'{"id":[%d,7],"op":"del"}' % number for number in numbers]
+
+        insertion = b'{"char":"a","id":[9,7],"op":"ins","parent":[0,0]}'
+        run = b'{"count":2,"id":[3,7],"op":"dels"}'
+        self.assertEqual(in_runs([*deletions(3, 4), insertion, *deletions(5, 7)]), [run, insertion, *deletions(5, 7)])
+        many = in_runs(deletions(*range(1, MOST_DELETIONS + 3)))
+        self.assertEqual(many, [b'{"count":%d,"id":[1,7],"op":"dels"}' % MOST_DELETIONS, b'{"count":2,"id":[%d,7],"op":"dels"}' % (MOST_DELETIONS + 1)])
+        self.assertTrue(all(map(is_operation, many)))
+
     def test_operations(self) -> None:
         for line in (
             INSERTION % "a",

@@ -1,0 +1,737 @@
+;;; mgr.el --- Write in one note with others  -*- lexical-binding: t; -*-
+
+;; Copyright (c) 2026 the Cuffshale authors
+
+;; Author: Cuffshale maintainers <maintainers@users.noreply.cuffshale.example>
+;; Version: 0.1.0
+;; Package-Requires: ((emacs "28.1"))
+;; Keywords: files, comm
+;; URL: https://cuffshale.example/mgr
+
+;; Permission to use, copy, modify, and/or distribute this software for any
+;; purpose with or without fee is hereby granted, provided that the above
+;; copyright notice and this permission notice appear in all copies.
+;;
+;; THE SOFTWARE IS PROVIDED "AS IS" AND THE AUTHOR DISCLAIMS ALL WARRANTIES WITH
+;; REGARD TO THIS SOFTWARE INCLUDING ALL IMPLIED WARRANTIES OF MERCHANTABILITY
+;; AND FITNESS.  IN NO EVENT SHALL THE AUTHOR BE LIABLE FOR ANY SPECIAL, DIRECT,
+;; INDIRECT, OR CONSEQUENTIAL DAMAGES OR ANY DAMAGES WHATSOEVER RESULTING FROM
+;; LOSS OF USE, DATA OR PROFITS, WHETHER IN AN ACTION OF CONTRACT, NEGLIGENCE OR
+;; OTHER TORTIOUS ACTION, ARISING OUT OF OR IN CONNECTION WITH THE USE OR
+;; PERFORMANCE OF THIS SOFTWARE.
+
+;;; Commentary:
+
+;; `mgr-open' opens a note of mgr, and `mgr-join' one that others write in at
+;; the same time.  The buffer is the note's text: each change is in its log at
+;; once, and what others write comes in where they write it.  `mgr-leave', or
+;; killing the buffer, leaves the note.
+;;
+;; C-/ takes back your own changes alone, whatever others wrote since.  Saving
+;; is mgr's: its log has each change, and the text is put after a second without
+;; one, or by C-x C-s.
+;;
+;; The programs mgr-channel and mgr have to be installed.
+
+;;; Code:
+
+(require 'cl-lib)
+(require 'subr-x)
+
+(defgroup mgr nil
+  "Notes that several write in at the same time."
+  :group 'files
+  :prefix "mgr-")
+
+(defcustom mgr-channel-program "mgr-channel"
+  "The program that stands between Emacs and mgr."
+  :type 'string)
+
+(defcustom mgr-person nil
+  "The name that others see; nil for that of the login."
+  :type '(choice (const :tag "That of the login" nil) string))
+
+(defcustom mgr-colours '("red" "green" "yellow3" "blue" "magenta" "cyan3")
+  "The colours of others, by their numbers."
+  :type '(repeat color))
+
+(defcustom mgr-show-names t
+  "Whether the names of others stand where they are."
+  :type 'boolean)
+
+(defcustom mgr-seconds 30
+  "For how many seconds Emacs waits for what mgr is asked."
+  :type 'number)
+
+(defconst mgr--most-typed 20
+  "So many typed characters are one step for an undo.")
+
+(defconst mgr--point-delay 0.2
+  "After so many seconds others see where point is.")
+
+(defconst mgr--unencodable "[\ud800-\udfff\x110000-\x3fff7f\x3fff80-\x3fffff]"
+  "What no note takes: halves of characters, what is no character, raw bytes.")
+
+(cl-defstruct (mgr--session (:constructor mgr--make-session) (:copier nil))
+  "A note that is open."
+  process buffer path
+  ;; How many changes were made here, how many of these the log has, how many
+  ;; of others were made here too, and the size of the text.
+  (made 0) (kept 0) (seen 0) (size 0)
+  ;; The text that is about to be changed or was just changed, where it is, and
+  ;; whether that change was sent.
+  old is-sent
+  ;; Whether the next change is of the step of the one before, and how many
+  ;; characters were typed in it.
+  joins (typed 0)
+  ;; Lines of mgr-channel that came in part, and those that have to wait.
+  parts queue
+  ;; What mgr-channel answered last.
+  begun ask undone undo-place saved
+  ;; What the mode line says, the overlays of others by their numbers, and where
+  ;; they wrote last.
+  (shown "") (fault "") others places
+  ;; Where point was said to be, and the timer that says it.
+  point timer
+  ;; Why the session ends, if that is known, whether it was left, and whether it
+  ;; has ended.
+  why is-left is-over)
+
+(defvar-local mgr--session nil
+  "The session of this buffer.")
+(put 'mgr--session 'permanent-local t)
+
+(defvar mgr--is-applying nil
+  "Whether the change that is made is one of others.")
+
+(defvar mgr--is-sending nil
+  "Whether something is being sent: what comes meanwhile waits.")
+
+(defvar mgr--is-taking nil
+  "Whether something that came is being done: what comes meanwhile waits.")
+
+;;;; What is sent and what comes
+
+(defun mgr--send (session &rest members)
+  "Send MEMBERS, an alist, to the mgr-channel of SESSION."
+  (let ((line (concat (json-serialize (cons (cons 'seen (mgr--session-seen session)) members)) "\n")))
+    (let ((mgr--is-sending t))
+      ;; Where it has ended its sentinel says so.
+      (ignore-errors (process-send-string (mgr--session-process session) line))))
+  (unless mgr--is-taking
+    (mgr--take-queue session)))
+
+(defun mgr--filter (process string)
+  "Take STRING, which PROCESS wrote."
+  (when-let* ((session (process-get process 'mgr-session)))
+    (push string (mgr--session-parts session))
+    (when (string-search "\n" string)
+      (let ((lines (split-string (apply #'concat (nreverse (mgr--session-parts session))) "\n")))
+        (setf (mgr--session-parts session) (last lines))
+        (setf (mgr--session-queue session)
+              (nconc (mgr--session-queue session) (butlast lines)))
+        (unless mgr--is-taking
+          (mgr--take-queue session))))))
+
+(defun mgr--take-queue (session)
+  "Do what the lines say that came in SESSION, unless something is just being sent."
+  (while (and (mgr--session-queue session) (not mgr--is-sending))
+    (let ((line (pop (mgr--session-queue session))) (mgr--is-taking t))
+      (when (and (buffer-live-p (mgr--session-buffer session)) (not (mgr--session-is-over session)))
+        (with-current-buffer (mgr--session-buffer session)
+          (condition-case fault
+              (mgr--take session (json-parse-string line :object-type 'alist :array-type 'list
+                                                    :null-object nil :false-object nil))
+            ;; The buffer may not be the note any more.
+            (error (mgr--end session (error-message-string fault)))))))))
+
+(defun mgr--take (session told)
+  "Do what is TOLD in a line of the mgr-channel of SESSION."
+  (let-alist told
+    (pcase .op
+      ("open" (setf (mgr--session-path session) .path))
+      ("ask" (setf (mgr--session-ask session) told))
+      ("begun" (setf (mgr--session-begun session) t))
+      ("change" (mgr--change session .made .splices .by .undo))
+      ("kept" (setf (mgr--session-kept session) (max .made (mgr--session-kept session))))
+      ("saved" (mgr--note-saved session .made .why))
+      ("undone" (setf (mgr--session-undone session) .why))
+      ("state" (mgr--note-state session .shown .who))
+      ("fault" (mgr--note-fault session .why))
+      ("refused" (setf (mgr--session-why session) (format "a change was refused: %s" .why)))
+      ("say" (message "%s: %s" (buffer-name) .text)))))
+
+(defun mgr--await (session done)
+  "Wait for DONE to return non-nil while SESSION lives, not too long; return that."
+  (let ((until (time-add nil mgr-seconds)) (process (mgr--session-process session)) value)
+    (while (not (or (setq value (funcall done))
+                    (not (process-live-p process))
+                    (time-less-p until nil)))
+      (accept-process-output process 0.1))
+    (or value (funcall done))))
+
+;;;; Changes of others
+
+(defun mgr--change (session made splices by is-undo)
+  "Make SPLICES in the buffer of SESSION, which has to be after MADE own ones.
+Else they come again, as the text has to have them then.  BY is the number of
+who made them, and IS-UNDO says that an undo did."
+  (dolist (splice splices)
+    (when (= made (mgr--session-made session))
+      (pcase-let* ((`(,lo ,hi ,text) splice) (end (+ lo (length text))))
+        (mgr--put session lo hi text)
+        (cl-incf (mgr--session-seen session))
+        (when is-undo
+          (setf (mgr--session-undo-place session) (copy-marker (1+ end))))
+        (when by
+          (mgr--note-place session by (1+ end))))))
+  (mgr--send session '(op . "seen")))
+
+(defun mgr--note-place (session number place)
+  "Take note in SESSION that the person of this NUMBER wrote before PLACE."
+  (let ((marker (or (alist-get number (mgr--session-places session))
+                    (setf (alist-get number (mgr--session-places session)) (make-marker))))
+        (overlay (alist-get number (mgr--session-others session))))
+    (set-marker marker place)
+    (when overlay
+      (mgr--show-at overlay place))))
+
+(defun mgr--put (session lo hi text)
+  "Put TEXT in place of what stands from LO to HI in the buffer of SESSION.
+Point, region, narrowing and the kill ring stay."
+  (let ((mgr--is-applying t) (inhibit-read-only t) (deactivate-mark nil))
+    (save-excursion
+      (save-restriction
+        (widen)
+        (goto-char (1+ lo))
+        (delete-region (point) (1+ hi))
+        (insert text)
+        (setf (mgr--session-size session) (buffer-size) (mgr--session-old session) nil)))))
+
+;;;; Changes of one's own
+
+(defun mgr--before-change (begin end)
+  "Keep the text from BEGIN to END, which is about to be changed.
+Emacs may say this again before it says that the first change was made: then
+what was kept is as it was before both."
+  (when (and mgr--session (not mgr--is-applying))
+    (let* ((session mgr--session) (old (mgr--session-old session)))
+      (if (or (not old) (and (mgr--session-is-sent session) (mgr--is-as-sent session)))
+          (setf (mgr--session-old session) (cons begin (mgr--text begin end)))
+        (mgr--widen-old session begin end))
+      (setf (mgr--session-is-sent session) nil))))
+
+(defun mgr--is-as-sent (session)
+  "Return whether the buffer of SESSION has the size of the text that was sent."
+  (= (mgr--session-size session) (buffer-size)))
+
+(defun mgr--old-end (session)
+  "Return the end by now of what SESSION remembers from before.
+All that changed since is within it."
+  (pcase-let ((`(,begin . ,text) (mgr--session-old session)))
+    (+ begin (length text) (- (buffer-size) (mgr--session-size session)))))
+
+(defun mgr--widen-old (session begin end)
+  "Have SESSION keep the text from BEGIN to END too, and what is between."
+  (pcase-let ((`(,from . ,text) (mgr--session-old session)) (to (mgr--old-end session)))
+    (setf (mgr--session-old session)
+          (cons (min begin from)
+                (concat (when (< begin from) (mgr--text begin from))
+                        text
+                        (when (> end to) (mgr--text to end)))))))
+
+(defun mgr--text (begin end)
+  "Return what stands from BEGIN to END, visible or not."
+  (save-restriction
+    (widen)
+    (buffer-substring-no-properties begin end)))
+
+(defun mgr--after-change (begin end length)
+  "Send the change from BEGIN to END, where LENGTH characters were before.
+After an error in this Emacs would say nothing of further changes."
+  (when (and mgr--session (not mgr--is-applying))
+    (condition-case fault
+        (mgr--note-change mgr--session begin end length)
+      (error (mgr--end mgr--session (error-message-string fault))))))
+
+(defun mgr--note-change (session begin end length)
+  "Send the change from BEGIN to END in SESSION, of LENGTH characters before."
+  (let* ((end (mgr--without-raw-bytes begin end)) (old (mgr--session-old session)))
+    (cond ((and old (<= (car old) begin) (<= end (mgr--old-end session)))
+           (mgr--send-change session))
+          ((= (buffer-size) (+ (mgr--session-size session) (- end begin length)))
+           (mgr--splice session (1- begin) (+ begin length -1) (mgr--text begin end)))
+          (t (error "A change was not told beforehand")))))
+
+(defun mgr--send-change (session)
+  "Send what differs from what SESSION remembers from before."
+  (pcase-let* ((`(,begin . ,old) (mgr--session-old session))
+               (new (mgr--text begin (mgr--old-end session)))
+               (`(,front . ,back) (mgr--in-common old new)))
+    (setf (mgr--session-old session) (cons begin new) (mgr--session-is-sent session) t)
+    (unless (= front (length old) (length new))
+      (mgr--splice session (+ begin front -1) (+ begin (length old) (- back) -1)
+                   (substring new front (- (length new) back))))))
+
+(defun mgr--without-raw-bytes (begin end)
+  "Delete what no note takes from BEGIN to END; return where that ends then."
+  (save-match-data
+    (if (not (string-match-p mgr--unencodable (mgr--text begin end)))
+        end
+      (message "Raw bytes are left out: no note takes them")
+      (let ((end (copy-marker end)) (mgr--is-applying t))
+        (save-excursion
+          (save-restriction
+            (widen)
+            (goto-char begin)
+            (while (re-search-forward mgr--unencodable end t)
+              (delete-region (match-beginning 0) (match-end 0)))))
+        (prog1 (marker-position end)
+          (set-marker end nil))))))
+
+(defun mgr--in-common (old new)
+  "Return how many characters OLD and NEW have in common, at begin and end."
+  (let* ((least (min (length old) (length new)))
+         (front (mgr--front old new))
+         (back (if (< front least) (mgr--front (reverse old) (reverse new)) 0)))
+    (cons front (min back (- least front)))))
+
+(defun mgr--front (old new)
+  "Return how many characters OLD and NEW have in common at their begin."
+  (let ((place (compare-strings old nil nil new nil nil)))
+    (if (eq place t) (length old) (1- (abs place)))))
+
+(defun mgr--splice (session lo hi text)
+  "Send that TEXT stands in place of what stood from LO to HI, in SESSION."
+  (let ((joins (mgr--joins session)))
+    (cl-incf (mgr--session-made session))
+    (setf (mgr--session-size session) (buffer-size))
+    (mgr--send session '(op . "splice") `(lo . ,lo) `(hi . ,hi) `(text . ,text)
+               `(joins . ,(if joins t :false)))))
+
+(defun mgr--joins (session)
+  "Return whether a change in SESSION is of the step of the one before.
+All changes of a command are one step, and so are some typed characters."
+  (let* ((is-typed (eq this-command 'self-insert-command))
+         (goes-on (or (mgr--session-joins session)
+                      (and is-typed (< 0 (mgr--session-typed session) mgr--most-typed)))))
+    (setf (mgr--session-typed session)
+          (cond ((not is-typed) 0) (goes-on (1+ (mgr--session-typed session))) (t 1)))
+    (setf (mgr--session-joins session) t)
+    goes-on))
+
+(defun mgr--after-command ()
+  "End a step, and see to it that others see where point is."
+  (when-let* ((session mgr--session))
+    (setf (mgr--session-joins session) nil)
+    (unless (eq this-command 'self-insert-command)
+      (setf (mgr--session-typed session) 0))
+    (when (and (mgr--session-old session) (not (mgr--session-is-sent session)))
+      (mgr--send-change session))
+    (cond ((not (mgr--is-as-sent session))
+           (mgr--end session "the buffer was changed in a way that Emacs tells nobody of"))
+          ((not (or (mgr--session-timer session) (string-empty-p (mgr--session-shown session))))
+           (setf (mgr--session-timer session)
+                 (run-with-timer mgr--point-delay nil #'mgr--say-point session))))))
+
+(defun mgr--say-point (session)
+  "Say where point is in the buffer of SESSION, if that is news."
+  (setf (mgr--session-timer session) nil)
+  (when (buffer-live-p (mgr--session-buffer session))
+    (with-current-buffer (mgr--session-buffer session)
+      (when (and (eq mgr--session session) (not (eql (point) (mgr--session-point session))))
+        (setf (mgr--session-point session) (point))
+        (mgr--send session '(op . "point")
+                   `(line . ,(1- (line-number-at-pos nil t)))
+                   `(column . ,(- (point) (save-restriction (widen) (line-beginning-position)))))))))
+
+;;;; Undo
+
+(defun mgr--undo (kind goes-on)
+  "Take back a step of one's own, of this KIND.
+GOES-ON says that the command before did so too."
+  (let ((session (mgr--live-session)))
+    (setf (mgr--session-undone session) nil (mgr--session-undo-place session) nil
+          (mgr--session-joins session) nil)
+    (mgr--send session '(op . "undo") `(kind . ,kind) `(again . ,(if goes-on t :false)))
+    (unless (mgr--await session (lambda () (mgr--session-undone session)))
+      (user-error "Mgr does not answer"))
+    (unless (string-empty-p (mgr--session-undone session))
+      (user-error "%s" (mgr--session-undone session)))
+    (when-let* ((place (mgr--session-undo-place session)))
+      (goto-char place)
+      (set-marker place nil))))
+
+(defun mgr-undo (&optional count)
+  "Take back the last step of your own; again, the one before.
+What others wrote stays.  After another command this takes back the undos
+themselves, as `undo' does.  COUNT says how many steps it is."
+  (interactive "p")
+  (let ((goes-on (eq last-command 'mgr-undo)))
+    (dotimes (_ (or count 1))
+      (mgr--undo "undo" goes-on)
+      (setq goes-on t)))
+  (setq this-command 'mgr-undo))
+
+(defun mgr-undo-only (&optional count)
+  "Take back the newest step of your own that stands; never an undo.
+COUNT says how many steps it is."
+  (interactive "p")
+  (dotimes (_ (or count 1))
+    (mgr--undo "only" nil)))
+
+(defun mgr-redo (&optional count)
+  "Take back the last undo, or COUNT of them."
+  (interactive "p")
+  (dotimes (_ (or count 1))
+    (mgr--undo "redo" nil)))
+
+;;;; Saving
+
+(defun mgr--note-saved (session made why)
+  "Take note in SESSION that the text was put after MADE own edits, or WHY not."
+  (setf (mgr--session-saved session) (cons made why))
+  (when (and (string-empty-p why) (= made (mgr--session-made session)))
+    (set-buffer-modified-p nil)))
+
+(defun mgr--note-fault (session why)
+  "Take note in SESSION of WHY the log was not written; if WHY is empty it was."
+  (setf (mgr--session-fault session) why)
+  (unless (string-empty-p why)
+    (message "%s: %s" (buffer-name) why))
+  (force-mode-line-update))
+
+(defun mgr-save ()
+  "Have mgr save the note, log and text."
+  (interactive)
+  (let ((session (mgr--live-session)))
+    (setf (mgr--session-saved session) nil)
+    (mgr--send session '(op . "save"))
+    (let ((why (mgr--await session (lambda () (mgr--saved session (mgr--session-made session))))))
+      (cond ((not why) (error "Mgr does not answer"))
+            ((string-empty-p why) (message "Wrote %s" buffer-file-name))
+            (t (error "%s" why))))))
+
+(defun mgr--saved (session made)
+  "Return why the text of SESSION was not put, and an empty text if it was.
+Return nil if that is not known, or if it has less than MADE changes."
+  (pcase-let ((`(,count . ,why) (mgr--session-saved session)))
+    (and why (or (>= count made) (not (string-empty-p why))) why)))
+
+(defun mgr--write ()
+  "Have mgr write the buffer; return nil if it visits another file by now."
+  (if (equal buffer-file-name (mgr--session-path (mgr--live-session)))
+      (progn (mgr-save) t)
+    (mgr-leave)
+    nil))
+
+(defun mgr--revert (&rest _)
+  "Say that the buffer is the note."
+  (user-error "What this buffer shows is the note"))
+
+;;;; Others
+
+(defun mgr--note-state (session shown who)
+  "Show in SESSION how others are reached, by SHOWN, and WHO they are."
+  (setf (mgr--session-shown session) shown)
+  (pcase-dolist (`(,number . ,overlay) (mgr--session-others session))
+    (unless (assq number who)
+      (delete-overlay overlay)))
+  (setf (mgr--session-others session)
+        (mapcar (lambda (each) (cons (car each) (mgr--overlay session each))) who))
+  (force-mode-line-update))
+
+(defun mgr--overlay (session person)
+  "Return the overlay of PERSON in SESSION: a number, a name and a line."
+  (pcase-let* ((`(,number ,name ,line) person)
+               (overlay (alist-get number (mgr--session-others session)))
+               (place (alist-get number (mgr--session-places session))))
+    (unless overlay
+      (setq overlay (make-overlay 1 1))
+      (overlay-put overlay 'mgr-person (cons number name))
+      (mgr--show-at overlay (or place 1)))
+    (save-excursion
+      (save-restriction
+        (widen)
+        (unless (= line (line-number-at-pos (overlay-start overlay)))
+          (goto-char (point-min))
+          (forward-line (1- line))
+          (mgr--show-at overlay (if (and place (= line (line-number-at-pos place)))
+                                    place
+                                  (point))))))
+    overlay))
+
+(defun mgr--show-at (overlay place)
+  "Have OVERLAY show that somebody is at PLACE."
+  (pcase-let* ((`(,number . ,name) (overlay-get overlay 'mgr-person))
+               (colour (nth (mod number (length mgr-colours)) mgr-colours))
+               (face `(:background ,colour :foreground "black")))
+    (save-restriction
+      (widen)
+      (move-overlay overlay place place))
+    (overlay-put overlay 'help-echo name)
+    (overlay-put overlay 'before-string
+                 (propertize (if mgr-show-names name "|") 'face face 'cursor nil))))
+
+(defun mgr--lighter ()
+  "Return the part of the mode line about the note."
+  (if-let* ((session mgr--session))
+      (let ((told (mgr--session-shown session)) (fault (mgr--session-fault session)))
+        (cond ((not (string-empty-p fault)) (format " mgr[%s]" fault))
+              ((string-empty-p told) " mgr")
+              (t (format " mgr[%s]" told))))
+    ""))
+
+;;;; Begin and end
+
+(defvar mgr-mode-map
+  (let ((map (make-sparse-keymap)))
+    (define-key map [remap undo] #'mgr-undo)
+    (define-key map [remap undo-only] #'mgr-undo-only)
+    (define-key map [remap undo-redo] #'mgr-redo)
+    (define-key map [remap save-buffer] #'mgr-save)
+    map)
+  "The keys of `mgr-mode'.")
+
+(define-minor-mode mgr-mode
+  "Write in a note of mgr, with others.
+`mgr-open' and `mgr-join' turn this on, and `mgr-leave' turns it off.
+
+\\{mgr-mode-map}"
+  :lighter (:eval (mgr--lighter))
+  (cond ((and mgr-mode mgr--session) (mgr--set-up))
+        (mgr-mode (setq mgr-mode nil) (user-error "Use `mgr-open' or `mgr-join'"))
+        (mgr--session (mgr-leave))))
+
+(put 'mgr-mode 'permanent-local t)
+
+(defconst mgr--hooks
+  '((before-change-functions . mgr--before-change)
+    (after-change-functions . mgr--after-change)
+    (post-command-hook . mgr--after-command)
+    (write-contents-functions . mgr--write)
+    (kill-buffer-query-functions . mgr--may-be-killed)
+    (kill-buffer-hook . mgr--leave-killed)
+    (after-change-major-mode-hook . mgr--set-up))
+  "What is done in the buffer of a note.")
+
+;; A change of the major mode has to leave these: what is not sent is lost.
+(dolist (hook mgr--hooks)
+  (put (cdr hook) 'permanent-local-hook t))
+
+(defconst mgr--settings
+  '((create-lockfiles . nil) (buffer-auto-save-file-name . nil) (backup-inhibited . t)
+    (require-final-newline . nil) (global-auto-revert-ignore-buffer . t)
+    (buffer-undo-list . t) (buffer-file-coding-system . utf-8-unix)
+    (revert-buffer-function . mgr--revert))
+  "Settings of the buffer of a note: all that Emacs does to files is mgr's.")
+
+(defun mgr--set-up ()
+  "Have the buffer of a note be one."
+  (pcase-dolist (`(,variable . ,value) mgr--settings)
+    (set (make-local-variable variable) value))
+  (pcase-dolist (`(,hook . ,function) mgr--hooks)
+    (add-hook hook function nil t))
+  (when (bound-and-true-p auto-revert-mode)
+    (auto-revert-mode -1))
+  ;; mgr writes the file at any time, which is no change by another program.
+  (clear-visited-file-modtime))
+
+(declare-function auto-revert-mode "autorevert")
+
+(defun mgr--take-down (is-left)
+  "Have the buffer be an ordinary one.
+IS-LEFT says that mgr has ended well: else it may still put the text, and nobody
+is to be asked about that who types on or saves."
+  (pcase-dolist (`(,variable . ,_) mgr--settings)
+    (unless (memq variable '(buffer-undo-list buffer-file-coding-system))
+      (kill-local-variable variable)))
+  (pcase-dolist (`(,hook . ,function) mgr--hooks)
+    (remove-hook hook function t))
+  (setq buffer-undo-list nil)
+  (when (and is-left buffer-file-name (file-exists-p buffer-file-name))
+    (set-visited-file-modtime)))
+
+(defun mgr--live-session ()
+  "Return the session of this buffer; it is an error if there is none."
+  (or mgr--session (user-error "This buffer is no open note")))
+
+(defun mgr--start (name words)
+  "Begin a session with the note NAME, for which mgr-channel has these WORDS too.
+Return its buffer."
+  (unless (fboundp 'json-serialize)
+    (user-error "This Emacs was built without JSON"))
+  (let* ((buffer (generate-new-buffer (file-name-nondirectory name)))
+         (told (generate-new-buffer " *mgr-channel*" t))
+         (session (mgr--make-session :buffer buffer))
+         (process-adaptive-read-buffering nil)
+         (default-directory (file-name-directory name)))
+    (setf (mgr--session-process session)
+          (make-process :name "mgr-channel" :coding 'utf-8-unix :connection-type 'pipe :noquery t
+                        :command `(,mgr-channel-program ,name ,@words
+                                                        ,@(when mgr-person (list "--as" mgr-person)))
+                        :filter #'mgr--filter :sentinel #'mgr--sentinel
+                        :stderr (make-pipe-process :name "mgr-channel-told" :buffer told :noquery t
+                                                   :sentinel #'ignore)))
+    (process-put (mgr--session-process session) 'mgr-session session)
+    (process-put (mgr--session-process session) 'mgr-told told)
+    (with-current-buffer buffer
+      (setq default-directory (file-name-directory name) buffer-undo-list t)
+      (mgr--await-begin session)
+      (mgr--visit session name))
+    buffer))
+
+(defun mgr--await-begin (session)
+  "Wait until the text of SESSION is there; answer what is asked meanwhile."
+  (let ((process (mgr--session-process session)) (read-process-output-max (ash 1 20)))
+    (unwind-protect
+        (while (and (process-live-p process) (not (mgr--session-begun session)))
+          (accept-process-output process 0.1)
+          (when-let* ((asked (mgr--session-ask session)))
+            (setf (mgr--session-ask session) nil)
+            (mgr--answer session asked)))
+      (unless (mgr--session-begun session)
+        (setf (mgr--session-is-left session) t)
+        (kill-buffer (mgr--session-buffer session))
+        (delete-process process)))
+    (unless (mgr--session-begun session)
+      (user-error "%s" (mgr--told process)))))
+
+(defun mgr--answer (session asked)
+  "Ask the person what mgr-channel ASKED in SESSION, and send the answer."
+  (let-alist asked
+    (let ((letter (read-char-choice (format "%s%s? " .question (string-join .letters ", "))
+                                    (mapcar #'string-to-char .letters))))
+      (mgr--send session '(op . "answer") `(letter . ,(char-to-string letter))))))
+
+(defun mgr--visit (session name)
+  "Have this buffer, which has the text of SESSION, visit the file NAME.
+At a hub of this machine it is the file of a copy."
+  (let ((path (mgr--session-path session)))
+    (setq buffer-file-name (if (file-equal-p (file-name-directory path) (file-name-directory name)) name path)
+          buffer-file-truename (abbreviate-file-name (file-truename buffer-file-name)))
+    (setf (mgr--session-path session) buffer-file-name))
+  (goto-char (point-min))
+  (let ((mgr--is-applying t))
+    (normal-mode t))
+  (setf (mgr--session-size session) (buffer-size))
+  (setq mgr--session session)
+  (set-buffer-modified-p nil)
+  (mgr-mode 1))
+
+(defun mgr--told (process)
+  "Return what PROCESS said on standard error, once it has ended."
+  (let ((buffer (process-get process 'mgr-told)))
+    (when-let* ((told (get-buffer-process buffer)))
+      (accept-process-output told 0.2))
+    (if (not (buffer-live-p buffer))
+        ""
+      (prog1 (string-trim (with-current-buffer buffer (buffer-string)))
+        (let ((kill-buffer-query-functions nil))
+          (kill-buffer buffer))))))
+
+(defun mgr--sentinel (process _event)
+  "Take note that PROCESS ended."
+  (when-let* ((session (process-get process 'mgr-session)))
+    (unless (process-live-p process)
+      (let ((told (mgr--told process)))
+        (mgr--end session (or (mgr--session-why session) told))))))
+
+(defun mgr--end (session why)
+  "End SESSION; WHY is what was wrong, and empty if nothing was."
+  (when (process-live-p (mgr--session-process session))
+    (ignore-errors (process-send-eof (mgr--session-process session))))
+  (when (buffer-live-p (mgr--session-buffer session))
+    (with-current-buffer (mgr--session-buffer session)
+      (when (eq mgr--session session)
+        (let ((lacks (> (mgr--session-made session) (mgr--session-kept session))))
+          (setq mgr--session nil mgr-mode nil)
+          (setf (mgr--session-is-over session) t)
+          (mapc (lambda (each) (delete-overlay (cdr each))) (mgr--session-others session))
+          (mgr--take-down (mgr--session-is-left session))
+          (set-buffer-modified-p (or lacks (not (mgr--session-is-left session))))
+          (when (or lacks (not (mgr--session-is-left session)))
+            (mgr--warn lacks why))
+          (force-mode-line-update))))))
+
+(defun mgr--warn (lacks why)
+  "Say that the note is not open any more and WHY; LACKS, that the buffer has more."
+  (setq buffer-offer-save t)
+  (display-warning 'mgr
+                   (format "%s is not live any more%s.  %s" (buffer-name)
+                           (if (string-empty-p why) "" (concat ": " why))
+                           (if lacks
+                               "This buffer has words that the note lacks: save it, and open the note again"
+                             "The note has all that this buffer has: `mgr-open' opens it again"))
+                   (if lacks :error :warning)))
+
+(defun mgr--leave (session)
+  "Leave SESSION, once all is saved."
+  (let ((process (mgr--session-process session)))
+    (setf (mgr--session-is-left session) t)
+    (when (process-live-p process)
+      (process-send-eof process)
+      (while (process-live-p process)
+        (accept-process-output process 0.1)))
+    ;; What it said last may not be taken yet, nor its end.
+    (while (accept-process-output process 0.05))
+    (mgr--end session (mgr--told process))))
+
+(defun mgr--may-be-killed ()
+  "Have mgr put the text, so that nobody is asked whether it may go."
+  (when (and mgr--session (buffer-modified-p))
+    (ignore-errors (mgr-save)))
+  t)
+
+(defun mgr--leave-killed ()
+  "Leave the note whose buffer is killed."
+  (when mgr--session
+    (mgr--leave mgr--session)))
+
+(defun mgr--leave-all ()
+  "Leave all notes."
+  (dolist (buffer (buffer-list))
+    (when (buffer-live-p buffer)
+      (with-current-buffer buffer
+        (mgr--leave-killed)))))
+
+(add-hook 'kill-emacs-hook #'mgr--leave-all)
+
+(defun mgr--enter (name words)
+  "Go to the buffer of the note NAME; if it is not open, open it with these WORDS."
+  (let* ((name (expand-file-name (string-remove-suffix ".ops" name))) (buffer (find-buffer-visiting name)))
+    (cond ((file-remote-p name) (user-error "A note is a file of this machine"))
+          ((and buffer (buffer-local-value 'mgr--session buffer)) (ignore buffer))
+          ((and buffer (buffer-modified-p buffer)) (user-error "%s has changes: save it first" buffer))
+          (t (when buffer (kill-buffer buffer))
+             (setq buffer (mgr--start name words))))
+    (pop-to-buffer-same-window buffer)))
+
+;;;###autoload
+(defun mgr-open (name)
+  "Open the note NAME, the file of its text."
+  (interactive "FNote: ")
+  (mgr--enter name nil))
+
+;;;###autoload
+(defun mgr-join (place &optional name)
+  "Write with all others at PLACE, in a copy of the note by this NAME.
+PLACE is HOST:PATH, the note of an mgr-hub by ssh; a port of this machine; or
+dir:FOLDER, git:REPOSITORY#BRANCH or redis://HOST/KEY."
+  (interactive
+   (let ((place (read-string "Join (HOST:NOTE, a port, dir:, git:, redis:): ")))
+     (list place (read-file-name "Note: " nil nil nil (mgr--name-of place)))))
+  (mgr--enter (or name (expand-file-name (mgr--name-of place))) (list "--with" place)))
+
+(defun mgr--name-of (place)
+  "Return a name for a copy of the note at PLACE."
+  (let ((name (replace-regexp-in-string "\\`.*[:/#]" "" place)))
+    (if (string-match-p "\\`[0-9]*\\'" name) "note" name)))
+
+(defun mgr-leave ()
+  "Leave the note, which is saved; its buffer stays, as that of a file."
+  (interactive)
+  (mgr--leave (mgr--live-session)))
+
+(provide 'mgr)
+;;; mgr.el ends here
