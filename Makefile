@@ -7,7 +7,10 @@ MANDIR = $(PREFIX)/share/man
 DATADIR = $(PREFIX)/share/mgr
 DOCDIR = $(PREFIX)/share/doc/mgr
 COMPDIR = $(PREFIX)/share/bash-completion/completions
+ZSHDIR = $(PREFIX)/share/zsh/site-functions
+FISHDIR = $(PREFIX)/share/fish/vendor_completions.d
 LISPDIR = $(PREFIX)/share/emacs/site-lisp
+FOLDERS = $(foreach name,DESTDIR BINDIR MANDIR DATADIR DOCDIR COMPDIR ZSHDIR FISHDIR LISPDIR,"$(name)=$($(name))")
 
 MAKEFLAGS += --no-print-directory
 
@@ -20,7 +23,7 @@ NEED_RT = command -v rt >/dev/null || { \
 
 NEED_PYTHON = command -v python3 >/dev/null || { echo "python3 is not installed" >&2; exit 1; }
 
-.PHONY: build try scenes test-front try-live try-hub try-exchange try-sharing try-engines try-emacs crash hostile files test gate wrong-bodies other-store contracts bench bench-growth bench-live install uninstall clean help
+.PHONY: build try scenes test-front try-live try-hub try-exchange try-sharing try-engines try-emacs crash hostile files test gate wrong-bodies other-store contracts bench bench-growth bench-live install uninstall dist try-install clean help
 
 build: build/mgr
 	@echo "build/mgr is up to date"
@@ -135,35 +138,24 @@ build/generate build/native: build/%: bench/%.rs
 	@mkdir -p build
 	@rustc --edition 2021 -O -o $@ $<
 
+# What goes where stands in the script.
 install: build/mgr
-	mkdir -p "$(DESTDIR)$(BINDIR)" "$(DESTDIR)$(MANDIR)/man1" "$(DESTDIR)$(DATADIR)/mgr_front/channels" \
-		"$(DESTDIR)$(DOCDIR)" "$(DESTDIR)$(COMPDIR)" "$(DESTDIR)$(LISPDIR)"
-	for program in mgr mgr-live mgr-channel mgr-hub; do rm -f "$(DESTDIR)$(BINDIR)/$$program" || exit 1; done
-	cp build/mgr "$(DESTDIR)$(BINDIR)"
-	for program in mgr-live mgr-channel mgr-hub; do \
-		sed 's|^INSTALLED = .*|INSTALLED = "$(DATADIR)"|' front/$$program >"$(DESTDIR)$(BINDIR)/$$program" && \
-		chmod 755 "$(DESTDIR)$(BINDIR)/$$program" || exit 1; done
-	rm -f "$(DESTDIR)$(DATADIR)/mgr_front"/*.py "$(DESTDIR)$(DATADIR)/mgr_front"/channels/*.py
-	cp front/mgr_front/*.py "$(DESTDIR)$(DATADIR)/mgr_front"
-	cp front/mgr_front/channels/*.py "$(DESTDIR)$(DATADIR)/mgr_front/channels"
-	cp docs/mgr.1 docs/mgr-live.1 "$(DESTDIR)$(MANDIR)/man1"
-	ln -sf mgr-live.1 "$(DESTDIR)$(MANDIR)/man1/mgr-hub.1"
-	ln -sf mgr-live.1 "$(DESTDIR)$(MANDIR)/man1/mgr-channel.1"
-	cp docs/guide.md docs/commands.md "$(DESTDIR)$(DOCDIR)"
-	cp front/completions.bash "$(DESTDIR)$(COMPDIR)/mgr"
-	ln -sf mgr "$(DESTDIR)$(COMPDIR)/mgr-live"
-	ln -sf mgr "$(DESTDIR)$(COMPDIR)/mgr-hub"
-	ln -sf mgr "$(DESTDIR)$(COMPDIR)/mgr-channel"
-	cp editors/emacs/mgr.el "$(DESTDIR)$(LISPDIR)"
+	@$(NEED_PYTHON)
+	@scripts/install.py put $(FOLDERS)
 
-# What install put there, and no folder that has something else.
 uninstall:
-	for program in mgr mgr-live mgr-channel mgr-hub; do \
-		rm -f "$(DESTDIR)$(BINDIR)/$$program" "$(DESTDIR)$(MANDIR)/man1/$$program.1" "$(DESTDIR)$(COMPDIR)/$$program" || exit 1; done
-	rm -rf "$(DESTDIR)$(DATADIR)/mgr_front"
-	rm -f "$(DESTDIR)$(LISPDIR)/mgr.el" "$(DESTDIR)$(DOCDIR)/guide.md" "$(DESTDIR)$(DOCDIR)/commands.md"
-	for folder in "$(DESTDIR)$(DATADIR)" "$(DESTDIR)$(DOCDIR)"; do \
-		if [ -d "$$folder" ]; then rmdir --ignore-fail-on-non-empty "$$folder"; fi; done
+	@$(NEED_PYTHON)
+	@scripts/install.py remove $(FOLDERS)
+
+# For machines without the prover: an archive and a package of Debian, in build/dist.
+dist: build/mgr
+	@$(NEED_RT); $(NEED_PYTHON)
+	@scripts/dist.py build/mgr
+
+# Both, in a fresh root of Debian. It takes some three minutes, and needs root and a network.
+try-install:
+	@$(NEED_PYTHON)
+	@scripts/try_install.py
 
 clean:
 	rm -rf build crates/*/out
@@ -219,12 +211,17 @@ help:
 	@echo "               measures writing together by mgr-hub, Redis and git, beside mg, Emacs, crdt.el and tmux where they are"
 	@echo "               installed (needs python3)"
 	@echo "make install   copies mgr, mgr-live, mgr-channel and mgr-hub to BINDIR, their parts to DATADIR, their manuals to"
-	@echo "               MANDIR/man1, the guide and the list of commands to DOCDIR, completions for bash to COMPDIR, and mgr.el"
-	@echo "               to LISPDIR"
-	@echo "               (BINDIR=$(BINDIR), DATADIR=$(DATADIR), MANDIR=$(MANDIR),"
-	@echo "               DOCDIR=$(DOCDIR), COMPDIR=$(COMPDIR)"
-	@echo "               and LISPDIR=$(LISPDIR), by PREFIX=$(PREFIX);"
-	@echo "               DESTDIR is put before them)"
+	@echo "               MANDIR/man1, the guide and the list of commands to DOCDIR, completions for bash, zsh and fish to"
+	@echo "               COMPDIR, ZSHDIR and FISHDIR, and mgr.el to LISPDIR (needs python3). They are, by PREFIX=$(PREFIX),"
+	@echo "               BINDIR=$(BINDIR), DATADIR=$(DATADIR), MANDIR=$(MANDIR),"
+	@echo "               DOCDIR=$(DOCDIR), COMPDIR=$(COMPDIR),"
+	@echo "               ZSHDIR=$(ZSHDIR), FISHDIR=$(FISHDIR)"
+	@echo "               and LISPDIR=$(LISPDIR); DESTDIR is put before them"
 	@echo "make uninstall"
 	@echo "               removes what make install put there, with the same words"
+	@echo "make dist      packs mgr for machines without the prover, in build/dist: an archive with an install.sh, and a package"
+	@echo "               of Debian (needs python3, dpkg-dev and binutils; lintian looks at it, if it is installed)"
+	@echo "make try-install"
+	@echo "               installs what make dist packed in a fresh root of Debian, has two write there, and removes it"
+	@echo "               (needs python3, root, a network and debootstrap)"
 	@echo "make clean     removes what was built and proved"

@@ -1,5 +1,5 @@
 # Completions of bash for mgr, mgr-live, mgr-channel and mgr-hub: options, and notes by the names of their files.
-# `make install` puts them where bash looks for them; without it this file is to be sourced.
+# `make install` puts them where bash looks for them. Without it, source this file.
 
 # Folders and notes whose names begin so. A log stands for its note; what is kept beside one is left out.
 _mgr_notes() {
