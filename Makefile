@@ -23,7 +23,7 @@ NEED_RT = command -v rt >/dev/null || { \
 
 NEED_PYTHON = command -v python3 >/dev/null || { echo "python3 is not installed" >&2; exit 1; }
 
-.PHONY: build try scenes test-front try-live try-hub try-exchange try-sharing try-engines try-emacs crash hostile files test gate wrong-bodies other-store contracts bench bench-growth bench-live install uninstall dist try-install clean help
+.PHONY: build try scenes test-front try-live try-hub try-exchange try-sharing try-engines try-emacs crash hostile files test gate wrong-bodies other-store contracts bench bench-growth bench-live pictures install uninstall dist try-install clean help
 
 build: build/mgr
 	@echo "build/mgr is up to date"
@@ -49,6 +49,7 @@ test-front:
 # The front, in a terminal of tmux. It takes some five minutes.
 try-live: build/mgr
 	@scripts/try_live.py build/mgr
+	@scripts/pictures.py --check two-people build/mgr
 
 # A hub, and those who are alone at first, have another note or write under one number. It takes three minutes or more.
 try-hub: build/mgr
@@ -133,6 +134,11 @@ bench-live: build/mgr
 	@$(NEED_PYTHON)
 	@bench/live.py
 
+# Draws docs/pictures anew, from sessions in terminals of tmux and from the figures of docs/performance.md.
+pictures: build/mgr
+	@scripts/pictures.py two-people build/mgr
+	@scripts/pictures.py figures
+
 build/generate build/native: build/%: bench/%.rs
 	@command -v rustc >/dev/null || { echo "rustc is not installed" >&2; exit 1; }
 	@mkdir -p build
@@ -210,6 +216,8 @@ help:
 	@echo "make bench-live"
 	@echo "               measures writing together by mgr-hub, Redis and git, beside mg, Emacs, crdt.el and tmux where they are"
 	@echo "               installed (needs python3)"
+	@echo "make pictures  draws docs/pictures: two who write, in terminals of tmux, and the figures of docs/performance.md"
+	@echo "               (needs python3 and tmux)"
 	@echo "make install   copies mgr, mgr-live, mgr-channel and mgr-hub to BINDIR, their parts to DATADIR, their manuals to"
 	@echo "               MANDIR/man1, the guide and the list of commands to DOCDIR, completions for bash, zsh and fish to"
 	@echo "               COMPDIR, ZSHDIR and FISHDIR, and mgr.el to LISPDIR (needs python3). They are, by PREFIX=$(PREFIX),"
