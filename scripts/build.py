@@ -4,19 +4,17 @@
 `rt ci` does the work, in a copy that has these crates alone, without wrong bodies: it proves side by
 side what does not wait for one another, and what it proves the gate need not prove again.
 
-The prover's own words go to build/prove.log, whose end is shown where a crate fails. How long a build
-from nothing took, up to each crate, is kept in build/took.json: a later one says what was left then.
+The prover's own words go to build/prove.log, whose end is shown if a crate fails. When each crate was done in a
+build from nothing is kept in build/took.json: a later one says how long what is left took then.
 """
 
-import json
 import os
 import pathlib
-import re
 import shutil
-import subprocess
 import sys
 import tempfile
-import time
+
+from progress import Progress
 
 TOP = pathlib.Path(__file__).resolve().parent.parent
 BUILD = TOP / "build"
@@ -25,7 +23,6 @@ TOOK = BUILD / "took.json"
 PROGRAM = "mgr"
 
 LEFT_OUT = shutil.ignore_patterns("out", "must-fail", "wrong")
-TOLD = re.compile(r"rt: (\w+) (is kept|proved|NOT PROVED)")
 
 
 def listed():
@@ -55,37 +52,15 @@ def copy(lines, to):
         shutil.copytree(TOP / "crates" / crate, to / "crates" / crate, ignore=LEFT_OUT)
 
 
-def minutes(seconds):
-    whole = max(1, round(seconds / 60))
-    return f"{whole} minute{'s' if whole > 1 else ''}"
-
-
-def left_after(crate, earlier):
-    """Returns what is said of how long the rest took in an earlier build from nothing; nothing where there was none."""
-    left = max(earlier.values()) - earlier[crate] if crate in earlier else 0
-    return f"; the rest took {minutes(left)} the last time" if left else ""
-
-
 def prove(tree, count):
-    """Proves the crates of a copy, and says of each when it is done; ends the program where one fails."""
-    how = {"stdin": subprocess.DEVNULL, "stdout": subprocess.PIPE, "stderr": subprocess.STDOUT, "errors": "replace"}
-    earlier = json.loads(TOOK.read_text()) if TOOK.is_file() else {}
-    took, done, begun = {}, 0, time.monotonic()
-    if not earlier:
-        print(f"{count} crates, which take half an hour or more if none is kept; {LOG.relative_to(TOP)} says more", flush=True)
-    with LOG.open("w") as kept, subprocess.Popen(["rt", "ci"], cwd=tree, text=True, **how) as gate:
-        for line in gate.stdout:
-            kept.write(line)
-            if told := TOLD.match(line):
-                done += 1
-                if told[2] == "proved":
-                    took[told[1]] = time.monotonic() - begun
-                print(f"{done} of {count}: {told[1]} {told[2]}{left_after(told[1], earlier)}", flush=True)
-    if not gate.returncode and len(took) == count:
-        TOOK.write_text(json.dumps(took))
-    if gate.returncode:
-        print(*LOG.read_text().splitlines()[-30:], sep="\n", file=sys.stderr)
-        sys.exit(f"{PROGRAM} is not proved: these are the last lines of {LOG.relative_to(TOP)}")
+    """Proves the crates of a copy, and says of each when it is done; ends the program if one fails."""
+    progress = Progress(count, LOG, TOOK)
+    status, _ = progress.run(tree)
+    if status:
+        progress.show_faults()
+        sys.exit(f"{PROGRAM} is not proved: {LOG.relative_to(TOP)} has more")
+    if len(progress.proved) == count:
+        progress.keep()
 
 
 def main():

@@ -3,18 +3,19 @@
 with the mgr that it built. With --wrong-bodies `rt ci` goes on over the tree as it stands: it takes what was proved,
 and tries the named wrong bodies.
 
-The last line counts proofs, tests, scenes, keys at which growths are refused, and wrong bodies together.
+What rt says goes to build/test.log and build/gate.log; here stands how much is done and left, and what failed. The
+last line counts proofs, tests, scenes, keys at which growths are refused, and wrong bodies together.
 """
 
 import pathlib
 import re
-import subprocess
 import sys
 import tempfile
 
 import build
 import refused_growths
 import scenes
+from progress import Progress
 
 VERDICT = re.compile(r"(\d+) passed, (\d+) failed$")
 
@@ -23,26 +24,27 @@ def main():
     with tempfile.TemporaryDirectory(prefix="mgr-test-") as folder:
         tree = pathlib.Path(folder) / "tree"
         build.copy(build.listed(), tree)
-        parts = [proved(tree), *played(tree / "crates/mgr/out/mgr")]
+        parts = [proved(tree, "test"), *played(tree / "crates/mgr/out/mgr")]
     if "--wrong-bodies" in sys.argv[1:]:
-        parts.append(proved(build.TOP))
+        parts.append(proved(build.TOP, "gate"))
     passed, failed = map(sum, zip(*parts))
     print(f"{passed} passed, {failed} failed")
     return 1 if failed or not passed else 0
 
 
-def proved(tree):
-    """Runs rt ci in a tree, whose words go on as they come, and returns what its last line counts."""
-    gate = subprocess.Popen(["rt", "ci"], cwd=tree, stdout=subprocess.PIPE, text=True, errors="replace")
-    last = ""
-    for line in gate.stdout:
-        print(last, end="", flush=True)
-        last = line
-    counts = VERDICT.match(last.strip())
-    if not counts:
-        print(last, end="")
+def proved(tree, name):
+    """Runs rt ci in a tree, says how far it has come, and returns what its last line counts."""
+    build.BUILD.mkdir(exist_ok=True)
+    progress = Progress(len(build.listed()), build.BUILD / f"{name}.log", build.BUILD / f"took-{name}.json")
+    status, last = progress.run(tree)
+    counts = next(filter(None, map(VERDICT.match, reversed(last))), None)
     passed, failed = map(int, counts.groups()) if counts else (0, 0)
-    return passed, failed if gate.wait() == 0 else max(failed, 1)
+    if status or failed or not counts:
+        progress.show_faults()
+        return passed, max(failed, 1)
+    progress.keep()
+    print(counts[0], flush=True)
+    return passed, failed
 
 
 def played(mgr):
