@@ -8,7 +8,7 @@ they are. They are found by name, so that a variable with the name of a definiti
 definition. What the sources declare, types and how these are seen, is not followed. Behind names
 `--down-to mg_plain,mg_keys` prints these definitions themselves, down to those of these crates and of
 the crates below them.
-With --claim: what is to be read to audit the claim of README.md, which are the definitions that the
+With --claim: what is to be read to audit the claim of README.md, part by part in docs/promises.md, which are the definitions that the
 contracts of its table reach, by file; and behind them, by file, those that no such contract reaches.
 """
 
@@ -178,8 +178,8 @@ def listed_crates():
 
 
 def claimed():
-    """Returns the contracts that the table of README.md names, as (crate, name)."""
-    rows = re.findall(r"^\|[^|]*\|([^|]*)\|([^|]*)\|$", (CRATES.parent / "README.md").read_text(), re.M)
+    """Returns the contracts that the table of the claim names, as (crate, name)."""
+    rows = re.findall(r"^\|[^|]*\|([^|]*)\|([^|]*)\|$", (CRATES.parent / "docs/promises.md").read_text(), re.M)
     ticked = re.compile(r"`([\w:]+)`")
     return {(crate, name) for names, crates in rows for crate in ticked.findall(crates) for name in ticked.findall(names)}
 

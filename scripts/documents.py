@@ -1,5 +1,5 @@
 #!/usr/bin/env python3
-"""Says which links and which names in backquotes of the documents lead nowhere.
+"""Says which links and which names in backquotes of the documents lead nowhere, and which words are not to stand there.
 
 A link leads to a file, and to a heading where it names one. Of what stands in backquotes these are
 names: a path of this repository, or of one of its crates; a target of make; an option, which the
@@ -7,16 +7,41 @@ sources have to know; a word, or words with `::` between them, which stand in th
 table of contracts, as `Taker::apply`: `exact`, `same`, each name before a colon is a public call or
 a type of the sources, and each one behind it a clause, or a call, of these. Exits with 1 where one
 is not there.
+
+Then it looks at the words of documents and manuals: how many there are, which phrases stay away, whether the newest
+version of CHANGELOG.md is that of the program, whether the figures that are drawn are those of docs/performance.md,
+and, if codespell is installed, how they are spelled.
 """
 
 import pathlib
 import re
+import shutil
+import subprocess
 import sys
 
 import contracts
+import drawing
+import pictures
 
 ROOT = pathlib.Path(__file__).resolve().parent.parent
-DOCUMENTS = [ROOT / "README.md", *sorted((ROOT / "docs").glob("*.md"))]
+DOCUMENTS = [*sorted(ROOT.glob("*.md")), *sorted((ROOT / "docs").glob("*.md"))]
+MANUALS = sorted((ROOT / "docs").glob("*.1"))
+# At most so many words: in one document, and in all of docs/.
+MOST = {"README.md": 1000, "docs": 24_000}
+# What is said in plainer words, by what takes its place.
+PHRASES = {
+    r"behind": "after",
+    r"(in|for) want of": "without",
+    r"want of memory": "out of memory",
+    r"tells": "says, reports",
+    r"a begin|line begin|begin of": "beginning",
+    r"in order to": "to",
+    r"utili[sz]e": "use",
+    r"whereby|therein|thereof|hereby|heretofore": "by which, in it, of it",
+    r"deeds?|slang": "what is done",
+    r"simply|obviously|of course|easily": "nothing",
+}
+KNOWN_WORDS = "crate,crates,nd,fo,neight"
 SOURCES = ("*", "bench/*", "crates/**/*", "docs/mgr.1", "editors/**/*", "examples/**/*", "front/*", "scripts/*")
 ENDINGS = (".md", ".py", ".sh", ".rs", ".rt", ".antt", ".edit", ".txt")
 WORDS = re.compile(r"[A-Za-z_]\w*(?:::\w+)*")
@@ -33,7 +58,7 @@ def source_words():
 
 
 def is_path(text):
-    places = (".", "docs", "crates", "crates/*", "crates/*/specs")
+    places = (".", "docs", "crates", "crates/*", "crates/*/specs", "scripts/packing")
     return bool(PATH.fullmatch(text)) and any(True for place in places for _ in ROOT.glob(f"{place}/{text}"))
 
 
@@ -113,13 +138,53 @@ def faults():
                     yield document, number, text, fault
 
 
+def word_faults():
+    """Yields which phrases stand in documents and manuals that stay away, outside of code."""
+    for document in [*DOCUMENTS, *MANUALS]:
+        text = re.sub(r"^(```.*?^```|    .*?)$", lambda code: "\n" * code[0].count("\n"), document.read_text(), flags=re.M | re.S)
+        for number, line in enumerate(text.splitlines(), 1):
+            for phrase, better in PHRASES.items():
+                if found := re.search(rf"\b({phrase})\b", re.sub(r"`[^`]*`", "", line), re.I):
+                    yield document, number, found[0], f"better: {better}"
+
+
+def faults_of_bounds():
+    """Yields which documents have more words than they may."""
+    for name, most in MOST.items():
+        path = ROOT / name
+        texts = [path] if path.is_file() else [*path.glob("*.md"), *path.glob("*.1")]
+        if (words := sum(len(text.read_text().split()) for text in texts)) > most:
+            yield path, 1, name, f"{words} words, and at most {most}"
+
+
+def faults_of_versions():
+    """Yields whether programs, changes and pictures differ from one another."""
+    newest = re.search(r"^## ([\d.]+)", (ROOT / "CHANGELOG.md").read_text(), re.M)[1]
+    for name in ("front/mgr_front/__init__.py", "crates/mgr_args/src/command.rt"):
+        if f'VERSION = "{newest}"' not in (ROOT / name).read_text().replace(": &str", ""):
+            yield ROOT / "CHANGELOG.md", 1, newest, f"not the version of {name}"
+    if drawing.texts(pictures.figures()) != drawing.texts((pictures.PICTURES / "figures.svg").read_text()):
+        yield pictures.PICTURES / "figures.svg", 1, "figures", "not those of docs/performance.md: scripts/pictures.py figures"
+
+
+def spelling_faults():
+    """Yields what codespell finds, if it is installed."""
+    if shutil.which("codespell") is None:
+        print("codespell is not installed: nobody looked at the spelling")
+        return
+    done = subprocess.run(["codespell", "-L", KNOWN_WORDS, *DOCUMENTS, *MANUALS], capture_output=True, text=True)
+    for line in done.stdout.splitlines():
+        path, number, said = line.split(":", 2)
+        yield pathlib.Path(path), int(number), said.strip(), "spelling"
+
+
 def main():
-    found = list(faults())
+    found = [*faults(), *faults_of_versions(), *spelling_faults()]
     for document, number, text, fault in found:
         print(f"{document.relative_to(ROOT)}:{number}: `{text}`: {fault}", file=sys.stderr)
     if found:
         sys.exit(1)
-    print("the documents: each link and each name in backquotes is there")
+    print("the documents: each link and each name in backquotes is there, and no phrase that stays away")
 
 
 if __name__ == "__main__":
