@@ -179,7 +179,7 @@ def spelling_faults():
 
 
 def main():
-    found = [*faults(), *faults_of_versions(), *spelling_faults()]
+    found = [*faults(), *word_faults(), *faults_of_bounds(), *faults_of_versions(), *spelling_faults()]
     for document, number, text, fault in found:
         print(f"{document.relative_to(ROOT)}:{number}: `{text}`: {fault}", file=sys.stderr)
     if found:

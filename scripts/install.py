@@ -11,8 +11,8 @@ import sys
 TOP = pathlib.Path(__file__).resolve().parent.parent
 FRONT = TOP / "front"
 PROGRAMS = ("mgr-live", "mgr-channel", "mgr-hub")
-# A script of the front finds its modules by this line.
-INSTALLED = "INSTALLED = "
+# A script of the front finds its modules by this line, and a manual names documents by this folder.
+INSTALLED, DOCUMENTS = "INSTALLED = ", ".Pa share/doc/mgr/"
 
 # The files that are copied as they are, by their folders, each under its own name or under the one that is given.
 FILES = {
@@ -70,7 +70,10 @@ def put(place, mgr=TOP / "build" / "mgr"):
         for old in place("DATADIR", module).glob("*.py"):
             old.unlink()
     for source, target in place.files():
-        shutil.copyfile(source, fresh(target))
+        text = source.read_text()
+        if target.suffix == ".1":
+            text = text.replace(DOCUMENTS, f".Pa {place.folders['DOCDIR']}/")
+        fresh(target).write_text(text)
         target.chmod(0o644)
     for link, target in place.links():
         fresh(link).symlink_to(target)

@@ -24,9 +24,16 @@ find . ! -type d | while read -r file; do
     rm -f "$prefix/$file"
     cp -P "$file" "$prefix/$file"
 done
+# The front finds its modules, and the manuals name their documents, by the prefix.
+for file in bin/mgr-*; do
+    sed "s|^INSTALLED = .*|INSTALLED = \"$prefix/share/mgr\"|" "$file" >"$prefix/$file"
+done
+for file in share/man/man1/mgr.1 share/man/man1/mgr-live.1; do
+    sed "s|^\.Pa /share/|.Pa $prefix/share/|" "$file" >"$prefix/$file"
+done
 {
-    echo "$made"
     find . ! -type d
+    if [ -n "$made" ]; then echo "$made"; fi
     echo ./share/mgr/installed
 } | sort >"$list"
 
