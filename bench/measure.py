@@ -15,6 +15,10 @@ import pathlib
 import subprocess
 import sys
 
+sys.path.append(str(pathlib.Path(__file__).resolve().parent.parent / "scripts"))
+
+import plain_ends  # noqa: E402, F401
+
 SIZES = (1_000, 10_000, 100_000, 1_000_000)
 GREATEST = {
     "typing": 1_000_000,

@@ -3,6 +3,11 @@
 import pathlib
 import resource
 import subprocess
+import sys
+
+sys.path.append(str(pathlib.Path(__file__).resolve().parent.parent / "scripts"))
+
+import plain_ends  # noqa: E402, F401
 
 MEASUREMENTS = 5
 PROGRAM = pathlib.Path(__file__).parent.parent / "build/bench_tasks"

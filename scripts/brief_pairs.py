@@ -23,6 +23,7 @@ import sys
 import tempfile
 from concurrent.futures import ThreadPoolExecutor
 
+import plain_ends
 from compactions import Notes, deletion, insertion
 from session import EXCHANGE, SERVE, Unexpected
 from play.peers import await_listener, free_port
@@ -207,7 +208,7 @@ def expect_shown(mgr, folder, outcome):
 
 
 def main():
-    mgr = str(pathlib.Path(sys.argv[1]).resolve())
+    mgr = plain_ends.named_mgr()
     count = int(sys.argv[2]) if len(sys.argv) > 2 else PAIRS
     with ThreadPoolExecutor(os.cpu_count()) as pool:
         came = list(pool.map(lambda seed: tried(mgr, seed), range(count)))

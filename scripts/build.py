@@ -14,6 +14,7 @@ import shutil
 import sys
 import tempfile
 
+import plain_ends  # noqa: F401
 from progress import Progress
 
 TOP = pathlib.Path(__file__).resolve().parent.parent

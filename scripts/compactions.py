@@ -23,6 +23,7 @@ import sys
 import tempfile
 import threading
 
+import plain_ends
 from session import EXCHANGE, HOST, Session, Unexpected, end_all
 
 LOGS = 1000
@@ -282,7 +283,7 @@ def received(mgr, folder, notes, lines):
 
 
 def main():
-    mgr = str(pathlib.Path(sys.argv[1]).resolve())
+    mgr = plain_ends.named_mgr()
     count = int(sys.argv[2]) if len(sys.argv) > 2 else LOGS
     operations = lines = 0
     for seed in range(count):

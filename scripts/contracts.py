@@ -18,6 +18,8 @@ import signal
 import sys
 import textwrap
 
+import plain_ends  # noqa: F401
+
 CRATES = pathlib.Path(__file__).resolve().parent.parent / "crates"
 CALL = re.compile(r"^( *)(pub )?(?:const )?fn (\w+)", re.M)
 OWNER = re.compile(r"^(?:pub (?:trait (?P<trait>\w+))|trait |impl\b(?P<impl>[^{]*))", re.M)

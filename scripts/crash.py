@@ -25,6 +25,8 @@ import shutil
 import subprocess
 import sys
 
+import plain_ends  # noqa: F401
+
 FOLDER = pathlib.Path(__file__).resolve().parent.parent / "build" / "crash"
 SAVE = b"\x18\x13"
 CALL = re.compile(r"^(?:\[pid +\d+\] |\d+ +)?(\w+)\(")

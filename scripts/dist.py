@@ -19,6 +19,7 @@ import tempfile
 
 import build
 import install
+import plain_ends  # noqa: F401
 
 HERE = pathlib.Path(__file__).resolve().parent
 PACKING = HERE / "packing"

@@ -22,6 +22,7 @@ import sys
 import contracts
 import drawing
 import pictures
+import plain_ends  # noqa: F401
 
 ROOT = pathlib.Path(__file__).resolve().parent.parent
 DOCUMENTS = [*sorted(ROOT.glob("*.md")), *sorted((ROOT / "docs").glob("*.md"))]

@@ -27,6 +27,7 @@ import sys
 import tempfile
 import time
 
+import plain_ends  # noqa: F401
 from notes import Notes, Shown, expect, put
 from play.notation import keys_of, lines_of
 from play.programs import Session, Unexpected, failing, limits, makes_calls_fail

@@ -23,6 +23,7 @@ import subprocess
 import sys
 import time
 
+import plain_ends  # noqa: F401
 from session import COLUMNS, ROWS, SAVE, SECONDS, Session, Unexpected, end_all
 
 FOLDER = pathlib.Path(__file__).resolve().parent.parent / "build" / "files"

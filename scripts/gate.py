@@ -13,6 +13,7 @@ import sys
 import tempfile
 
 import build
+import plain_ends  # noqa: F401
 import refused_growths
 import scenes
 from progress import Progress

@@ -21,6 +21,7 @@ import struct
 import sys
 import time
 
+import plain_ends  # noqa: F401
 from session import COLUMNS, EXCHANGE, HOST, SAVE, SECONDS, SERVE
 from session import Session, Unexpected, await_listener, end_all, free_port, show
 

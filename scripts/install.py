@@ -8,6 +8,8 @@ import pathlib
 import shutil
 import sys
 
+import plain_ends  # noqa: F401
+
 TOP = pathlib.Path(__file__).resolve().parent.parent
 FRONT = TOP / "front"
 PROGRAMS = ("mgr-live", "mgr-channel", "mgr-hub")

@@ -28,6 +28,7 @@ import sys
 import tempfile
 import time
 
+import plain_ends  # noqa: F401
 from live_writer import LEFT, NAME, NEWLINE, REPORT, Writer, report
 from notes import expect
 from play.programs import Unexpected

@@ -13,6 +13,8 @@ import pathlib
 import re
 import sys
 
+import plain_ends  # noqa: F401
+
 ROOT = pathlib.Path(__file__).resolve().parent.parent
 TESTS = re.compile(r"test_|bench_|\w+_test$")
 # How often sources make one, since what was answered is kept by nobody, or since they hide what can't happen.

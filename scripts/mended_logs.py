@@ -24,6 +24,7 @@ import tempfile
 from concurrent.futures import ThreadPoolExecutor
 
 import compactions
+import plain_ends
 from compactions import GREATEST, MOST, SIGNS, deletion, insertion
 from notes import expect
 from play.programs import Unexpected
@@ -434,4 +435,4 @@ def main(mgr, logs=LOGS):
 
 
 if __name__ == "__main__":
-    main(*sys.argv[1:])
+    main(plain_ends.named_mgr(), *sys.argv[2:])

@@ -18,6 +18,7 @@ import sys
 import tempfile
 from concurrent.futures import ThreadPoolExecutor
 
+import plain_ends
 from notes import expect
 
 SETS = 1000
@@ -109,4 +110,4 @@ def main(mgr, sets=SETS):
 
 
 if __name__ == "__main__":
-    main(*sys.argv[1:])
+    main(plain_ends.named_mgr(), *sys.argv[2:])

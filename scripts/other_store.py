@@ -15,6 +15,8 @@ import subprocess
 import sys
 import tempfile
 
+import plain_ends  # noqa: F401
+
 TOP = pathlib.Path(__file__).resolve().parent.parent
 TESTS = ("mg_buffer_test",)
 LEFT_OUT = shutil.ignore_patterns("out", "must-fail", "wrong", "proofs")

@@ -15,6 +15,7 @@ import subprocess
 import sys
 
 import drawing
+import plain_ends  # noqa: F401
 from drawing import CELL, DIM, PAD, Drawing
 from line import Line
 from play.peers import free_port

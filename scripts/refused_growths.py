@@ -20,6 +20,7 @@ import sys
 import time
 from dataclasses import dataclass, field
 
+import plain_ends  # noqa: F401
 from notes import SECONDS, Notes, Shown, expect, put
 from play.notation import lines_of
 from play.peers import await_listener, free_port, listens

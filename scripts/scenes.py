@@ -9,6 +9,7 @@ machine can't play is said to be left out, and counts as neither.
 import pathlib
 import sys
 
+import plain_ends
 from play.notation import Unreadable
 from play.playing import play_all
 from play.reading import scenes_of
@@ -17,8 +18,8 @@ HERE = pathlib.Path(__file__).resolve().parent.parent
 
 
 def main():
-    mgr, *names = sys.argv[1:]
-    passed, failed = played(pathlib.Path(mgr).resolve(), names)
+    mgr = plain_ends.named_mgr()
+    passed, failed = played(pathlib.Path(mgr).resolve(), sys.argv[2:])
     print(f"{passed} passed, {failed} failed")
     return 1 if failed or not passed else 0
 

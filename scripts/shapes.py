@@ -19,6 +19,8 @@ import subprocess
 import sys
 import tempfile
 
+import plain_ends  # noqa: F401
+
 SIZES = (50_000, 100_000, 200_000)
 RUNS, ROUNDS = 3, 6
 TOO_FAST = 1.2

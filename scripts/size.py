@@ -10,6 +10,7 @@ import re
 import sys
 
 import build
+import plain_ends  # noqa: F401
 
 FUNCTION = re.compile(r"^\s*(?:pub(?:\([\w:]+\))? )?(?:(?:const|ghost|unsafe) )*fn ", re.MULTILINE)
 NOT_OF_THE_PRODUCT = re.compile(r"test_|bench_|.*_test$")

@@ -25,6 +25,7 @@ import sys
 import threading
 import time
 
+import plain_ends  # noqa: F401
 from engines import ENGINES, await_that, fail, stop_all
 from live_writer import INSERTED, operations_of
 from terminal import BEHIND, ROOT, Server, Terminal, environment, is_gone

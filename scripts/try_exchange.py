@@ -15,6 +15,7 @@ import pathlib
 import shutil
 import sys
 
+import plain_ends  # noqa: F401
 from session import EXCHANGE, SAVE, SERVE, Session, Unexpected, await_listener, end_all, free_port, show
 
 FOLDER = pathlib.Path(__file__).resolve().parent.parent / "build" / "try-exchange"

@@ -16,6 +16,7 @@ import subprocess
 import sys
 import time
 
+import plain_ends  # noqa: F401
 from engines import HUB, SharedHub, SharedStream, await_that, fail, stop_all
 from terminal import ROOT, Server, text_of
 from try_engines import Trial, state_of

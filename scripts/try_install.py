@@ -12,6 +12,8 @@ import shutil
 import subprocess
 import sys
 
+import plain_ends  # noqa: F401
+
 TOP = pathlib.Path(__file__).resolve().parent.parent
 FOLDER = TOP / "build" / "try-install"
 ROOT = FOLDER / "root"

@@ -14,6 +14,7 @@ import live_ends
 import live_files
 import live_keys
 import live_screen
+import plain_ends  # noqa: F401
 from terminal import ROOT, Server, Terminal, environment
 
 FOLDER = ROOT / "build" / "try-live"

@@ -14,6 +14,8 @@ import shutil
 import subprocess
 import sys
 
+import plain_ends  # noqa: F401
+
 ROOT = pathlib.Path(__file__).resolve().parent.parent
 FOLDER = ROOT / "build" / "try-sharing"
 EXAMPLE = ROOT / "examples" / "git"

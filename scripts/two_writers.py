@@ -10,6 +10,7 @@ import os
 import pathlib
 import pty
 import re
+import shutil
 import signal
 import struct
 import subprocess
@@ -75,6 +76,8 @@ def await_that(what, is_so):
 
 
 def main():
+    if shutil.which("mgr-hub") is None:
+        sys.exit("two_writers.py: mgr-hub is not on PATH")
     for folder in WORDS:
         folder.mkdir()
     hub = subprocess.Popen(["mgr-hub", "note", "--port", PORT], cwd=HUB, stdout=subprocess.PIPE, text=True)

@@ -23,6 +23,7 @@ import subprocess
 import sys
 import tempfile
 
+import plain_ends  # noqa: F401
 from made_refusals import makings
 
 TOP = pathlib.Path(__file__).resolve().parent.parent
