@@ -198,7 +198,7 @@ help:
 	@echo "make other-store"
 	@echo "               runs the tests of documents, buffers and sites over the other store, unproved (needs python3)"
 	@echo "make contracts prints each public call with its clauses, from the sources; of one call, with the definitions that"
-	@echo "               they reach: scripts/contracts.py NAME; with --down-to CRATE,.. behind it these themselves, down to"
+	@echo "               they reach: scripts/contracts.py NAME; with --down-to CRATE,.. after it these themselves, down to"
 	@echo "               those of some crates; what is to be read of the claim: scripts/contracts.py --claim"
 	@echo "               (needs python3)"
 	@echo "make crash     kills saves, compactions, merges and mends at each call of the system, and loads again (needs"

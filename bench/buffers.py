@@ -1,5 +1,5 @@
 #!/usr/bin/env python3
-"""Measures commands on a buffer, each with the view behind it.
+"""Measures commands on a buffer, each with the view after it.
 
 Prints a row a size: the microseconds of user time of a character put in, of a motion, of a line
 killed, in front, of the rest of a line killed and yanked back (both together), of a character put in

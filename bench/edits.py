@@ -2,7 +2,7 @@
 """Measures edits of a document beside one order of its store.
 
 Prints a row a size: the milliseconds of user time of an order; of a character typed in the middle,
-with the anchor behind it and the text; of the same behind an insertion of another replica; of an
+with the anchor after it and the text; of the same after an insertion of another replica; of an
 edit of a thousand changes; and of a deletion of all of the text with its revert. The time of the
 same run with nothing of it done, which makes the document, is taken off. Of several measurements
 the least counts.

@@ -5,14 +5,14 @@ Prints a row a case: who made the operations that are exchanged; the seconds by 
 command of the one that waits to the message of the one that connects; the seconds of user time and
 of the system's of both together; how many operations a second that is by the clock; and what is
 wanted of both times. Both hold the text as a file without a log, so nothing of it is saved when they
-begin. Each sends all that it holds, also where the other knows it: the last row is an exchange behind
+begin. Each sends all that it holds, also where the other knows it: the last row is an exchange after
 another one, with nothing new. From the time of both processes that of the same ones without it is
 taken off, and the least of the measurements counts. That both end with one text is tested. A call by
 hand may name another mgr, and fewer operations.
 
 A second table is of brief exchanges of two notes that differ in 100 operations, 50 of each; the rest
 is on the disk before they begin: the milliseconds by the clock, saves included, and, of another
-exchange through a relay that counts them, the bytes of both ways. Each typed its 50 in a row behind
+exchange through a relay that counts them, the bytes of both ways. Each typed its 50 in a row after
 one log, which is as it was typed, or of which a tenth was deleted; or the 50 are spread over the log.
 """
 
@@ -184,7 +184,7 @@ class Relay(threading.Thread):
 
 
 def brief(mgr, logs, keys, counts_bytes):
-    """Returns the seconds by the clock of a brief exchange behind these keys, or its bytes."""
+    """Returns the seconds by the clock of a brief exchange after these keys, or its bytes."""
     shutil.rmtree(FOLDER, ignore_errors=True)
     port = free_port()
     relay = Relay(port) if counts_bytes else None

@@ -9,13 +9,13 @@ use std::process::ExitCode;
 const USAGE: &str = "usage: generate SHAPE COUNT [SPELLING]
 SHAPE is one of
   typing            three replicas type in rounds, jump and rub out, and merge after each round
-  chain             one replica types on and on, each element behind the one before
+  chain             one replica types on and on, each element after the one before
   waiting           the chain with its last line first: all waits until the last line
   siblings-rising   insertions at the root, in rising order of identifiers
   siblings-falling  insertions at the root, in falling order of identifiers
   author            one replica types, rubs out and goes elsewhere: a quarter are deletions
 A SPELLING other than the usual one is one of
-  loose             the members in another order, with a blank behind each colon and comma
+  loose             the members in another order, with a blank after each colon and comma
   numbered          each character by its number, as \\u0061";
 
 /// How many replicas type at once.
@@ -171,7 +171,7 @@ struct Typing {
     random: Random,
     /// The first is the root.
     elements: Vec<Element>,
-    /// For each replica, the element that it stopped behind.
+    /// For each replica, the element that it stopped after.
     cursors: [usize; REPLICAS as usize],
     clock: u64,
     operations: Vec<Operation>,
@@ -201,7 +201,7 @@ impl Typing {
         }
     }
 
-    /// Where the replica types next: behind a shown element, one of the first `merged` or its own.
+    /// Where the replica types next: after a shown element, one of the first `merged` or its own.
     fn start(&mut self, replica: u16, merged: usize) -> usize {
         let cursor = self.cursors[usize::from(replica) - 1];
         let mut start = if self.random.once_in(JUMP) {
@@ -215,7 +215,7 @@ impl Typing {
         start
     }
 
-    /// Types behind an element, rubbing out now and then.
+    /// Types after an element, rubbing out now and then.
     fn run(&mut self, replica: u16, start: usize, begun: u64) {
         let mut counter = begun;
         let mut cursor = start;
@@ -257,7 +257,7 @@ impl Typing {
     }
 }
 
-/// One who writes a text alone: the shown elements before the cursor, and those behind it, the next one last.
+/// One who writes a text alone: the shown elements before the cursor, and those after it, the next one last.
 struct Author {
     random: Random,
     before: Vec<Id>,
@@ -331,7 +331,7 @@ impl Author {
         self.go_to(place.saturating_sub(200));
     }
 
-    /// The cursor goes behind so many characters, or to the end.
+    /// The cursor goes after so many characters, or to the end.
     fn go_to(&mut self, place: usize) {
         while self.before.len() > place {
             self.behind.extend(self.before.pop());

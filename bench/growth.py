@@ -3,7 +3,7 @@
 
 Prints a row a work: its sizes; the seconds of user and system time that each took, the same run without
 the work taken off; and the exponent, the slope of the logarithm of the time over that of the size. Where
-the whole run is the work its peak memory at the greatest size stands behind. An exchange counts both
+the whole run is the work, its peak memory at the greatest size follows. An exchange counts both
 sides. Of several measurements the least counts. The last line names the works whose exponent is above
 what is wanted. A call by hand may name another mgr, smaller sizes, and the works that it is about.
 """
@@ -55,12 +55,12 @@ def over(editor, files, start, pressed, options=()):
 
 
 def keys(text, pressed, before=lambda n: b"", options=()):
-    """Returns what the keys cost in such a text, behind others that are no part of the work."""
+    """Returns what the keys cost in such a text, after others that are no part of the work."""
     return lambda editor, n: over(editor, {"text": text(n)}, before(n), pressed(n), options)
 
 
 def logged(pressed):
-    """Returns what the keys cost behind a log of so many operations."""
+    """Returns what the keys cost after a log of so many operations."""
     return lambda editor, n: over(editor, {"text.ops": generated("typing", n)}, b"", pressed)
 
 
@@ -152,7 +152,7 @@ def measure(editor, work, part):
     """Prints the row of a work, and returns what it is and its exponent, where that is above what is wanted."""
     sizes = [size // part for size in work.sizes]
     costs = [work.cost(editor, size) for size in sizes]
-    # A difference of two runs may be below what the clock tells.
+    # A difference of two runs may be below what the clock says.
     times = [max(seconds, 1e-4) for seconds, _ in costs]
     slope, peak = exponent(sizes, times), costs[-1][1]
     row = f"{work.what:<54}" + "".join(f"{size:>9,} {time:>7.3f}" for size, time in zip(sizes, times))

@@ -58,7 +58,7 @@ def text_of(size):
 
 
 def editing(count):
-    """Returns so many bytes of keys: words that are typed, and behind each run something else."""
+    """Returns so many bytes of keys: words that are typed, and after each run something else."""
     rng, keys, pressed = random.Random(2), [], 0
     while pressed < count:
         typed = [rng.choice(WORDS).encode() + b" " for _ in range(rng.randint(1, 5))]

@@ -4,9 +4,9 @@
 Prints a row a figure: how often it was measured, and the median and the worst milliseconds by the clock, as a front
 would wait for the lines; what it then reads in them is not counted. They are of a text of 100,000 characters in a
 log: an insertion of another anywhere in the text, up to its status with the frame, and with --changes up to the
-status that tells how the text changed; 100,000 such reports in one stream, and a tenth of them with --changes, up to
+status that says how the text changed; 100,000 such reports in one stream, and a tenth of them with --changes, up to
 the status that counts all; a character typed in the middle, up to its frame, up to the second status, which comes
-once it is in the log, and beside these up to its frame by --trace; a splice anywhere, up to the status that tells its
+once it is in the log, and beside these up to its frame by --trace; a splice anywhere, up to the status that says its
 change, and up to the second one; and a paste of 50 KB. An insertion and a key then are of 990,000 characters, too. A
 call by hand may name another mgr, and fewer characters and measurements.
 """

@@ -167,7 +167,7 @@ impl Text {
         Some(())
     }
 
-    /// What is shown: from the root on each element, and behind it its children by falling
+    /// What is shown: from the root on each element, and after it its children by falling
     /// identifiers. An element that the root does not lead to still waits.
     fn shown(&mut self) -> String {
         let mut shown = String::new();

@@ -3,7 +3,7 @@
 
 Prints a row a command: the operations of its log; the seconds of user and system time of the command, and of the
 runs that it is measured beside; how many times these it takes, and what is wanted of that. Two notes of 100,000
-operations that differ in 100 are merged, 50 of them on each side: typed behind one log, or spread over it. That is
+operations that differ in 100 are merged, 50 of them on each side: typed after one log, or spread over it. That is
 beside the loading of both, by `mgr edit` without keys, and beside `mgr show` of both. `mgr log`, `mgr who` of a
 text of at most 1,000 pieces, and `mgr mend` of a damaged log, are beside `mgr show NAME` of a million operations.
 The runs are done in turn, and the median of each is taken; how much the machine did meanwhile is said at the end.
@@ -75,7 +75,7 @@ class Rows:
 
 
 def behind(log, replica, clock):
-    """Returns a log with half of what differs typed behind it."""
+    """Returns a log with half of what differs typed after it."""
     typed = [insertion(clock + at, clock + at - 1 if at > 1 else 0) for at in range(1, DIFFERENT // 2 + 1)]
     return log + "".join(typed).replace(",9]", f",{replica}]").encode()
 

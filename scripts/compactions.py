@@ -49,7 +49,7 @@ class Notes:
             self.random.shuffle(self.lines)
 
     def row(self):
-        """Insertions, each behind the one before it."""
+        """Insertions, each after the one before it."""
         lengths = (MOST - 1, MOST, MOST + 1, 2 * MOST + 1) if self.long else (1, 1, 2, 3, 9, 40)
         parent = self.parent()
         replica = self.random.randint(1, 3)

@@ -5,11 +5,11 @@ Without an argument: every call of the crates, in the order of crates.txt, tests
 below its file. With names (`run_keys`, `Editor::press`): these calls alone, and below each
 the definitions of specs/ that its clauses reach, and those that these reach, by file, and how many
 they are. They are found by name, so that a variable with the name of a definition counts as the
-definition. What the sources declare, types and how these are seen, is not followed. Behind names
+definition. What the sources declare, types and how these are seen, is not followed. After names
 `--down-to mg_plain,mg_keys` prints these definitions themselves, down to those of these crates and of
 the crates below them.
 With --claim: what is to be read to audit the claim of README.md, part by part in docs/promises.md, which are the definitions that the
-contracts of its table reach, by file; and behind them, by file, those that no such contract reaches.
+contracts of its table reach, by file; and after them, by file, those that no such contract reaches.
 """
 
 import pathlib

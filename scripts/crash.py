@@ -2,7 +2,7 @@
 """Kills saves of `mgr edit` at each call of the system, and loads again.
 
 The argument is a built mgr. A save is run once under strace to list its calls, from the last key
-that is read to the end; then once for each of them, and killed just before it. Behind each kill
+that is read to the end; then once for each of them, and killed just before it. After each kill
 the log has to be the old one or the new one, byte for byte, the text too, and the new text only
 beside the new log; and what is loaded then has to show the old text or the new one. `make crash`
 calls it. It prints a row a call, and ends with an error where one is not as it has to be.
@@ -10,7 +10,7 @@ calls it. It prints a row a call, and ends with an error where one is not as it 
 A compaction, merges and mends are killed before each of their calls likewise: then the log has to be the old one
 or the new one; the old one with a beginning of what is appended too, where that is more than one write takes. A log
 that was replaced has to be kept beside the new one, and what a mend left out of it in notes.ops.refused. Done once
-more, the job has to end as if it had not been killed; where a merge then leaves the older text, behind a mend.
+more, the job has to end as if it had not been killed; where a merge then leaves the older text, after a mend.
 
 A kill is no power cut: that what was synced is on the device, and that a write that was begun is
 there in part, it cannot show. So the cuts of what is appended are tried by hand, one for each

@@ -583,7 +583,7 @@ class SharedStream(Engine):
         self.client.xtrim("note", maxlen=self.chance.randint(0, 5), approximate=False)
 
     def trim(self):
-        """it is trimmed behind its content"""
+        """it is trimmed after its content"""
         try:
             trim(self.url(self.port), self.mgr)
         except Exception as fault:

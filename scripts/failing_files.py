@@ -6,7 +6,7 @@ with EIO, ENOSPC, EINTR and ENOMEM; each of its writes to a file is cut short; a
 are refused, over two saves, until strace is killed. The disk: a tmpfs of 1 MB, which root alone can mount,
 has room for so many pages when a note is saved. The folder takes no new file between two saves; who calls
 this as root has nobody do it. Each time the echo line has to say `File fault`, or the save has to be right:
-a call that writes, syncs or gives a name and is refused is told. Behind it the log has each line of an
+a call that writes, syncs or gives a name and is refused is told. After it the log has each line of an
 earlier save, and loads; the text is the old one or the new one, or, where it is written in place, perhaps a
 part of it, which is told. The next save, with the fault gone, does what is left, and a last word is saved.
 `make hostile` calls it. A row is a call, or a case; what this machine cannot do is said to be left out. It
@@ -51,7 +51,7 @@ FREE_PAGES = (0, 1, 2, 3, 4, 6, 8, 16, 24, 32, 40)
 NOBODY, NOGROUP = "nobody", "nogroup"
 SECONDS = 60
 
-# For how many microseconds strace holds a write before it is done and behind it.
+# For how many microseconds strace holds a write before it is done and after it.
 HELD = 300000
 
 # ---- what is saved
@@ -82,7 +82,7 @@ ON_A_DISK = [
 
 
 class Desk:
-    """A folder in which a case is saved, again and again, and what is there before the save and behind it."""
+    """A folder in which a case is saved, again and again, and what is there before the save and after it."""
 
     def __init__(self, mgr, folder, case):
         self.mgr, self.folder, self.case, self.shown = mgr, folder, case, Shown(mgr)
@@ -114,7 +114,7 @@ class Desk:
         self.low = Notes(self.folder)
 
     def press(self, keys):
-        """Presses keys; returns what the echo line says behind them."""
+        """Presses keys; returns what the echo line says after them."""
         self.session.press(keys_of(keys))
         self.session.await_keys()
         if self.session.has_ended():
@@ -251,7 +251,7 @@ def refuse_load(desk, call, error):
 
 
 def refuse_on(desk, call, error):
-    """Has that call and all of its name behind it refused, over two saves, until strace is killed."""
+    """Has that call and all of its name after it refused, over two saves, until strace is killed."""
     desk.begin(*failing(call.name, f"{error}:when={call.number}+"))
     said = desk.press(SAVE)
     if said != WROTE:

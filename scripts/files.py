@@ -2,7 +2,7 @@
 """Does to the files of a note what other programs do while `mgr edit` has it, and looks for each word.
 
 The argument is a built mgr. Each scene is played in a folder of its own under build/files: the log
-or the text of a note is removed, replaced, written into or put behind another while it is edited; a
+or the text of a note is removed, replaced, written into or put after another while it is edited; a
 note is opened twice; mgr is killed; a log ends within a line; a text or a folder takes no writing.
 Each word that a save said `Wrote` of, and each that another program wrote, then has to be in some
 file: in a text, or in the text that `mgr show` gives of a log. What the echo line says, the
@@ -139,7 +139,7 @@ class Place:
             self.end()
 
     def later(self, *words):
-        """Further sessions: under each name before `shows` one shows the words behind it."""
+        """Further sessions: under each name before `shows` one shows the words after it."""
         middle = words.index("shows")
         for name in words[:middle]:
             self.open(name)
@@ -188,7 +188,7 @@ class Place:
     # ---- other programs
 
     def other(self, name, how, what="nothing"):
-        """A file goes, loses its last byte, is written anew or behind in place, or replaced by a rename."""
+        """A file goes, loses its last byte, is written anew or made longer in place, or replaced by a rename."""
         path, data = self.folder / name, self.data.get(what, f"{what}\n".encode())
         if how == "goes":
             path.unlink()

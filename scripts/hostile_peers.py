@@ -3,7 +3,7 @@
 
 The argument is a built mgr. Each peer is met over a socket of this machine, once by a `mgr edit`
 that connects to it (`M-x replica-exchange`) and once by one that waits for it (`M-x
-replica-serve`). Behind each the echo line has to say what happened; the log has to have what was
+replica-serve`). After each the echo line has to say what happened; the log has to have what was
 typed and what was taken before the fault, byte for byte and nothing else; the text has to be that of
 the log; one that waited and did not hear its peer to the end has to have replied nothing; and the
 editor has to go on: a key is typed, and saved. `make hostile` calls it. It prints a row a peer, and
@@ -68,7 +68,7 @@ def large():
 
 
 def chain(first, behind):
-    """Returns the lines of insertions, each behind the one before it."""
+    """Returns the lines of insertions, each after the one before it."""
     return b"".join(inserted(i, 9, "o", (i - 1, 9 if i > 1 else 0)) for i in range(first, behind))
 
 
@@ -145,20 +145,20 @@ PEERS = [
 
 
 def breaking_off(length):
-    """Returns a peer that closes behind so many bytes of what it has to say."""
+    """Returns a peer that closes after so many bytes of what it has to say."""
     said = XY[:length]
     lines = said[: said.rfind(b"\n") + 1]
     return Peer(f"closes behind {length} bytes", said, None if said == XY else "Cut", lines.replace(end(2), b""), 2)
 
 
 def inattentive(length):
-    """Returns a peer that says nothing, and closes behind so many bytes of what it is told."""
+    """Returns a peer that says nothing, and closes after so many bytes of what it is told."""
     told = len(HEAD + A + end(1))
     return Peer(f"reads {length} bytes", b"", "Socket fault" if length < told else "Cut", reads=length, roles=(CONNECTS,))
 
 
 def ungrateful(length):
-    """Returns a peer that says all, and closes behind so many bytes of the reply."""
+    """Returns a peer that says all, and closes after so many bytes of the reply."""
     return Peer(f"reads {length} bytes of the reply", XY, None, X + Y, 2, reads=length, roles=(WAITS,))
 
 
@@ -265,7 +265,7 @@ peaks = []
 
 
 class Case:
-    """An mgr that meets a peer, on files of its own, and what has to be there behind it."""
+    """An mgr that meets a peer, on files of its own, and what has to be there after it."""
 
     def __init__(self, mgr, peer, role):
         self.mgr, self.peer, self.role = mgr, peer, role
@@ -305,7 +305,7 @@ class Case:
         expect("the window", row, editor.text())
 
     def expect_heard(self, heard):
-        """One that connects sends what it has before it hears; one that waits, nothing behind a fault."""
+        """One that connects sends what it has before it hears; one that waits, nothing after a fault."""
         told = self.own
         if self.role == WAITS:
             told = b"" if self.peer.message else self.own + self.taken

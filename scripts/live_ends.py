@@ -72,7 +72,7 @@ def mgr_is_killed(terminal):
 
 
 def typed_ahead(terminal):
-    """TERM right behind much that is typed"""
+    """TERM right after much that is typed"""
     terminal.begin("notes --replica 1")
     terminal.see("start", {8: mode_line("--", "L1 C0")}, (0, 0))
     text = "".join(f"{i:5} a line that was typed before the end\n" for i in range(2000))

@@ -181,7 +181,7 @@ class Game:
         self.chance, self.counts = random.Random(seed), collections.Counter()
         count = self.chance.choice((2, 2, 3))
         self.writers = [Writer(mgr, folder / str(replica), replica) for replica in range(1, count + 1)]
-        # For each that tells and each that hears, what is under way, and what was given before.
+        # For each that says and each that hears, what is under way, and what was given before.
         self.ways = {(one, other): [] for one in self.writers for other in self.writers}
         self.before = {way: [] for way in self.ways}
         if self.chance.random() < 0.2:

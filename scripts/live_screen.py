@@ -153,7 +153,7 @@ def suspending(terminal):
 
 
 def messages(terminal):
-    """messages, prompts behind them, and the bell"""
+    """messages, prompts after them, and the bell"""
     bells = terminal.folder / "bells"
     terminal.server.run("set-hook", "-g", "alert-bell", f"run-shell 'echo >>{bells}'")
     terminal.begin("notes --replica 1")

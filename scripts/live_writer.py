@@ -214,7 +214,7 @@ class Writer:
             raise Unexpected(f"{self.replica} has ended with {self.process.wait(SECONDS)}, and says {said!r}")
         self.waiting += self.parts.take(written)
 
-    # ---- what it tells
+    # ---- what it says
 
     def next_status(self):
         """Waits for the next status, and takes note of it."""
@@ -238,7 +238,7 @@ class Writer:
         return self.status
 
     def await_append(self, size):
-        """Fills the pipe, so that the session tells nothing more, and waits until the log has another size than before."""
+        """Fills the pipe, so that the session says nothing more, and waits until the log has another size than before."""
         pipe = os.open(f"/proc/self/fd/{self.process.stdout.fileno()}", os.O_WRONLY | os.O_NONBLOCK)
         try:
             while os.write(pipe, FILLER):

@@ -2,11 +2,11 @@
 """Damages random logs and mends them, and looks whether each good line stays and each other byte is kept.
 
 usage: mended_logs.py MGR [LOGS]. Each log is made from a seed, of single lines and runs in any order and spelling,
-and then damaged: cut at any byte, also with another log behind the cut; bytes flipped; identifiers doubled, with
+and then damaged: cut at any byte, also with another log after the cut; bytes flipped; identifiers doubled, with
 another character or parent, alone and in runs; lines of no operation; newlines lost. What a line is, this program
 judges by itself, by docs/lines.md. After `mgr mend` the log has to be, byte for byte, the lines that are
 operations, of each identifier one insertion, and of a run that has another one its other operations; all else has
-to stand behind what stood in note.ops.refused; the old log has to be note.ops~; and the text has to be that of the
+to stand after what stood in note.ops.refused; the old log has to be note.ops~; and the text has to be that of the
 log. What stood under these names may not be lost, nor a text that mgr put before the damage, and modes stay. A
 second mend, and one of a log in order, leaves the log as it is. Then the same lines in another order, and with
 those compacted that can be, are mended to the same note: each takes the other's log, and has nothing new. `make
@@ -108,7 +108,7 @@ def elements(first, count):
 
 
 def inserted(value, signs):
-    """Returns the insertions of these characters, each behind the one before."""
+    """Returns the insertions of these characters, each after the one before."""
     parent = identifier(value["parent"], root=True)
     own = elements(identifier(value["id"]), len(signs))
     require(own[0][0] > parent[0])
@@ -153,7 +153,7 @@ class Mended:
 
     def __init__(self, log):
         *lines, rest = log.split(b"\n")
-        # What stands behind the last newline is taken as a line is, where it is an operation.
+        # What stands after the last newline is taken as a line is, where it is an operation.
         read = [(part, operations(part.removesuffix(b"\n"))) for part in [*(line + b"\n" for line in lines), rest]]
         self.stay = {}
         for inserted, line in (it for _, own in read for it in own):
@@ -197,7 +197,7 @@ ODD = [
 
 
 class Damage:
-    """A log as its lines, without their newlines, and what stands behind the last one."""
+    """A log as its lines, without their newlines, and what stands after the last one."""
 
     def __init__(self, seed):
         self.random = random.Random(seed)
@@ -347,7 +347,7 @@ class Note:
             expect("what a log in order is", states, self.states())
 
     def _after(self, files, wanted):
-        """Returns the files behind a mend: what stood under their names is kept."""
+        """Returns the files after a mend: what stood under their names is kept."""
         after, text = dict(files), self.run("show", given=wanted.log)
         if wanted.refused:
             after["note.ops.~1~" if "note.ops~" in files else "note.ops~"] = files["note.ops"]

@@ -5,10 +5,10 @@ usage: refused_growths.py [--short] MGR [NAME]. A play is files and keys. Each o
 program too, is pressed with its first growth refused, with its second, and so on until none is, each alone and,
 where more is asked for then, once with all that follow. Frame and files then have to be those of a run without
 refusals; or the echo line says `Out of memory`, nothing has changed, and the key pressed again leads to the
-same; or the program ends with status 4 and `out of memory`, and the files are those before that key or behind
+same; or the program ends with status 4 and `out of memory`, and the files are those before that key or after
 it: keys pressed again on them lead to the same text. Logs are whole, and have the lines of every save that said
 `Wrote`. Jobs such as `mgr show`, and exchanges of two, of which one is refused memory, are tried so too. A row
-is a play: how many growths were refused, and behind how many of these mgr went on as without, said so, or
+is a play: how many growths were refused, and after how many of these mgr went on as without, said so, or
 ended. `make hostile` calls it, and `make test` with --short: the keys of one play. A NAME has those alone
 tried that have it in theirs. It ends with an error where something was lost, or not as it has to be.
 """
@@ -35,7 +35,7 @@ WENT_ON, SAID, ENDED, BAD = "went on", "said", "ended", "bad"
 # What a run that is not as it has to be ends with.
 FAULTS = (Unexpected, OSError, subprocess.SubprocessError)
 
-# Behind how many of these a key is left.
+# After how many of these a key is left.
 MOST_FAULTS = 50
 
 # ---- what is played
@@ -142,7 +142,7 @@ def tried(library, name, places, try_once):
     """Refuses at each place each growth in turn, until none is; returns what came of it.
 
     `try_once` answers what came of one refusal, or None where nothing was refused. Where the program asked for
-    more behind it, it is tried once more with that refused too.
+    more after it, it is tried once more with that refused too.
     """
     outcomes = Outcomes(name, places=len(places))
     for place, called in places:
@@ -173,7 +173,7 @@ def once(outcomes, called, try_once, *refusal):
 
 
 class Moment:
-    """What a session shows behind a key, and what its folder has then."""
+    """What a session shows after a key, and what its folder has then."""
 
     def __init__(self, editor, folder):
         self.rows, self.said, self.text = editor.rows(), editor.said(), editor.text()
@@ -230,7 +230,7 @@ class Stage:
 
 
 class Trial:
-    """A play, and what a run of it without refusals shows behind each key."""
+    """A play, and what a run of it without refusals shows after each key."""
 
     def __init__(self, stage, play):
         self.stage, self.folder, self.files = stage, stage.folders[0], play.files
@@ -293,14 +293,14 @@ class Trial:
         return max(i for i, opening in enumerate(self.keys[:at]) if opening == key)
 
     def _press_rest(self, editor, at):
-        """Presses the keys behind that one: each leads to what it leads to without refusals."""
+        """Presses the keys after that one: each leads to what it leads to without refusals."""
         for key, moment in zip(self.keys[at:], self.moments[at + 1 :]):
             editor.press(key)
             moment.expect_shown(editor)
         self._end(editor)
 
     def _replace_again(self, editor, at):
-        """A replacement was done, and query-replace ended for want of memory: it is begun again."""
+        """A replacement was done, and query-replace ended out of memory: it is begun again."""
         expect("the text behind Out of memory", self.moments[at].text, editor.text())
         begin = self._opening("M-%", at)
         ends = [i for i, key in enumerate(self.keys) if key == "RET" and i > begin]
@@ -313,7 +313,7 @@ class Trial:
         self.stage.expect_well(editor)
 
     def _begin_again(self, editor):
-        """The program has ended for want of memory; another is begun on what it left, with the same keys."""
+        """The program has ended out of memory; another is begun on what it left, with the same keys."""
         expect("the end", WANT, editor.close())
         left = Notes(self.folder)
         editor = self.stage.begin(self.folder)

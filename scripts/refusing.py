@@ -15,7 +15,7 @@ from play.programs import Session
 SOURCE = pathlib.Path(__file__).resolve().parent / "refuse_growth.c"
 SIZE = ("--rows", "5", "--cols", "40")
 
-# How a program ends for want of memory.
+# How a program ends out of memory.
 WANT = (4, b"out of memory\n")
 
 
@@ -37,7 +37,7 @@ class Library:
         # A folder in memory may be one from which nothing can be run.
         self.home = pathlib.Path(tempfile.mkdtemp(prefix="mgr-refused-"))
         self.path, self.orders = self.home / "refuse_growth.so", self.folder / "orders"
-        # Whether more was asked for behind the first refusal.
+        # Whether more was asked for after the first refusal.
         self.asked_on = False
         try:
             self._build()
@@ -56,7 +56,7 @@ class Library:
             raise OSError("the library counts nothing")
 
     def refuse(self, first, on):
-        """Sets a mark. From there on that growth is refused, and all behind it where `on` says so."""
+        """Sets a mark. From there on that growth is refused, and all after it where `on` says so."""
         self.shared[:] = self.FORM.pack(0, first, on, 0)
 
     def end(self):

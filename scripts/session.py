@@ -1,6 +1,6 @@
 """A session of `mgr edit`: keys through a pipe, and the frames that come back.
 
-Each session is traced, so that each key has a frame of its own behind it, and what the echo line
+Each session is traced, so that each key has a frame of its own after it, and what the echo line
 says of it can be looked at while the session goes on.
 """
 
@@ -23,7 +23,7 @@ SAVE = b"\x18\x13"
 EXCHANGE = b"\x1bxreplica-exchange\r"
 SERVE = b"\x1bxreplica-serve\r"
 
-# ESC and C-x begin a key: no frame comes behind them.
+# ESC and C-x begin a key: no frame comes after them.
 BEGINNINGS = b"\x1b\x18"
 
 # Those that have not ended.
@@ -70,7 +70,7 @@ class Session:
         return self.message()
 
     def press(self, keys):
-        """Hands keys to mgr; returns what the echo line says behind them."""
+        """Hands keys to mgr; returns what the echo line says after them."""
         self.send(keys)
         return self.settle()
 
@@ -134,9 +134,9 @@ def end_all():
 
 
 def await_listener(number, pause=0.005):
-    """Waits until somebody listens at a port, and looks again behind each pause, in seconds.
+    """Waits until somebody listens at a port, and looks again after each pause, in seconds.
 
-    The system's own table tells it: a connection that only looks would be taken as the peer.
+    The system's own table says it: a connection that only looks would be taken as the peer.
     """
     end = time.monotonic() + SECONDS
     while not listens(number):

@@ -25,7 +25,7 @@ SIZES = (50_000, 100_000, 200_000)
 RUNS, ROUNDS = 3, 6
 TOO_FAST = 1.2
 
-# Seconds: behind which a run is not repeated, and is ended.
+# Seconds: after which a run is not repeated, and is ended.
 LONG, SECONDS = 2, 120
 
 # Shapes that are known to grow too fast: the exponent that each may have, and the reason.
@@ -97,7 +97,7 @@ def two_parents(size):
 
 
 def comb(size):
-    """A chain, and below each of its elements another one that comes behind all of the chain."""
+    """A chain, and below each of its elements another one that comes after all of the chain."""
     half = size // 2
     return chain(half) + [inserted(half + i, i) for i in range(1, half + 1)]
 
@@ -113,7 +113,7 @@ def waiting(size):
 
 
 def folded(state, number, length):
-    """Returns the state of the map's hasher behind a number of so many bytes."""
+    """Returns the state of the map's hasher after a number of so many bytes."""
     product = (state ^ number) * (MULTIPLIER ^ 2 * length)
     return product % WORD ^ product // WORD
 

@@ -104,7 +104,7 @@ class Terminal:
         self.press("Enter")
 
     def begin(self, words, before=""):
-        """Starts mgr-live; behind it the shell tells its status and whether the terminal is as before."""
+        """Starts mgr-live; after it the shell says its status and whether the terminal is as before."""
         self.shell(f"{before} {LIVE} {words}; {BEHIND}")
 
     def programs(self):

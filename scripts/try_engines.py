@@ -88,7 +88,7 @@ class Person:
         self.terminal.begin(f"{NAME} --as writer{self.number} {words}", before=before)
 
     def _is_begun(self):
-        """Whether an edit is shown. Where it is asked which text is gone on with, as behind a kill, it is the log's."""
+        """Whether an edit is shown. Where it is asked which text is gone on with, as after a kill, it is the log's."""
         shown = self.terminal.shown()
         if "f or l?" in shown:
             self.counts["asked"] += 1
@@ -145,7 +145,7 @@ class Person:
         await_that(f"{word} is in the log", lambda: word in logged(), PATIENCE)
 
     def kill(self):
-        """is killed, as for want of memory"""
+        """is killed, as if out of memory"""
         self.await_logged()
         for program in (programs := self.terminal.programs()):
             os.kill(program, signal.SIGKILL)

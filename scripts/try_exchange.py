@@ -3,7 +3,7 @@
 
 The argument is a built mgr. Alice is replica 1 and Bob replica 2, each in a folder of their own
 under build/try-exchange. One waits (`M-x replica-serve`) and the other connects (`M-x
-replica-exchange`), at a free port of 127.0.0.1; behind it both frames, both texts and the texts of
+replica-exchange`), at a free port of 127.0.0.1; after it both frames, both texts and the texts of
 both logs have to be one. Then both edit on and exchange again, the other one waiting. Carol copies
 a log. It ends with what there is without a port, and with nobody waiting. Each step is said, with
 what was seen; the first one that shows something else ends it. `make try-exchange` calls it, and no
@@ -25,7 +25,7 @@ REPLICAS = {"Alice": 1, "Bob": 2, "Carol": 3}
 FIRST = {"Alice": "Buy oat milk", "Bob": "Call the baker\r"}
 BOTH_FIRST = "Call the baker\nBuy oat milk"
 
-# What each does then, from the place where point is: behind what they wrote. DEL deletes before it.
+# What each does then, from the place where point is: after what they wrote. DEL deletes before it.
 THEN = {"Alice": " and rye bread", "Bob": "\x7f today\r"}
 BOTH_THEN = "Call the baker today\nBuy oat milk and rye bread"
 
@@ -41,12 +41,12 @@ class Desk:
         self.editor.settle()
 
     def press(self, keys, wanted):
-        """Presses keys, behind which the echo line has to say this."""
+        """Presses keys, after which the echo line has to say this."""
         self.editor.send(keys)
         self.settle(wanted)
 
     def settle(self, wanted):
-        """Waits for the frames of all keys, behind which the echo line has to say this."""
+        """Waits for the frames of all keys, after which the echo line has to say this."""
         expect(f"what {self.name}'s editor says", wanted, self.editor.settle())
 
     def write(self, text):

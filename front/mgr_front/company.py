@@ -1,4 +1,4 @@
-"""Those who write in the note too: what they do goes to mgr as reports, and what it tells goes to them."""
+"""Those who write in the note too: what they do goes to mgr as reports, and what it says goes to them."""
 
 import json
 import time

@@ -48,7 +48,7 @@ class Talk:
         self.pasted: set[int] = set()
 
     def hand_on(self, keys: bytes) -> None:
-        """Has these keys wait for mgr, behind those that do; one that would begin a report is left out."""
+        """Has these keys wait for mgr, after those that do; one that would begin a report is left out."""
         keys = keys.replace(REPORT, b"")
         self.waiting += keys
         self.untold += keys
@@ -60,7 +60,7 @@ class Talk:
         return self.reports
 
     def paste(self, text: str, more: bool = False) -> None:
-        """Has a text be put in, as one command with what comes behind it if that is more of it."""
+        """Has a text be put in, as one command with what comes after it if that is more of it."""
         self.pasted.update([self.report(line) for line in with_text(text, more, op="paste")])
 
     def resize(self, rows: int) -> None:

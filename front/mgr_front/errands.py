@@ -1,4 +1,4 @@
-"""Errands: commands of the front that press several keys of mgr, one behind the answer to another.
+"""Errands: commands of the front that press several keys of mgr, one after the answer to another.
 
 An errand yields keys and is sent the status that answers the last of them. Nothing is drawn before
 its end. What it returns stands in the echo line then; where that is None, mgr's own does.
@@ -38,7 +38,7 @@ def kill_word_backward() -> Errand:
     """Kills the word before point: sets the mark, goes back over the word, and kills the region.
 
     So the mark is left at point, and the kill does not append to one before it. M-b M-d would leave
-    the mark, but kill all of a word that point stands within, and no blanks behind one.
+    the mark, but kill all of a word that point stands within, and no blanks after one.
     """
     yield SET_MARK
     status = yield BACKWARD_WORD

@@ -21,7 +21,7 @@ EPILOG = (
     "The text is in NAME, its operations in the log NAME.ops. C-x C-s saves, C-x C-c leaves. "
     "mgr(1) has the keys, the files and the statuses. The environment variable MGR names the program mgr."
 )
-CHANNEL = "mgr-channel", "Stands between an editor program and mgr, and takes and tells changes as lines of JSON."
+CHANNEL = "mgr-channel", "Stands between an editor program and mgr, and takes and gives changes as lines of JSON."
 
 # What a command line asks for: members by the names of its options.
 Options = argparse.Namespace

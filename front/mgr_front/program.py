@@ -18,7 +18,7 @@ DEVICE = "device fault"
 
 @dataclass(frozen=True)
 class Log:
-    """What mgr tells of the log of a note."""
+    """What mgr says of the log of a note."""
 
     bytes: int
     operations: int
@@ -46,7 +46,7 @@ def ask(mgr: str, note: Note, *words: str, logs: Sequence[str] = ()) -> bytes:
 
 
 def log_of(mgr: str, note: Note) -> Log | None:
-    """Returns what mgr tells of a note's log, if there is one; `Refused` where it reads none."""
+    """Returns what mgr says of a note's log, if there is one; `Refused` where it reads none."""
     if not note.has_log:
         return None
     told = json.loads(ask(mgr, note, "log", "--json"))

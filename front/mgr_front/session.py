@@ -1,4 +1,4 @@
-"""An edit: keys from the terminal to mgr, and what it tells and shows to the terminal."""
+"""An edit: keys from the terminal to mgr, and what it says and shows to the terminal."""
 
 import math
 import os
@@ -216,7 +216,7 @@ class Session:
         self.rings = self.rings or is_key and not status.begun and status.message in RINGING
 
     def _note(self, status: Status) -> None:
-        """Takes note of what a status tells of buffers."""
+        """Takes note of what a status says of buffers."""
         name = status.buffer
         if name not in self.buffers:
             # A plain text counts as changed from the start.

@@ -16,7 +16,7 @@ KEPT = ("begun", "keys", "message", "mode", "more", "reports", "saved")
 
 @dataclass(frozen=True)
 class Status:
-    """What mgr tells after a block of keys, and the rows of its newest frame."""
+    """What mgr says after a block of keys, and the rows of its newest frame."""
 
     frame: tuple[str, ...] = ()
     cursor: tuple[int, int] = (0, 0)
@@ -60,7 +60,7 @@ class Statuses:
 
     def __init__(self) -> None:
         self.rest = b""
-        # The lines that no whole status has yet, of which the first tells how many are its own, and what it tells.
+        # The lines that no whole status has yet, of which the first says how many are its own, and what it says.
         self.lines: list[bytes] = []
         self.told: dict[str, Any] = {}
         self.frame: tuple[str, ...] = ()

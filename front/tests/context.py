@@ -12,7 +12,7 @@ TESTS = pathlib.Path(__file__).resolve().parent
 sys.path.insert(0, str(TESTS.parent))
 
 BUFFER = {"changed": False, "name": "note", "unsaved": 0, "waiting": 0}
-# The members of a status at the start, but for how many rows and operations stand behind it.
+# The members of a status at the start, but for how many rows and operations stand after it.
 MEMBERS: dict[str, object] = {"begun": False, "buffer": BUFFER, "cursor": [0, 0], "keys": 0, "live": BUFFER}
 MEMBERS |= {"loaded": True, "message": "", "mode": "plain", "more": False, "places": [], "point": [0, 0, 0, 0]}
 MEMBERS |= {"prompt": None, "refused": [], "reports": 0, "saved": "none", "windows": [[1, "note"]]}
@@ -20,7 +20,7 @@ OPERATION = '{"char":"a","id":[1,7],"op":"ins","parent":[0,0]}'
 
 
 def written(frame: Sequence[str] = (), operations: int = 0, **members: object) -> bytes:
-    """Returns a status as mgr writes it, with a frame and so many operations behind it."""
+    """Returns a status as mgr writes it, with a frame and so many operations after it."""
     told = MEMBERS | {"rows": len(frame), "operations": operations} | members
     lines = [json.dumps(told, separators=(",", ":"), sort_keys=True), *frame, *[OPERATION] * operations]
     return "".join(f"{line}\n" for line in lines).encode()

@@ -12,7 +12,7 @@ from mgr_front.program import Log
 
 
 def log_of(operations: int = 10, **written: int) -> Log:
-    """Returns what mgr tells of a log in which these have written up to a counter, as `r1=2`."""
+    """Returns what mgr says of a log in which these have written up to a counter, as `r1=2`."""
     return Log(500, operations, 0, "same", {int(name[1:]): counter for name, counter in written.items()})
 
 

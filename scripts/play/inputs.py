@@ -50,7 +50,7 @@ class Pieces:
 
 
 class Broken:
-    """Bytes, so many at a time or all at once, behind which each further read is refused."""
+    """Bytes, so many at a time or all at once, after which each further read is refused."""
 
     def __init__(self, text, most=None):
         self.text, self.most = text, most or len(text) or 1

@@ -43,7 +43,7 @@ def free_port():
 
 
 def listens(port):
-    """Whether somebody listens at a port: the system's table tells, since a connection would be taken."""
+    """Whether somebody listens at a port: the system's table says, since a connection would be taken."""
     return any(ends[0] == port and state == LISTENING for ends, state, _ in sockets())
 
 
@@ -131,7 +131,7 @@ def stopped(session):
 
 
 class Peer:
-    """One that says a stream, breaks off behind it or does not, and hears to the end.
+    """One that says a stream, breaks off after it or does not, and hears to the end.
 
     It says all at once, or so many bytes at a time: these are read before it says more.
 

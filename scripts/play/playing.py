@@ -1,4 +1,4 @@
-"""Plays scenes, side by side, and tells what differs."""
+"""Plays scenes, side by side, and says what differs."""
 
 import os
 from concurrent.futures import ThreadPoolExecutor

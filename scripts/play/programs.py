@@ -73,7 +73,7 @@ def noting(path):
 
 
 def noted(path, folder):
-    """Returns the calls that were noted and not refused, as `write NAME` or `rename NAME NAME`, one behind the other.
+    """Returns the calls that were noted and not refused, as `write NAME` or `rename NAME NAME`, one after the other.
 
     What is written to no file is left out, and what is written to one in parts is one call.
     """

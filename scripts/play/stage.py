@@ -37,7 +37,7 @@ class Person:
         self.job = None
         # The status and the standard error of what ended last.
         self.ended = None
-        # Whether anything was begun: files are put before, and compared behind it.
+        # Whether anything was begun: files are put before, and compared after it.
         self.has_begun = False
         # How large each file may become.
         self.takes = None

@@ -23,7 +23,7 @@ AGAIN, TRIES, LONGEST = (0.1, 1.0), 10, 60
 FOREIGN = ("GIT_DIR", "GIT_WORK_TREE", "GIT_INDEX_FILE", "GIT_OBJECT_DIRECTORY", "GIT_COMMON_DIR", "GIT_NAMESPACE")
 # What git adds to why it could not reach a repository.
 ADVICE = ("fatal: Could not read from remote", "Please make sure you have", "and the repository exists.")
-# How a line begins that tells of a branch that was not pushed.
+# How a line begins that speaks of a branch that was not pushed.
 NOT_PUSHED = "!\t"
 UNBORN = "main"
 

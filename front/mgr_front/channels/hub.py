@@ -78,7 +78,7 @@ class Hub(Worker):
         self.is_first, self.is_joined = True, False
         # What came of this connection and was not taken.
         self.came: list[bytes] = []
-        # Whether the hub has taken all that it was told, of which it tells at the end alone.
+        # Whether the hub has taken all that it was told, of which it says at the end alone.
         self.is_taken = True
 
     @contextmanager

@@ -79,7 +79,7 @@ def lines_of(entries: Entries) -> bytes:
 def trim(url: str, mgr: str) -> tuple[int, int]:
     """Has one entry of the content take the place of all; returns how many bytes these had, and it has.
 
-    What is written meanwhile stays beside it: a stream's order tells nothing.
+    What is written meanwhile stays beside it: a stream's order says nothing.
     """
     stream = Stream(url)
     try:

@@ -23,7 +23,7 @@ def _put_or_compare(stage, name, content, written):
 
 @word
 def file(stage, about):
-    """Puts a file, before anything was begun; behind that compares it."""
+    """Puts a file, before anything was begun; after that compares it."""
     name, text = parted(about)
     _put_or_compare(stage, name, text_of(text), written_of)
 
@@ -37,7 +37,7 @@ def log(stage, about):
 
 @word
 def holds(stage, about):
-    """`holds NAME | LINES`: the log of a note has these lines, one behind the other."""
+    """`holds NAME | LINES`: the log of a note has these lines, one after the other."""
     name, lines = parted(about)
     wanted, came = lines_of(lines), pathlib.Path(stage.path(f"{name}.ops")).read_bytes()
     stage.compare(wanted, wanted if wanted in came else came, words_of)
@@ -78,7 +78,7 @@ def folder(stage, about):
 
 @word
 def rights(stage, about):
-    """`rights NAME 640` gives a file rights, before anything was begun; behind that compares them."""
+    """`rights NAME 640` gives a file rights, before anything was begun; after that compares them."""
     name, mode = about.split()
     if stage.person.has_begun:
         stage.compare(mode, f"{os.stat(stage.path(name)).st_mode & 0o777:o}")

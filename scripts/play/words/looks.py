@@ -19,7 +19,7 @@ def _text_rows(session):
 
 @word
 def shows(stage, about):
-    """The text of the first window, without the empty rows behind it."""
+    """The text of the first window, without the empty rows after it."""
     rows = "\n".join(_text_rows(seen(stage))).rstrip("\n")
     stage.compare(text_of(about), rows.encode(), written_of)
 

@@ -12,7 +12,7 @@ from play.words.table import parted, word
 def peer(stage, about):
     """`peer waits | LINES` or `peer connects | LINES`: one that says this.
 
-    Behind that word `breaks`: and breaks off; `hears N`: and breaks off once it has heard so many bytes. `pieces N`,
+    After that word `breaks`: and breaks off; `hears N`: and breaks off once it has heard so many bytes. `pieces N`,
     in front of these: it says so many bytes at a time, and goes on once they are read.
     """
     how, text = parted(about)

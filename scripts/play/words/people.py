@@ -75,7 +75,7 @@ def fails(stage, about):
     """`fails CALL FAULT`: from here on that call of the system fails so in what `edit` or `run` begins.
 
     Where the fault is a number the call does nothing, and answers that; `SIGKILL` kills it there. With
-    `:when=N` behind it the Nth of these calls alone fails.
+    `:when=N` after it the Nth of these calls alone fails.
     """
     if not makes_calls_fail():
         raise LeftOut("there is no strace that may trace")

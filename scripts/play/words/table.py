@@ -12,7 +12,7 @@ def word(do):
 
 
 def parted(about):
-    """Returns what stands before and behind a bar."""
+    """Returns what stands before and after a bar."""
     name, bar, text = about.partition("|")
     if not bar:
         raise Unreadable("a bar stands before a text")
