@@ -162,7 +162,7 @@ def faults_of_versions():
     """Yields whether programs, changes and pictures differ from one another."""
     newest = re.search(r"^## ([\d.]+)", (ROOT / "CHANGELOG.md").read_text(), re.M)[1]
     for name in ("front/mgr_front/__init__.py", "crates/mgr_args/src/command.rt"):
-        if f'VERSION = "{newest}"' not in (ROOT / name).read_text().replace(": &str", ""):
+        if not re.search(rf'VERSION(: &str)? = "{re.escape(newest)}[" ]', (ROOT / name).read_text()):
             yield ROOT / "CHANGELOG.md", 1, newest, f"not the version of {name}"
     if drawing.texts(pictures.figures()) != drawing.texts((pictures.PICTURES / "figures.svg").read_text()):
         yield pictures.PICTURES / "figures.svg", 1, "figures", "not those of docs/performance.md: scripts/pictures.py figures"
