@@ -7,16 +7,18 @@ What rt says goes to build/test.log and build/gate.log; here stands how much is 
 last line counts proofs, tests, scenes, keys at which growths are refused, and wrong bodies together.
 """
 
+import json
 import pathlib
 import re
 import sys
 import tempfile
+import time
 
 import build
 import plain_ends  # noqa: F401
 import refused_growths
 import scenes
-from progress import Progress
+from progress import Progress, minutes
 
 VERDICT = re.compile(r"(\d+) passed, (\d+) failed$")
 
@@ -53,7 +55,13 @@ def played(mgr):
     if not mgr.is_file():
         print("the scenes are not played: no mgr was built")
         return [(0, 1)]
-    return [scenes.played(mgr), refused_growths.short(mgr)]
+    took = build.BUILD / "took-scenes.json"
+    last = f", {minutes(json.loads(took.read_text()))} by the last time" if took.is_file() else ""
+    print(f"the scenes are played, and growths of memory refused{last}", flush=True)
+    begun = time.monotonic()
+    parts = [scenes.played(mgr), refused_growths.short(mgr)]
+    took.write_text(json.dumps(time.monotonic() - begun))
+    return parts
 
 
 if __name__ == "__main__":
