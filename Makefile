@@ -32,7 +32,7 @@ build/mgr: $(SOURCES)
 	@$(NEED_RT); $(NEED_PYTHON)
 	@scripts/build.py
 
-# The program, where it was built from these sources: then it is proved.
+# The program, if it was built from these sources: then it is proved.
 BUILT = $(shell $(MAKE) -q build/mgr && echo build/mgr)
 
 # With no such program, the example runs before any proof.
@@ -214,7 +214,7 @@ help:
 	@echo "               runs mgr on 22 works, each at three sizes, and says which grow faster than they should (needs"
 	@echo "               python3 and rustc)"
 	@echo "make bench-live"
-	@echo "               measures writing together by mgr-hub, Redis and git, beside mg, Emacs, crdt.el and tmux where they are"
+	@echo "               measures writing together by mgr-hub, Redis and git, beside mg, Emacs, crdt.el and tmux if they are"
 	@echo "               installed (needs python3)"
 	@echo "make pictures  draws docs/pictures: two who write, in terminals of tmux, and the figures of docs/performance.md"
 	@echo "               (needs python3 and tmux)"

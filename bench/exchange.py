@@ -5,7 +5,7 @@ Prints a row a case: who made the operations that are exchanged; the seconds by 
 command of the one that waits to the message of the one that connects; the seconds of user time and
 of the system's of both together; how many operations a second that is by the clock; and what is
 wanted of both times. Both hold the text as a file without a log, so nothing of it is saved when they
-begin. Each sends all that it holds, also where the other knows it: the last row is an exchange after
+begin. Each sends all that it holds, also if the other knows it: the last row is an exchange after
 another one, with nothing new. From the time of both processes that of the same ones without it is
 taken off, and the least of the measurements counts. That both end with one text is tested. A call by
 hand may name another mgr, and fewer operations.

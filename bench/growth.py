@@ -81,7 +81,7 @@ def compacted(editor, n):
 
 
 def exchanged(parts, rounds):
-    """Returns what the last of so many exchanges costs, where each side has that part of the operations."""
+    """Returns what the last of so many exchanges costs, if each side has that part of the operations."""
 
     def cost(editor, n):
         sizes = [n * part // 2 for part in parts]
@@ -149,7 +149,7 @@ def exponent(sizes, times):
 
 
 def measure(editor, work, part):
-    """Prints the row of a work, and returns what it is and its exponent, where that is above what is wanted."""
+    """Prints the row of a work, and returns what it is and its exponent, if that is above what is wanted."""
     sizes = [size // part for size in work.sizes]
     costs = [work.cost(editor, size) for size in sizes]
     # A difference of two runs may be below what the clock says.

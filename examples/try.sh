@@ -94,7 +94,7 @@ if [ $# -eq 1 ]; then
         cmp build/try/alice/note build/try/bob/note
         echo "Both texts are the same."
     else
-        echo "There was no exchange, as where no socket is allowed. Bob's frame:"
+        echo "There was no exchange, as when no socket is allowed. Bob's frame:"
         cat build/try/bob/frame
     fi
 fi

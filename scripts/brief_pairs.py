@@ -7,7 +7,7 @@ counters are among them. In some pairs one number was used apart: insertions of 
 parent in the other, or both are logs of their own. Each pair is exchanged by two `mgr edit`, and once more, from
 the same logs, by two with `--brief`. Both exchanges have to leave the same operations in each log, the same
 texts, and messages of one kind, line numbers and counts aside: `Sent`, after which both logs have the
-operations of both, or, where an insertion of one is another in the other, `Conflict` at the one that waits and
+operations of both, or, if an insertion of one is another in the other, `Conflict` at the one that waits and
 `Cut` or `Socket fault` at the one that connects. No note comes near its 1,000,000 identifiers, so `Full` is not
 tried. `make hostile` calls it. It ends with an error where one is not so.
 """
@@ -199,7 +199,7 @@ def tried(mgr, seed):
 
 
 def expect_shown(mgr, folder, outcome):
-    """Where a side put its text, it has to be that of its log."""
+    """If a side put its text, it has to be that of its log."""
     for side, text in zip(SIDES, outcome.texts):
         if text is not None:
             with open(folder / side / "note.ops", "rb") as given:

@@ -8,9 +8,9 @@ beside the new log; and what is loaded then has to show the old text or the new 
 calls it. It prints a row a call, and ends with an error where one is not as it has to be.
 
 A compaction, merges and mends are killed before each of their calls likewise: then the log has to be the old one
-or the new one; the old one with a beginning of what is appended too, where that is more than one write takes. A log
+or the new one; the old one with a beginning of what is appended too, if that is more than one write takes. A log
 that was replaced has to be kept beside the new one, and what a mend left out of it in notes.ops.refused. Done once
-more, the job has to end as if it had not been killed; where a merge then leaves the older text, after a mend.
+more, the job has to end as if it had not been killed; if a merge then leaves the older text, after a mend.
 
 A kill is no power cut: that what was synced is on the device, and that a write that was begun is
 there in part, it cannot show. So the cuts of what is appended are tried by hand, one for each
@@ -214,7 +214,7 @@ class JobTrial:
             yield "another file changed"
 
     def faults_of_another(self, left):
-        """Yields what of the files is wrong, where the job is done once more over those that a kill left."""
+        """Yields what of the files is wrong, if the job is done once more over those that a kill left."""
         again = self.run(left)
         if again.get("notes") != self.after.get("notes"):
             # A merge with nothing new leaves an older text, and says so; a mend puts that of the log.

@@ -7,7 +7,7 @@ are refused, over two saves, until strace is killed. The disk: a tmpfs of 1 MB, 
 has room for so many pages when a note is saved. The folder takes no new file between two saves; who calls
 this as root has nobody do it. Each time the echo line has to say `File fault`, or the save has to be right:
 a call that writes, syncs or gives a name and is refused is told. After it the log has each line of an
-earlier save, and loads; the text is the old one or the new one, or, where it is written in place, perhaps a
+earlier save, and loads; the text is the old one or the new one, or, if it is written in place, perhaps a
 part of it, which is told. The next save, with the fault gone, does what is left, and a last word is saved.
 `make hostile` calls it. A row is a call, or a case; what this machine cannot do is said to be left out. It
 ends with an error where something was lost, or not as it has to be.

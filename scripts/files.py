@@ -6,7 +6,7 @@ or the text of a note is removed, replaced, written into or put after another wh
 note is opened twice; mgr is killed; a log ends within a line; a text or a folder takes no writing.
 Each word that a save said `Wrote` of, and each that another program wrote, then has to be in some
 file: in a text, or in the text that `mgr show` gives of a log. What the echo line says, the
-statuses, the files and their modes have to be as they should too. Where root calls it, the scenes
+statuses, the files and their modes have to be as they should too. If root calls it, the scenes
 are played once more as nobody, whom modes bind. `make files` calls it. It prints a row a scene and
 user, with how many of those words are left, and ends with an error where one is not as it has to be.
 """
@@ -50,7 +50,7 @@ def expect(what, wanted, seen):
 
 
 def words_of(mgr, path):
-    """Returns the words of a text, or of the text of a log: that of its whole lines, where it is torn."""
+    """Returns the words of a text, or of the text of a log: that of its whole lines, if it is torn."""
     data = path.read_bytes()
     if ".ops" not in path.name:
         return set(re.findall(r"\w+", data.decode(errors="replace")))
@@ -114,7 +114,7 @@ class Place:
             self.save()
 
     def find(self, name, *said):
-        """C-x C-f. Where it says nothing, the buffer is current."""
+        """C-x C-f. If it says nothing, the buffer is current."""
         self._press(FIND + name.encode() + b"\r", " ".join(said))
         self.name = self.name if said else name
 

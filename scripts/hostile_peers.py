@@ -98,7 +98,7 @@ def silence():
     yield b""
 
 
-# A peer: what it says; mgr's message, where that does not count operations; the lines that mgr takes,
+# A peer: what it says; mgr's message, if that does not count operations; the lines that mgr takes,
 # and how many it counts; how many bytes the peer reads of what it is told; whether it resets its link
 # at the end; whether mgr's user has a large text; and who meets it.
 Peer = collections.namedtuple(
@@ -315,7 +315,7 @@ class Case:
         expect("what the peer heard", told if self.peer.reads is ALL else told[: self.peer.reads], heard)
 
     def go_on(self, editor):
-        """A key is typed at point, and saved. Where there is no room for one, one is taken back."""
+        """A key is typed at point, and saved. If there is no room for one, one is taken back."""
         kept = log()
         if self.taken.count(b"\n") + 1 == LIMIT:
             expect("what a key says", "Buffer full", editor.press(b"k"))

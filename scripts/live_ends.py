@@ -16,7 +16,7 @@ def edit(terminal, words, keys):
 
 
 def ended_by_a_signal(terminal):
-    """TERM, where a prompt is open and two buffers are changed"""
+    """TERM while a prompt is open and two buffers are changed"""
     terminal.begin("notes --replica 1")
     terminal.see("start", {8: mode_line("--", "L1 C0")}, (0, 0))
     terminal.write("first")

@@ -71,7 +71,7 @@ def lines(terminal):
 
 
 def pasting(terminal):
-    """pasted text, also where it looks like keys"""
+    """pasted text, also if it looks like keys"""
     terminal.begin("notes --replica 1")
     terminal.see("start", {8: mode_line("--", "L1 C0")}, (0, 0))
     terminal.paste("y\r\tind\x18\x03\x1b[Aend 漢字\r\n".encode())

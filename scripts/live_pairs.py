@@ -11,7 +11,7 @@ What was told has to stand in the log of who told it at that moment, and from th
 in a block whose second status came has to be told, and each told once there is room again; no report may be refused
 but as `Busy`, `Closed`, `Range` or `Stale`; operations of others leave prompts and messages as they are; and at the
 end all have the same operations and the same text, with nothing that waits or is missing: that of the changes too,
-where these are told. Where root calls it, nobody plays, whom modes bind. `make hostile` calls it. It prints one line,
+if these are told. If root calls it, nobody plays, whom modes bind. `make hostile` calls it. It prints one line,
 or the games that are not as they have to be, with their folders.
 """
 
@@ -245,7 +245,7 @@ class Game:
         return lines
 
     def way_back(self, writer):
-        """Returns keys that lead to the live buffer, where they are commands."""
+        """Returns keys that lead to the live buffer, if they are commands."""
         return CANCEL + (GO_BACK if writer.status["live"] else OPEN_AGAIN)
 
     def give(self, writer, block):

@@ -310,7 +310,7 @@ class Writer:
         self.counts["operations told"] += len(told)
 
     def expect_typed_is_told(self, is_made=False):
-        """Where all is in the log, each character that was typed is told. So it has to be where something was made just
+        """If all is in the log, each character that was typed is told. So it has to be where something was made just
         now, and there is room."""
         live = self.status["live"]
         if live and live["unsaved"] and (self.is_limited or self.is_forgiven or not is_made):

@@ -153,7 +153,7 @@ class Mended:
 
     def __init__(self, log):
         *lines, rest = log.split(b"\n")
-        # What stands after the last newline is taken as a line is, where it is an operation.
+        # What stands after the last newline is taken as a line is, if it is an operation.
         read = [(part, operations(part.removesuffix(b"\n"))) for part in [*(line + b"\n" for line in lines), rest]]
         self.stay = {}
         for inserted, line in (it for _, own in read for it in own):
@@ -304,7 +304,7 @@ class Note:
     def spoil(self, log):
         """Puts another log in the place of its lines.
 
-        Where that is refused it leaves its date, by which mgr knows the text as its own: what is mended has
+        If that is refused it leaves its date, by which mgr knows the text as its own: what is mended has
         another date. One that is in order mgr takes for its own by its date, and then keeps no older text.
         """
         path = self.folder / "note.ops"

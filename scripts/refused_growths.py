@@ -141,7 +141,7 @@ class Outcomes:
 def tried(library, name, places, try_once):
     """Refuses at each place each growth in turn, until none is; returns what came of it.
 
-    `try_once` answers what came of one refusal, or None where nothing was refused. Where the program asked for
+    `try_once` answers what came of one refusal, or None if nothing was refused. If the program asked for
     more after it, it is tried once more with that refused too.
     """
     outcomes = Outcomes(name, places=len(places))
@@ -278,7 +278,7 @@ class Trial:
         return SAID
 
     def _press_again(self, editor, at):
-        """Presses a key again that was refused, or all of what was asked for, where that is asked for no more."""
+        """Presses a key again that was refused, or all of what was asked for, if that is asked for no more."""
         before = self.moments[at - 1]
         if editor.rows() != before.rows:
             self._replace_again(editor, at)
@@ -520,7 +520,7 @@ class ExchangeTrial:
         self.stage.shown.text(now.files.get(name, b""))
 
     def _expect_saved_before_reply(self):
-        """Where Alice was answered, Bob's log has all: he replies once it is saved."""
+        """If Alice was answered, Bob's log has all: he replies once it is saved."""
         alice = self.editors[0]
         if not alice.has_ended() and alice.said() == self.moments[0].said:
             saved = Notes(self.stage.folders[1]).lines("note.ops")
@@ -538,7 +538,7 @@ class ExchangeTrial:
             self.stage.expect_well(editor)
 
     def _expect_put(self, editor, moment, folder):
-        """Where a program ended between its log and its text, the next save of a change puts this."""
+        """If a program ended between its log and its text, the next save of a change puts this."""
         editor.press(f"z {SAVE}")
         expect("the echo line", "Wrote note", editor.said())
         notes = Notes(folder)

@@ -20,7 +20,7 @@ WANT = (4, b"out of memory\n")
 
 
 def memory_folder():
-    """Returns a folder in memory, where saves wait for no device; None where there is none."""
+    """Returns a folder in memory, where saves wait for no device; None if there is none."""
     return "/dev/shm" if os.access("/dev/shm", os.W_OK) else None
 
 

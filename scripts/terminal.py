@@ -153,7 +153,7 @@ class Terminal:
         return [line[i : i + self.columns].rstrip() for i in range(0, len(line), self.columns)]
 
     def leave(self):
-        """Leaves; where it is asked what becomes of the text, that is put."""
+        """Leaves; if it is asked what becomes of the text, that is put."""
         self.press("C-x", "C-c")
         ends = ("Leave: ", "status ", "same terminal")
         self.expect("left, or a question", lambda: any(row.startswith(ends) for row in self.shown()), True, 60)

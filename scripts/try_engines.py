@@ -88,7 +88,7 @@ class Person:
         self.terminal.begin(f"{NAME} --as writer{self.number} {words}", before=before)
 
     def _is_begun(self):
-        """Whether an edit is shown. Where it is asked which text is gone on with, as after a kill, it is the log's."""
+        """Whether an edit is shown. If it is asked which text is gone on with, as after a kill, it is the log's."""
         shown = self.terminal.shown()
         if "f or l?" in shown:
             self.counts["asked"] += 1

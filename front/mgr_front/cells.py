@@ -38,7 +38,7 @@ def cells(row: str) -> list[str]:
 def shift(column: int, columns: int) -> int:
     """Returns how far a row is shifted to the left so that this column of it shows.
 
-    It grows by half a screen at a time, so that it stays while point moves a little, and is 0 where
+    It grows by half a screen at a time, so that it stays while point moves a little, and is 0 if
     the column shows without it. The last column is left to the sign for what is cut off.
     """
     beyond = column - (columns - 2)

@@ -65,7 +65,7 @@ class Dispatcher:
                 self._type(stroke.data, desk)
 
     def give_up(self) -> None:
-        """Does all strokes that wait, as where mgr asks for nothing."""
+        """Does all strokes that wait, as when mgr asks for nothing."""
         self.editor.hand_on(self.prefix)
         self.prefix = b""
         while self.strokes:
@@ -188,7 +188,7 @@ class Dispatcher:
     def _press_key(self, keys: bytes, desk: "Session") -> None:
         """Does a key that came as a whole.
 
-        While a line is asked for the second of two would be taken for a part of it, and where a key was begun, as
+        While a line is asked for the second of two would be taken for a part of it, and if a key was begun, as
         by C-q, for one more: so there nothing is done.
         """
         self.failing = b""

@@ -1,7 +1,7 @@
 """Errands: commands of the front that press several keys of mgr, one after the answer to another.
 
 An errand yields keys and is sent the status that answers the last of them. Nothing is drawn before
-its end. What it returns stands in the echo line then; where that is None, mgr's own does.
+its end. What it returns stands in the echo line then; if that is None, mgr's own does.
 """
 
 from collections.abc import Generator

@@ -43,7 +43,7 @@ Stroke = Typed | Key | Pasted
 
 HELP = b"\x08"
 RIGHT, LEFT, HOME, END, WORD_RIGHT, WORD_LEFT = b"\x06", b"\x02", b"\x01", b"\x05", b"\x1bf", b"\x1bb"
-# Some terminals have small letters where the control key is held down.
+# Some terminals have small letters when the control key is held down.
 LETTERS = {b"A": b"\x10", b"B": b"\x0e", b"C": RIGHT, b"D": LEFT, b"H": HOME, b"F": END}
 LETTERS |= {b"P": HELP, b"c": WORD_RIGHT, b"d": WORD_LEFT}
 NUMBERED = {b"1": HOME, b"7": HOME, b"4": END, b"8": END, b"3": b"\x04", b"5": b"\x1bv", b"6": b"\x16", b"11": HELP}

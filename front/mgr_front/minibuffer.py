@@ -91,7 +91,7 @@ def show_help() -> Question:
 
 
 def ask_for_line() -> Question:
-    """Asks for the number of a line to go to; where none is given, nothing is done."""
+    """Asks for the number of a line to go to; if none is given, nothing is done."""
     return Question("Goto line: ", lambda answer: go_to_line(int(answer)) if answer else None, MOST_DIGITS)
 
 

@@ -12,7 +12,7 @@ from mgr_front.saying import REFUSED
 
 # What mgr is asked to fill: a terminal has fewer columns, and the rows are cut for it.
 COLUMNS = 500
-# What mgr says where it opens nothing since a file is locked or cannot be read.
+# What mgr says if it opens nothing since a file is locked or cannot be read.
 DEVICE = "device fault"
 
 
@@ -46,7 +46,7 @@ def ask(mgr: str, note: Note, *words: str, logs: Sequence[str] = ()) -> bytes:
 
 
 def log_of(mgr: str, note: Note) -> Log | None:
-    """Returns what mgr says of a note's log, if there is one; `Refused` where it reads none."""
+    """Returns what mgr says of a note's log, if there is one; `Refused` if it reads none."""
     if not note.has_log:
         return None
     told = json.loads(ask(mgr, note, "log", "--json"))
@@ -76,7 +76,7 @@ def shell_status(status: int) -> int:
 
 
 def explained(status: int, said: str, note: Note, was_open: bool) -> str:
-    """Returns why mgr ended: what it said, with the file that it said it of where it opened nothing."""
+    """Returns why mgr ended: what it said, with the file that it said it of if it opened nothing."""
     said = said.strip().removeprefix(f"{note.log}: ")
     if status < 0:
         return f"signal {-status} ended mgr"

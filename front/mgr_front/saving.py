@@ -4,6 +4,6 @@
 REST = b'{"op":"rest"}'
 CANCEL, SAVE = b"\x07", b"\x18\x13"
 
-# What is said where a buffer was saved, and, by what a status says, where one could not be.
+# What is said if a buffer was saved, and, by what a status says, if one could not be.
 SAVED = "Wrote "
 UNSAVED = {"file": "Not saved: File fault", "memory": "Not saved: Out of memory"}

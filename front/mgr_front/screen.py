@@ -27,7 +27,7 @@ class Screen:
 
     def __init__(self) -> None:
         self.saved = termios.tcgetattr(0)
-        # The rows that it shows; none, where all has to be drawn.
+        # The rows that it shows; none, if all has to be drawn.
         self.drawn: Sequence[str] = ()
         # Whether it is raw, whether it is this program's screen that it shows, and whether the shell's
         # has to come back.

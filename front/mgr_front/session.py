@@ -39,7 +39,7 @@ IDLE = 1.0
 
 # For what the bell rings.
 RINGING = "Undefined key", "Search failed"
-# What is said where nothing is left to save.
+# What is said if nothing is left to save.
 PUT = SAVED, "No changes"
 LEAVING = "Leave: s puts the text, d leaves its file as it was? "
 APART = "Not saved: s tries again, d leaves and keeps it apart? "
@@ -142,7 +142,7 @@ class Session:
         return min((max(0.0, due) for due in dues if due is not None), default=None)
 
     def _rest_due(self) -> float | None:
-        """Returns in how many seconds all is to be saved, where a key was typed or something was taken since."""
+        """Returns in how many seconds all is to be saved, if a key was typed or something was taken since."""
         changed = max(self.typed, self.company.took if self.company else self.typed)
         if self.rest_number or self.is_ending or changed <= self.rested:
             return None
@@ -263,7 +263,7 @@ class Session:
             self.remark(said)
 
     def _draw_soon(self, is_awaited: bool = False) -> None:
-        """Has a picture be drawn: at once where own keys made it, or nothing else is to come, else by and by."""
+        """Has a picture be drawn: at once if own keys made it, or nothing else is to come, else by and by."""
         self.due = min(self.due, 0.0 if is_awaited or self.editor.is_answered else self.painted + PICTURE)
 
     @property
@@ -358,7 +358,7 @@ class Session:
         return None
 
     def leave(self, answer: str = "", keys: bytes = b"") -> Errand:
-        """Leaves, after these keys; where something was made it asks first what becomes of the texts."""
+        """Leaves, after these keys; if something was made it asks first what becomes of the texts."""
         self.rest()
         unsaved = yield from self._unsaved((yield keys))
         if unsaved and answer == "d":
@@ -383,7 +383,7 @@ class Session:
         return found
 
     def _put_apart(self, names: list[str]) -> Generator[bytes, Status, list[str]]:
-        """Puts the texts of buffers into the state folder, and returns the buffers where that fails."""
+        """Puts the texts of buffers into the state folder, and returns the buffers for which that fails."""
         failed = []
         for name in names:
             if place := (yield from put_apart(name)):
@@ -393,13 +393,13 @@ class Session:
         return failed
 
     def rescue(self) -> Errand:
-        """Puts apart what could not be saved, where nobody is asked any more."""
+        """Puts apart what could not be saved, if nobody is asked any more."""
         status = yield bytes([NO_KEY, CANCEL])
         yield from self._put_apart((yield from self._unsaved(status)))
         return None
 
     def complete(self) -> None:
-        """Completes the answer of the open prompt; where it asks for no name, TAB is a part of it."""
+        """Completes the answer of the open prompt; if it asks for no name, TAB is a part of it."""
         status = self.editor.status
         if status.label in NAMED:
             self.start(complete(status.label, status.answer, self.buffers))

@@ -61,7 +61,7 @@ class SharedNote:
     def others(self, log: bytes, mends: bool) -> tuple[list[bytes], bytes, str]:
         """Returns what the note lacks of a log of others, all of that in short, and what was left out of it.
 
-        Lines that are refused are left out where it mends, else it is a fault.
+        Lines that are refused are left out if it mends, else it is a fault.
         """
         with tempfile.TemporaryDirectory() as folder:
             name = os.path.join(folder, "log")
@@ -124,7 +124,7 @@ def written(done: "subprocess.CompletedProcess[bytes]") -> bytes:
 
 
 def joined(mgr: str, log: bytes) -> bytes:
-    """Returns a log in few lines; where these do not agree, `Apart` says so."""
+    """Returns a log in few lines; if these do not agree, `Apart` says so."""
     return written(run(mgr, "join", "-", given=log))
 
 

@@ -8,7 +8,7 @@ the keys is a save, which takes long with `slow` for a name.
 `claims`, `missing` and `merge` look at the lines of a log alone. One with replica 99 is another note's.
 
 Of its other commands it knows what they say of a log, which has the text of the note in it, by replica
-1001. One that begins with `?` is refused, and one with `!` cannot be read. Where it joins logs the
+1001. One that begins with `?` is refused, and one with `!` cannot be read. If it joins logs the
 second one conflicts in its last line.
 """
 

@@ -9,7 +9,7 @@ from mgr_front.statuses import Status
 
 
 def play(errand: Errand, *messages: str) -> list[bytes]:
-    """Returns the keys that an errand presses, where these are the messages after them."""
+    """Returns the keys that an errand presses, if these are the messages after them."""
     keys = [next(errand)]
     try:
         for message in (*messages, *[""] * 9):

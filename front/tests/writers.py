@@ -21,7 +21,7 @@ from mgr_front.notes import Note
 from mgr_front.shared import SharedNote
 
 SECONDS = 60.0
-# A built mgr, where there is one.
+# A built mgr, if there is one.
 BUILT = os.environ.get("MGR") or shutil.which(str(TESTS.parent.parent / "build" / "mgr"))
 
 

@@ -24,7 +24,7 @@ WAITS_FOR_KEYS = "0 0x0 "
 CHANGES = {"write": "write", "pwrite64": "write", "writev": "write", "fsync": "sync", "fdatasync": "sync"}
 CHANGES |= {"rename": "rename", "renameat": "rename", "renameat2": "rename", "link": "link", "linkat": "link"}
 
-# Of a line of strace the call and what it is about, where it was not refused; that begins with a file, or has names.
+# Of a line of strace the call and what it is about, if it was not refused; that begins with a file, or has names.
 NOTED = re.compile(r"^(?:\d+ +)?(\w+)\((.*)\) += \d", re.MULTILINE)
 OPENED = re.compile(r"\d+<(/[^>]*)>")
 NAMES = re.compile(r'"([^"]*)"')

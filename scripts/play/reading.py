@@ -1,6 +1,6 @@
 """Reads files of scenes.
 
-A scene begins with a line `# TITLE`. Each line after it is a word and what it is about. Where the
+A scene begins with a line `# TITLE`. Each line after it is a word and what it is about. If the
 first is `rows`, its columns are named there, the indented lines below it are the rows, with ` / `
 between cells, and the scene is played once for each of them, with `<column>` as the cell says.
 """

@@ -17,7 +17,7 @@ from mgr_front.wire import operations
 # The name of a log, and that of another state of it, which a sync tool keeps beside it.
 NAME = re.compile(r"[0-9a-f]{32}.*\.ops")
 LEAST_POLL, MOST_POLL, SLOWER = 0.5, 5.0, 1.25
-# How many bytes before what is new are read once more: where they differ, the file is another one.
+# How many bytes before what is new are read once more: if they differ, the file is another one.
 OVERLAP = 4096
 
 # How a file looks from outside: size, inode and date. One that was written to looks different.
@@ -131,7 +131,7 @@ class Folder(Worker):
         return name if re.fullmatch(r"[0-9a-f]{32}\.ops", name) else ""
 
     def _draw_name(self) -> str:
-        """Returns a new name; where it can't be kept, the next edit begins another log."""
+        """Returns a new name; if it can't be kept, the next edit begins another log."""
         name = secrets.token_hex(16) + ".ops"
         try:
             os.makedirs(os.path.dirname(self.kept), mode=0o700, exist_ok=True)

@@ -17,7 +17,7 @@ from mgr_front.shared import SharedNote, joined, text_of
 
 # Seconds between two commits, and between two looks at the branch: soon after a change, and later; how long soon is.
 COMMITS, SOON, LATER, LIVELY = 30.0, 2.0, 60.0, 600.0
-# Seconds before another push where others pushed, and how often it is tried; those that a command may take.
+# Seconds before another push if others pushed, and how often it is tried; those that a command may take.
 AGAIN, TRIES, LONGEST = (0.1, 1.0), 10, 60
 # Git's own variables, as within a hook, name another repository.
 FOREIGN = ("GIT_DIR", "GIT_WORK_TREE", "GIT_INDEX_FILE", "GIT_OBJECT_DIRECTORY", "GIT_COMMON_DIR", "GIT_NAMESPACE")
@@ -29,7 +29,7 @@ UNBORN = "main"
 
 
 class Outrun(Apart):
-    """A push was refused, as where another one was quicker."""
+    """A push was refused, as when another one was quicker."""
 
 
 def fault_of(said: bytes) -> Apart:
@@ -81,7 +81,7 @@ class GitBranch(Worker):
         return min(self.next_look, self.next_commit if self.is_ahead else self.next_look) - time.monotonic()
 
     def _look(self) -> None:
-        """Takes what the tip has, where it is another one, also one that was forced back."""
+        """Takes what the tip has, if it is another one, also one that was forced back."""
         ref = f"refs/heads/{self.branch}"
         found = self._word("ls-remote", "--", self.url, ref).splitlines()
         tip = next((line.split("\t")[0] for line in found if line.endswith(f"\t{ref}")), "")
@@ -145,7 +145,7 @@ class GitBranch(Worker):
     # ---- git
 
     def _open(self) -> None:
-        """Makes the clone where it is not there, and asks for the names of the writer and of the branch."""
+        """Makes the clone if it is not there, and asks for the names of the writer and of the branch."""
         if not os.path.isdir(self.clone):
             os.makedirs(self.clone, mode=0o700)
             self._git("init", "--quiet", "--bare", "--template=", self.clone)

@@ -57,7 +57,7 @@ class Presence:
             self.who[replica], self.times[replica] = (shown(name, MOST_NAME), place), time.monotonic()
 
     def turn(self, say: Callable[..., None], claims: Callable[[], bytes]) -> float:
-        """Says what is due, and posts who is there, where that is news; returns seconds until the next turn."""
+        """Says what is due, and posts who is there, if that is news; returns seconds until the next turn."""
         now, place = time.monotonic(), self.place
         what = {"replica": self.replica, "name": self.name, "place": place}
         if now >= self.signed + ALIVE:

@@ -34,7 +34,7 @@ class Worker(ABC):
     def __init__(self, note: SharedNote, post: Post) -> None:
         self.note, self.post = note, post
         self.is_leaving = False
-        # Whether what others have was accepted. From then on it is the same note, also where two begin it at once.
+        # Whether what others have was accepted. From then on it is the same note, also if two begin it at once.
         self.is_accepted = False
         # Who is where, if the channel carries that.
         self.presence: Presence | None = None
@@ -124,7 +124,7 @@ class Worker(ABC):
             self.post(Took(made))
 
     def say(self, state: State) -> None:
-        """Says how the channel stands, where that is news."""
+        """Says how the channel stands, if that is news."""
         if state != self._state:
             self._state = state
             self.post(state)

@@ -74,7 +74,7 @@ def disk(stage, about):
 def fails(stage, about):
     """`fails CALL FAULT`: from here on that call of the system fails so in what `edit` or `run` begins.
 
-    Where the fault is a number the call does nothing, and answers that; `SIGKILL` kills it there. With
+    If the fault is a number the call does nothing, and answers that; `SIGKILL` kills it there. With
     `:when=N` after it the Nth of these calls alone fails.
     """
     if not makes_calls_fail():
