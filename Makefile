@@ -46,7 +46,7 @@ test-front:
 	@if command -v mypy > /dev/null; then cd front && mypy --strict mgr_front; else echo "mypy is not installed"; fi
 	@if command -v pyflakes3 > /dev/null; then pyflakes3 front/mgr_front; else echo "pyflakes3 is not installed"; fi
 
-# The front, in a terminal of tmux. It takes some five minutes.
+# The front, in a terminal of tmux, and the picture of two people. It takes one to five minutes.
 try-live: build/mgr
 	@scripts/try_live.py build/mgr
 	@scripts/pictures.py --check two-people build/mgr

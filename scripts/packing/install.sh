@@ -3,10 +3,11 @@
 # makes, stands in PREFIX/share/mgr/installed, by which uninstall.sh removes it again.
 set -eu
 prefix=${1:-/usr/local}
-mkdir -p "$prefix" 2>/dev/null && [ -w "$prefix" ] || {
+mkdir -p "$prefix" 2>/dev/null || true
+if [ ! -w "$prefix" ]; then
     echo "install.sh: $prefix can't be written: name another prefix, as ./install.sh ~/.local, or be root" >&2
     exit 1
-}
+fi
 prefix=$(cd "$prefix" && pwd)
 cd "$(dirname "$0")/files"
 list=$prefix/share/mgr/installed
