@@ -158,7 +158,7 @@ dist: build/mgr
 	@$(NEED_RT); $(NEED_PYTHON)
 	@scripts/dist.py build/mgr
 
-# Both, in a fresh root of Debian. It takes three to five minutes, and needs root and a network.
+# Both, in a fresh root of Debian. It takes three to ten minutes, and needs root and a network.
 try-install:
 	@$(NEED_PYTHON)
 	@scripts/try_install.py
