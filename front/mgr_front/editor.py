@@ -33,6 +33,16 @@ def with_text(text: str, more: bool = False, **members: object) -> list[bytes]:
     return [json.dumps(each, ensure_ascii=False, separators=(",", ":")).encode() for each in told]
 
 
+def write_some(waiting: bytearray, to: int) -> None:
+    """Writes as much of what waits as is taken now. Where nobody takes it any more it is dropped."""
+    try:
+        del waiting[: os.write(to, waiting[:BLOCK])]
+    except BlockingIOError:
+        pass
+    except OSError:
+        waiting.clear()
+
+
 class Talk:
     """What mgr is given, and what it told last."""
 
@@ -112,12 +122,7 @@ class Editor(Talk):
 
     def write(self) -> None:
         """Gives mgr as much of what waits as it takes now. One that takes no more ends, and its status says why."""
-        try:
-            del self.waiting[: os.write(self.keys, self.waiting[:BLOCK])]
-        except BlockingIOError:
-            pass
-        except BrokenPipeError:
-            self.waiting.clear()
+        write_some(self.waiting, self.keys)
 
     def read(self) -> Iterator[Status]:
         """Yields the statuses that came, each once note is taken of it; at their end it is an `EOFError`."""

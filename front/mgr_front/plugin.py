@@ -16,7 +16,7 @@ from typing import Any
 
 from mgr_front.carrying import Piece, Pieces, carry, joined, pieces_of, splices_of
 from mgr_front.company import Company
-from mgr_front.editor import BLOCK, Editor, with_text
+from mgr_front.editor import BLOCK, Editor, with_text, write_some
 from mgr_front.errands import ARGUMENT, BUFFER_BEGIN, FORWARD_CHAR, MOST_ARGUMENT, NEXT_LINE
 from mgr_front.guests import put_apart
 from mgr_front.notes import KeptFiles, why_not_written
@@ -60,13 +60,8 @@ class Lines:
         self.waiting += json.dumps({"op": op, **members}, ensure_ascii=False, separators=(",", ":")).encode() + b"\n"
 
     def write(self) -> None:
-        """Writes as much as is taken now. Where nobody reads it any more it is dropped."""
-        try:
-            del self.waiting[: os.write(self.target, self.waiting[:BLOCK])]
-        except BlockingIOError:
-            pass
-        except OSError:
-            self.waiting.clear()
+        """Writes as much as is taken now."""
+        write_some(self.waiting, self.target)
 
     def choose(self, question: str, letters: Sequence[str], default: str) -> str:
         """Asks for one of these letters, and waits for it; nothing else comes before a note is open."""
@@ -137,7 +132,7 @@ class Plugin:
         self.kept = KeptFiles()
         self.kept.since(name)
         # What was said of others last.
-        self.shown, self.who = "", [[]]
+        self.shown, self.who = "", list[tuple[int, str, int]]()
         self.is_refused = self.is_ending = False
         # When something was changed, and when all was saved.
         self.changed = self.rested = time.monotonic()
@@ -161,14 +156,14 @@ class Plugin:
 
     def _put_apart(self, errand: Generator[bytes, Status, str]) -> None:
         """Presses the keys of an errand, and keeps what comes of it."""
-        status = None
         try:
+            keys = next(errand)
             while True:
-                self.editor.hand_on(next(errand) if status is None else errand.send(status))
+                self.editor.hand_on(keys)
                 self.doing = Task(APART, self.given)
                 if not self._settle():
                     return
-                status = self.editor.status
+                keys = errand.send(self.editor.status)
         except StopIteration as end:
             self.apart = end.value
 
@@ -438,10 +433,10 @@ class Plugin:
         if self.company.said:
             self.lines.say("say", text=self.company.said)
             self.company.said = ""
-        shown, who = self.company.shown(), [[number, *told] for number, told in sorted(self.company.who.items())]
+        shown = self.company.shown()
+        who = [(number, name, place[2]) for number, (name, place) in sorted(self.company.who.items())]
         if (shown, who) != (self.shown, self.who):
             self.shown, self.who = shown, who
-            who = [[number, name, place[2]] for number, name, place in who]
             self.lines.say("state", shown=shown, word=self.company.state.word, who=who)
 
 
