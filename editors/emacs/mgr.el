@@ -101,6 +101,16 @@
   "The session of this buffer.")
 (put 'mgr--session 'permanent-local t)
 
+(defvar mgr--sessions nil
+  "The sessions that are open.")
+
+(defvar mgr--is-commanded nil
+  "Whether a command is under way, which may remember places as numbers.
+What comes meanwhile waits, unless it reads in the minibuffer.")
+
+(defvar mgr--is-awaiting nil
+  "Whether it is mgr that is waited for: then nothing waits for a command.")
+
 (defvar mgr--is-applying nil
   "Whether the change that is made is one of others.")
 
@@ -134,8 +144,9 @@
           (mgr--take-queue session))))))
 
 (defun mgr--take-queue (session)
-  "Do what the lines say that came in SESSION, unless something is just being sent."
-  (while (and (mgr--session-queue session) (not mgr--is-sending))
+  "Do what the lines say that came in SESSION, unless something is under way."
+  (while (and (mgr--session-queue session) (not mgr--is-sending)
+              (or mgr--is-awaiting (not mgr--is-commanded)))
     (let ((line (pop (mgr--session-queue session))) (mgr--is-taking t))
       (when (and (buffer-live-p (mgr--session-buffer session)) (not (mgr--session-is-over session)))
         (with-current-buffer (mgr--session-buffer session)
@@ -159,11 +170,15 @@
       ("state" (mgr--note-state session .shown .who))
       ("fault" (mgr--note-fault session .why))
       ("refused" (setf (mgr--session-why session) (format "a change was refused: %s" .why)))
-      ("say" (message "%s: %s" (buffer-name) .text)))))
+      ("say" (message "%s: %s" (buffer-name) .text))
+      ("over" (mgr--end session (or (mgr--session-why session)
+                                    (mgr--told (mgr--session-process session))))))))
 
 (defun mgr--await (session done)
   "Wait for DONE to return non-nil while SESSION lives, not too long; return that."
-  (let ((until (time-add nil mgr-seconds)) (process (mgr--session-process session)) value)
+  (let ((until (time-add nil mgr-seconds)) (process (mgr--session-process session))
+        (mgr--is-awaiting t) value)
+    (mgr--take-queue session)
     (while (not (or (setq value (funcall done))
                     (not (process-live-p process))
                     (time-less-p until nil)))
@@ -320,19 +335,35 @@ All changes of a command are one step, and so are some typed characters."
     (setf (mgr--session-joins session) t)
     goes-on))
 
+(defun mgr--before-command ()
+  "Have what others write wait for the end of the command that begins."
+  (setq mgr--is-commanded t))
+
 (defun mgr--after-command ()
-  "End a step, and see to it that others see where point is."
-  (when-let* ((session mgr--session))
-    (setf (mgr--session-joins session) nil)
-    (unless (eq this-command 'self-insert-command)
-      (setf (mgr--session-typed session) 0))
-    (when (and (mgr--session-old session) (not (mgr--session-is-sent session)))
-      (mgr--send-change session))
-    (cond ((not (mgr--is-as-sent session))
-           (mgr--end session "the buffer was changed in a way that Emacs tells nobody of"))
-          ((not (or (mgr--session-timer session) (string-empty-p (mgr--session-shown session))))
-           (setf (mgr--session-timer session)
-                 (run-with-timer mgr--point-delay nil #'mgr--say-point session))))))
+  "End a step, and do what came while a command was under way."
+  (setq mgr--is-commanded nil)
+  (dolist (session mgr--sessions)
+    (when (buffer-live-p (mgr--session-buffer session))
+      (with-current-buffer (mgr--session-buffer session)
+        (condition-case fault
+            (mgr--end-step session)
+          (error (mgr--end session (error-message-string fault))))
+        (unless mgr--is-taking
+          (mgr--take-queue session))))))
+
+(defun mgr--end-step (session)
+  "End a step of SESSION, and see to it that others see where point is."
+  (setf (mgr--session-joins session) nil)
+  (unless (eq this-command 'self-insert-command)
+    (setf (mgr--session-typed session) 0))
+  (when (and (mgr--session-old session) (not (mgr--session-is-sent session)))
+    (mgr--send-change session))
+  (cond ((not (mgr--is-as-sent session))
+         (mgr--end session "the buffer was changed in a way that Emacs tells nobody of"))
+        ((not (or (mgr--session-timer session) (string-empty-p (mgr--session-shown session))
+                  (eql (point) (mgr--session-point session))))
+         (setf (mgr--session-timer session)
+               (run-with-timer mgr--point-delay nil #'mgr--say-point session)))))
 
 (defun mgr--say-point (session)
   "Say where point is in the buffer of SESSION, if that is news."
@@ -409,7 +440,7 @@ COUNT says how many steps it is."
     (mgr--send session '(op . "save"))
     (let ((why (mgr--await session (lambda () (mgr--saved session (mgr--session-made session))))))
       (cond ((not why) (error "Mgr does not answer"))
-            ((string-empty-p why) (message "Wrote %s" buffer-file-name))
+            ((string-empty-p why) (message "Wrote %s" (mgr--session-path session)))
             (t (error "%s" why))))))
 
 (defun mgr--saved (session made)
@@ -508,10 +539,10 @@ Return nil if that is not known, or if it has less than MADE changes."
 (defconst mgr--hooks
   '((before-change-functions . mgr--before-change)
     (after-change-functions . mgr--after-change)
-    (post-command-hook . mgr--after-command)
     (write-contents-functions . mgr--write)
     (kill-buffer-query-functions . mgr--may-be-killed)
     (kill-buffer-hook . mgr--leave-killed)
+    (after-set-visited-file-name-hook . mgr--leave-renamed)
     (after-change-major-mode-hook . mgr--set-up))
   "What is done in the buffer of a note.")
 
@@ -521,10 +552,25 @@ Return nil if that is not known, or if it has less than MADE changes."
 
 (defconst mgr--settings
   '((create-lockfiles . nil) (buffer-auto-save-file-name . nil) (backup-inhibited . t)
-    (require-final-newline . nil) (global-auto-revert-ignore-buffer . t)
+    (require-final-newline . nil) (global-auto-revert-ignore-buffer . t) (buffer-save-without-query . t)
     (buffer-undo-list . t) (buffer-file-coding-system . utf-8-unix)
     (revert-buffer-function . mgr--revert))
   "Settings of the buffer of a note: all that Emacs does to files is mgr's.")
+
+(defconst mgr--watches
+  '((pre-command-hook . mgr--before-command) (post-command-hook . mgr--after-command)
+    (minibuffer-setup-hook . mgr--after-command))
+  "What is done at each command, of any buffer: it may change a note.")
+
+(defun mgr--watch (sessions)
+  "Have these SESSIONS be the open ones."
+  (setq mgr--sessions sessions)
+  (unless sessions
+    (setq mgr--is-commanded nil))
+  (pcase-dolist (`(,hook . ,function) mgr--watches)
+    (if sessions
+        (add-hook hook function)
+      (remove-hook hook function))))
 
 (defun mgr--set-up ()
   "Have the buffer of a note be one."
@@ -549,6 +595,7 @@ is to be asked about that who types on or saves."
   (pcase-dolist (`(,hook . ,function) mgr--hooks)
     (remove-hook hook function t))
   (setq buffer-undo-list nil)
+  (auto-save-mode (if auto-save-default 1 -1))
   (when (and is-left buffer-file-name (file-exists-p buffer-file-name))
     (set-visited-file-modtime)))
 
@@ -583,7 +630,8 @@ Return its buffer."
 
 (defun mgr--await-begin (session)
   "Wait until the text of SESSION is there; answer what is asked meanwhile."
-  (let ((process (mgr--session-process session)) (read-process-output-max (ash 1 20)))
+  (let ((process (mgr--session-process session)) (mgr--is-awaiting t)
+        (read-process-output-max (ash 1 20)))
     (unwind-protect
         (while (and (process-live-p process) (not (mgr--session-begun session)))
           (accept-process-output process 0.1)
@@ -616,6 +664,7 @@ At a hub of this machine it is the file of a copy."
     (normal-mode t))
   (setf (mgr--session-size session) (buffer-size))
   (setq mgr--session session)
+  (mgr--watch (cons session mgr--sessions))
   (set-buffer-modified-p nil)
   (mgr-mode 1))
 
@@ -633,9 +682,11 @@ At a hub of this machine it is the file of a copy."
 (defun mgr--sentinel (process _event)
   "Take note that PROCESS ended."
   (when-let* ((session (process-get process 'mgr-session)))
-    (unless (process-live-p process)
-      (let ((told (mgr--told process)))
-        (mgr--end session (or (mgr--session-why session) told))))))
+    (unless (or (process-live-p process) (not (mgr--session-begun session)))
+      (setf (mgr--session-queue session)
+            (nconc (mgr--session-queue session) (list "{\"op\":\"over\"}")))
+      (unless mgr--is-taking
+        (mgr--take-queue session)))))
 
 (defun mgr--end (session why)
   "End SESSION; WHY is what was wrong, and empty if nothing was."
@@ -644,14 +695,16 @@ At a hub of this machine it is the file of a copy."
   (when (buffer-live-p (mgr--session-buffer session))
     (with-current-buffer (mgr--session-buffer session)
       (when (eq mgr--session session)
-        (let ((lacks (> (mgr--session-made session) (mgr--session-kept session))))
+        (let* ((lacks (> (mgr--session-made session) (mgr--session-kept session)))
+               (is-bad (or lacks (not (mgr--session-is-left session)))))
           (setq mgr--session nil mgr-mode nil)
+          (mgr--watch (remq session mgr--sessions))
           (setf (mgr--session-is-over session) t)
           (mapc (lambda (each) (delete-overlay (cdr each))) (mgr--session-others session))
-          (mgr--take-down (mgr--session-is-left session))
-          (set-buffer-modified-p (or lacks (not (mgr--session-is-left session))))
-          (when (or lacks (not (mgr--session-is-left session)))
-            (mgr--warn lacks why))
+          (mgr--take-down (not is-bad))
+          (set-buffer-modified-p is-bad)
+          (cond (is-bad (mgr--warn lacks why))
+                ((not (string-empty-p why)) (message "%s: %s" (buffer-name) why)))
           (force-mode-line-update))))))
 
 (defun mgr--warn (lacks why)
@@ -667,33 +720,49 @@ At a hub of this machine it is the file of a copy."
 
 (defun mgr--leave (session)
   "Leave SESSION, once all is saved."
-  (let ((process (mgr--session-process session)))
+  (let* ((process (mgr--session-process session)) (until (time-add nil 2)) (mgr--is-awaiting t)
+         ;; An Emacs that a signal ends is told of no process's end, but of that of its pipe.
+         (pipe (get-buffer-process (process-get process 'mgr-told))))
     (setf (mgr--session-is-left session) t)
     (when (process-live-p process)
       (process-send-eof process)
-      (while (process-live-p process)
-        (accept-process-output process 0.1)))
+      (while (and (process-live-p process) (process-live-p pipe))
+        (accept-process-output process 0.1)
+        (when (and until (time-less-p until nil))
+          (setq until nil)
+          (message "Waiting for mgr to save %s; C-g leaves that to it" (mgr--session-path session)))))
     ;; What it said last may not be taken yet, nor its end.
     (while (accept-process-output process 0.05))
+    (mgr--take-queue session)
     (mgr--end session (mgr--told process))))
+
+(defun mgr--is-note ()
+  "Return whether this buffer is a note that is open, and no clone of it."
+  (and mgr--session (eq (current-buffer) (mgr--session-buffer mgr--session))))
 
 (defun mgr--may-be-killed ()
   "Have mgr put the text, so that nobody is asked whether it may go."
-  (when (and mgr--session (buffer-modified-p))
+  (when (and (mgr--is-note) (buffer-modified-p))
     (ignore-errors (mgr-save)))
   t)
 
 (defun mgr--leave-killed ()
   "Leave the note whose buffer is killed."
-  (when mgr--session
+  (when (mgr--is-note)
     (mgr--leave mgr--session)))
+
+(defun mgr--leave-renamed ()
+  "Leave the note, as the buffer is of another file by now."
+  (when (and (mgr--is-note) (not (equal buffer-file-name (mgr--session-path mgr--session))))
+    (let ((path (mgr--session-path mgr--session)))
+      (mgr-leave)
+      ;; That file may lack what was written last.
+      (set-buffer-modified-p t)
+      (message "The note %s is left; this buffer is of %s" path (or buffer-file-name "no file")))))
 
 (defun mgr--leave-all ()
   "Leave all notes."
-  (dolist (buffer (buffer-list))
-    (when (buffer-live-p buffer)
-      (with-current-buffer buffer
-        (mgr--leave-killed)))))
+  (mapc #'mgr--leave mgr--sessions))
 
 (add-hook 'kill-emacs-hook #'mgr--leave-all)
 

@@ -242,6 +242,56 @@
      (should (equal (mgr-tests-text "file") "words"))
      (should (equal (mgr-tests-text "note") "words")))))
 
+(ert-deftest mgr-tests-renamed ()
+  "A buffer whose file gets another name is of that file, and the note has all."
+  (mgr-tests-in-folder
+   (lambda ()
+     (mgr-open (mgr-tests-file "note"))
+     (mgr-tests-insert "words")
+     (mgr-tests-rest (current-buffer))
+     (rename-file "note" "other")
+     (mgr-tests-insert ", more")
+     (set-visited-file-name (mgr-tests-file "other") nil t)
+     (should-not mgr-mode)
+     (should (buffer-modified-p))
+     (save-buffer)
+     (should (equal (mgr-tests-text "other") "words, more"))
+     (should (equal (mgr-tests-text "note") "words, more")))))
+
+(ert-deftest mgr-tests-cloned ()
+  "What is written in an indirect buffer is in the note, which stays open without it."
+  (mgr-tests-in-folder
+   (lambda ()
+     (mgr-open (mgr-tests-file "note"))
+     (mgr-tests-insert "words")
+     (with-current-buffer (make-indirect-buffer (current-buffer) "clone" t)
+       (goto-char (point-max))
+       (mgr-tests-insert ", more")
+       (kill-buffer))
+     (should mgr-mode)
+     (should (equal (buffer-string) "words, more"))
+     (mgr-tests-rest (current-buffer))
+     (should (equal (mgr-tests-text "note") "words, more")))))
+
+(ert-deftest mgr-tests-hung-up ()
+  "An Emacs that is hung up ends, and what was written is saved."
+  (mgr-tests-in-folder
+   (lambda ()
+     (let* ((note (mgr-tests-file "note"))
+            (writes `(progn (setq mgr-channel-program ,mgr-channel-program)
+                            (mgr-open ,note)
+                            (insert "words")
+                            (message "ready")
+                            (while t (sleep-for 1))))
+            (emacs (start-process "emacs" (generate-new-buffer " *emacs*") "emacs" "-Q" "--batch"
+                                  "-l" (locate-library "mgr") "--eval" (format "%S" writes))))
+       (set-process-query-on-exit-flag emacs nil)
+       (mgr-tests-await "it is ready" (lambda () (string-search "ready" (mgr-tests-string (process-buffer emacs)))))
+       (signal-process emacs 'HUP)
+       (mgr-tests-await "it ends" (lambda () (not (process-live-p emacs))))
+       (kill-buffer (process-buffer emacs))
+       (mgr-tests-await "it is saved" (lambda () (equal (mgr-tests-text "note") "words")))))))
+
 (ert-deftest mgr-tests-killed ()
   "If mgr-channel or mgr is killed that is said, the buffer stays, and the note opens again."
   (dolist (is-mgr '(nil t))
@@ -340,6 +390,23 @@
        (should (equal (buffer-string) "e <->words "))
        (should (equal (car kill-ring) "killed"))
        (should (eq buffer-undo-list t))))
+   "some words of a text"))
+
+(ert-deftest mgr-tests-command-under-way ()
+  "What others write waits while a command is under way, which may remember places."
+  (mgr-tests-with-two
+   (lambda (one other)
+     (with-current-buffer one
+       (mgr-tests-do replace
+         (search-forward "words")
+         (let ((found (match-data t)))
+           (with-current-buffer other
+             (insert "in front, "))
+           (mgr-tests-await "the hub has it" (lambda () (string-search "front" (mgr-tests-text "hub/note"))))
+           (sleep-for 0.5)
+           (set-match-data found)
+           (replace-match "signs"))))
+     (should (equal (mgr-tests-same one other) "in front, some signs of a text")))
    "some words of a text"))
 
 (ert-deftest mgr-tests-at-once ()
