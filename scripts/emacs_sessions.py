@@ -24,7 +24,9 @@ CHANNEL = ROOT / "front" / "mgr-channel"
 COMPILED = ROOT / "build" / "try-emacs" / "elisp"
 # Characters from here on stand nowhere else; each who writes has so many of them.
 LEAST, EACH = 0x20000, 0x3000
-PATIENCE, REST = 120, 40
+PATIENCE, REST = 300, 120
+# In so many sessions of all 1 MB is pasted.
+LARGE = 0.1
 UP, DOWN, LEAVE = b"\x10", b"\x0e", b"\x18\x03"
 
 
@@ -49,10 +51,12 @@ def emacs_command(*words):
 class Emacs:
     """A batch Emacs that does what it is sent over a socket."""
 
-    def __init__(self, mgr, folder, number, port):
-        self.folder, self.number, self.port = folder / str(number), number, port
+    def __init__(self, mgr, folder, number, place, tools=""):
+        """It joins at a place, as `--with` takes it; `tools` stands in front of its PATH."""
+        self.folder, self.number, self.place = folder / str(number), number, place
         self.folder.mkdir()
         self.words = environment(mgr, self.folder)
+        self.words["PATH"] = tools + self.words["PATH"]
         self.starts = 0
         self.typed, self.gone, self.faults, self.lacked = set(), set(), [], 0
 
@@ -71,7 +75,7 @@ class Emacs:
         self.link = listener.accept()[0]
         self.link.settimeout(PATIENCE)
         self.answers = self.link.makefile("r")
-        self.ask(f'(writer-open "{self.folder / "note"}" (list "--with" "{self.port}"))')
+        self.ask(f'(writer-open "{self.folder / "note"}" (list "--with" "{self.place}"))')
 
     def ask(self, expression):
         """Returns what an expression gives."""
@@ -112,7 +116,7 @@ class Emacs:
         await_that("the session ends", lambda: not self.ask("(writer-told)")["live"], PATIENCE)
         told = self.ask("(writer-told)")
         self.lacked += told["lacks"]
-        self.ask(f'(writer-open-again "{self.folder / "note"}" (list "--with" "{self.port}"))')
+        self.ask(f'(writer-open-again "{self.folder / "note"}" (list "--with" "{self.place}"))')
 
     def kill(self):
         os.kill(self.process.pid, signal.SIGKILL)
@@ -190,16 +194,19 @@ class Game:
         for writer in self.writers:
             writer.begin(self.chance)
         self.typist = Typist(mgr, folder, port, self.chance)
-        self.killed = []
+        self.killed, self.is_large = [], self.chance.random() < LARGE
 
     def play(self, rounds):
-        """Has all write at once, some times; now and then a program is killed."""
-        for _ in range(rounds):
+        """Has all write at once, some times; now and then a program is killed, and 1 MB pasted."""
+        large = self.chance.randrange(rounds)
+        for number in range(rounds):
             for writer in self.writers:
                 writer.send(f"(writer-steps {self.chance.randint(1, 12)})")
             self.typist.type()
             for writer in self.writers:
                 writer.answer()
+            if self.is_large and number == large:
+                self.chance.choice(self.writers).ask("(writer-paste)")
             if self.kills and self.chance.random() < 0.1:
                 self.kill()
 
@@ -282,12 +289,12 @@ def differences(texts):
 
 
 def play(mgr, folder, seed, rounds=12, kills=True):
-    """Plays a game, and returns what was killed in it, and how many characters were typed."""
+    """Plays a game; returns what was killed in it, whether 1 MB was pasted, and how many characters were typed."""
     game = Game(mgr, folder, seed, kills)
     try:
         game.play(rounds)
         text = game.rest()
         game.check(text)
-        return game.killed, sum(len(writer.typed) for writer in game.writers) + len(game.typist.typed)
+        return game.killed, game.is_large, sum(len(writer.typed) for writer in game.writers) + len(game.typist.typed)
     finally:
         game.stop()

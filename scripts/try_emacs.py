@@ -1,14 +1,16 @@
 #!/usr/bin/env python3
 """Tries mgr.el in batch Emacs.
 
-usage: try_emacs.py MGR [PART..] [--sessions N] [--seed S]. `tests` compiles and checks it, and runs its tests. `sessions`
-has two Emacs and one mgr-live write in one note at a hub, at random, while programs are killed: one text has to come of
-it, with each character that nobody deleted, and no undo may take what another wrote; 500 is a long evening. `keys`
-measures how long a key takes to the other's buffer, and what the mode costs. Without a part all are tried. It says what
-is not installed. `make try-emacs` calls it, and no test waits for it.
+usage: try_emacs.py MGR [PART..] [--sessions N] [--seed S] [--jobs J]. `tests` compiles and checks it, and runs its
+tests. `places` has two Emacs write by ssh, a folder, git and Redis. `sessions` has two and one mgr-live write in one
+note at a hub, at random, while programs are killed: one text has to come of it, with each character that nobody
+deleted, and no undo may take what another wrote. J of them are played at once; 500 are a long evening. `keys` measures
+how long a key takes to the other's buffer, and what the mode costs. Without a part all are tried. It says what is not
+installed. `make try-emacs` calls it, and no test waits for it.
 """
 
 import argparse
+import concurrent.futures
 import glob
 import os
 import random
@@ -20,12 +22,13 @@ import sys
 import time
 
 from emacs_sessions import COMPILED, EDITOR, Emacs, Fault, compiled, emacs_command, play
-from engines import Hub, fail, stop_all
+from engines import ENGINES, Hub, Sshd, await_that, fail, stop_all
 from play.peers import free_port
 from terminal import ROOT, environment
 
 FOLDER = ROOT / "build" / "try-emacs"
 SESSIONS, KEYS, EACH = 12, 150, 0.1
+PLACES = "hub", "dir", "git", "redis"
 SIZES, LARGE = (1_000, 100_000), 900_000
 # Of package-lint: an old one does not know newer Emacs.
 UNKNOWN = "uninstallable in all released Emacs versions"
@@ -73,18 +76,62 @@ def tests(mgr, options):
 def sessions(mgr, options):
     """random sessions of two Emacs and one mgr-live at a hub"""
     compiled()
-    faults, killed, typed = [], 0, 0
-    for seed in range(options.seed, options.seed + options.sessions):
-        try:
-            ended, count = play(mgr, FOLDER / "sessions" / str(seed), seed)
-            killed, typed = killed + len(ended), typed + count
-            shutil.rmtree(FOLDER / "sessions" / str(seed))
-        except Fault as fault:
-            faults.append(seed)
-            print(f"session {seed}, in {FOLDER / 'sessions' / str(seed)}: {fault}", flush=True)
-    if faults:
+    seeds = range(options.seed, options.seed + options.sessions)
+    with concurrent.futures.ProcessPoolExecutor(options.jobs) as pool:
+        ended = list(pool.map(session, [mgr] * len(seeds), seeds))
+    if faults := [seed for seed, end in zip(seeds, ended) if not end]:
         fail(f"{len(faults)} of {options.sessions} sessions: {faults}")
+    killed, pasted, typed = (sum(each) for each in zip(*ended))
     print(f"{options.sessions} sessions: {typed:,} characters were typed that stand nowhere else, {killed} programs killed")
+    print(f"in {pasted} of them 1 MB was pasted")
+
+
+def session(mgr, seed):
+    """Plays one; returns how many programs were killed, 1 MB pasted, and characters typed; nothing after a fault."""
+    folder = FOLDER / "sessions" / str(seed)
+    try:
+        killed, is_large, typed = play(mgr, folder, seed)
+    except (Fault, SystemExit) as fault:
+        print(f"session {seed}, in {folder}: {fault}", flush=True)
+        return ()
+    shutil.rmtree(folder)
+    return len(killed), is_large, typed
+
+
+def places(mgr, options):
+    """two Emacs at a hub by ssh, by a folder, a branch of git and a stream of Redis"""
+    compiled()
+    for kind in PLACES:
+        if lacks := ENGINES[kind].lacks():
+            print(f"{kind}: left out: {lacks}")
+            continue
+        shutil.rmtree(FOLDER / kind, ignore_errors=True)
+        engine, chance = ENGINES[kind](mgr, FOLDER / kind, random.Random(1), 0), random.Random(options.seed)
+        # The third and the fourth come to a hub by ssh.
+        ways = {number: engine.address(number).split()[1] for number in (3, 4)}
+        if kind == "hub" and not Sshd.is_there():
+            print("ssh: left out: openssh-server is not installed")
+        writers = [Emacs(mgr, engine.folder, number, way, engine.tools) for number, way in ways.items()]
+        for writer in writers:
+            writer.begin(chance)
+        for _ in range(3):
+            for writer in writers:
+                writer.ask("(writer-steps 3)")
+        await_that(f"one text comes of {kind}", lambda: is_one(writers), pause=0.5)
+        end_pair(engine, *writers)
+        print(f"{', '.join(ways.values())}: both Emacs have one text", flush=True)
+
+
+def is_one(writers):
+    """Whether all have one text, and all that they made is kept."""
+    states = [writer.ask("(writer-state)") for writer in writers]
+    typed = set().union(*(writer.typed - writer.gone for writer in writers))
+    for writer in writers:
+        writer.ask("(writer-told)")
+        if writer.faults:
+            fail(writer.faults)
+    texts = {state["text"] for state in states}
+    return len(texts) == 1 and all(state["rests"] for state in states) and typed <= set(map(ord, min(texts)))
 
 
 def row(name, figures, wanted):
@@ -149,7 +196,7 @@ def end_pair(hub, *writers):
     hub.end()
 
 
-PARTS = {part.__name__: part for part in (tests, sessions, keys)}
+PARTS = {part.__name__: part for part in (tests, places, sessions, keys)}
 
 
 def main():
@@ -158,6 +205,7 @@ def main():
     made.add_argument("parts", nargs="*", metavar="PART", help=", ".join(PARTS))
     made.add_argument("--sessions", type=int, default=SESSIONS)
     made.add_argument("--seed", type=int, default=1)
+    made.add_argument("--jobs", type=int, default=1)
     options = made.parse_args()
     if not set(options.parts) <= set(PARTS):
         made.error(f"a PART is one of {', '.join(PARTS)}")

@@ -125,7 +125,17 @@ What stands between two things that an undo takes is put again by it."
     (while (and (<= 0 (cl-decf left)) (re-search-forward pattern nil t))
       (replace-match text))))
 
-(defvar writer-most-pasted 400 "How many characters are pasted at most.")
+(defun writer-paste ()
+  "Paste 1 MB somewhere, in which each 5000th character stands nowhere else."
+  (writer-go)
+  (let ((text (mapconcat (lambda (sign) (concat (string sign) (apply #'concat (make-list 100 writer-line)) "\n"))
+                         (number-sequence writer-next (+ writer-next 199)) "")))
+    (cl-incf writer-next 200)
+    (when mgr--session
+      (writer-do (lambda () (insert text)))))
+  (writer-told))
+
+(defconst writer-line "the quick brown fox jumps over the lazy dog again\n")
 
 (defconst writer-deeds
   `((20 . ,(lambda () (writer-go) (writer-type (1+ (random 8)))))
@@ -149,7 +159,7 @@ What stands between two things that an undo takes is put again by it."
     (2 . ,(lambda () (writer-go) (writer-do (lambda () (writer-replace "e" "éé")))))
     (2 . ,(lambda () (writer-go) (writer-do (lambda () (writer-replace "é+\\|  +" "e")))))
     (1 . ,(lambda () (writer-do (lambda () (subst-char-in-region (point-min) (point-max) ?a ?b)))))
-    (2 . ,(lambda () (writer-go) (let ((text (writer-text (random writer-most-pasted))))
+    (2 . ,(lambda () (writer-go) (let ((text (writer-text (random 400))))
                                    (writer-do (lambda () (insert text))))))
     (3 . ,(lambda () (writer-go) (writer-span 200) (narrow-to-region (region-beginning) (region-end))))
     (4 . ,#'widen)
@@ -268,6 +278,7 @@ What stands between two things that an undo takes is put again by it."
 (defun writer-serve (path next seed)
   "Do what comes at the socket PATH; type characters from NEXT on; SEED is for chance."
   (random seed)
+  (setq mgr-seconds 120)
   (setq writer-next next)
   (let ((link (make-network-process
                :name "script" :family 'local :service path :coding 'utf-8-unix :noquery t
