@@ -78,9 +78,9 @@
   ;; How many changes were made here, how many of these the log has, how many
   ;; of others were made here too, and the size of the text.
   (made 0) (kept 0) (seen 0) (size 0)
-  ;; The text that is about to be changed or was just changed, where it is, and
-  ;; whether that change was sent.
-  old is-sent
+  ;; The text that is about to be changed or was just changed, where it is,
+  ;; whether that change was sent, and whether it has to wait.
+  old is-sent is-raw
   ;; Whether the next change is of the step of the one before, and how many
   ;; characters were typed in it.
   joins (typed 0)
@@ -270,39 +270,50 @@ After an error in this Emacs would say nothing of further changes."
       (error (mgr--end mgr--session (error-message-string fault))))))
 
 (defun mgr--note-change (session begin end length)
-  "Send the change from BEGIN to END in SESSION, of LENGTH characters before."
-  (let* ((end (mgr--without-raw-bytes begin end)) (old (mgr--session-old session)))
-    (cond ((and old (<= (car old) begin) (<= end (mgr--old-end session)))
-           (mgr--send-change session))
+  "Send the change from BEGIN to END in SESSION, of LENGTH characters before.
+One with raw bytes waits for the end of the command, which may count them."
+  (let* ((old (mgr--session-old session))
+         (is-told (and old (<= (car old) begin) (<= end (mgr--old-end session)))))
+    (cond ((and is-told mgr--is-commanded
+                (or (mgr--session-is-raw session)
+                    (string-match-p mgr--unencodable (mgr--text begin end))))
+           (setf (mgr--session-is-raw session) t))
+          (is-told (mgr--send-change session))
           ((= (buffer-size) (+ (mgr--session-size session) (- end begin length)))
-           (mgr--splice session (1- begin) (+ begin length -1) (mgr--text begin end)))
+           (mgr--splice session (1- begin) (+ begin length -1) (mgr--encodable-text begin end)))
           (t (error "A change was not told beforehand")))))
 
 (defun mgr--send-change (session)
   "Send what differs from what SESSION remembers from before."
   (pcase-let* ((`(,begin . ,old) (mgr--session-old session))
-               (new (mgr--text begin (mgr--old-end session)))
+               (new (mgr--encodable-text begin (mgr--old-end session)))
                (`(,front . ,back) (mgr--in-common old new)))
-    (setf (mgr--session-old session) (cons begin new) (mgr--session-is-sent session) t)
+    (setf (mgr--session-old session) (cons begin new) (mgr--session-is-sent session) t
+          (mgr--session-is-raw session) nil)
     (unless (= front (length old) (length new))
       (mgr--splice session (+ begin front -1) (+ begin (length old) (- back) -1)
                    (substring new front (- (length new) back))))))
 
-(defun mgr--without-raw-bytes (begin end)
-  "Delete what no note takes from BEGIN to END; return where that ends then."
-  (save-match-data
-    (if (not (string-match-p mgr--unencodable (mgr--text begin end)))
-        end
+(defun mgr--send-rest (session)
+  "Send what SESSION has not sent yet."
+  (when (and (mgr--session-old session) (not (mgr--session-is-sent session)))
+    (mgr--send-change session)))
+
+(defun mgr--encodable-text (begin end)
+  "Delete what no note takes from BEGIN to END, and return what stands there then."
+  (let ((text (mgr--text begin end)))
+    (if (not (string-match-p mgr--unencodable text))
+        text
       (message "Raw bytes are left out: no note takes them")
-      (let ((end (copy-marker end)) (mgr--is-applying t))
-        (save-excursion
-          (save-restriction
-            (widen)
-            (goto-char begin)
-            (while (re-search-forward mgr--unencodable end t)
-              (delete-region (match-beginning 0) (match-end 0)))))
-        (prog1 (marker-position end)
-          (set-marker end nil))))))
+      (let ((mgr--is-applying t) (inhibit-read-only t))
+        (save-match-data
+          (save-excursion
+            (save-restriction
+              (widen)
+              (goto-char end)
+              (while (re-search-backward mgr--unencodable begin t)
+                (delete-char 1))))))
+      (replace-regexp-in-string mgr--unencodable "" text t t))))
 
 (defun mgr--in-common (old new)
   "Return how many characters OLD and NEW have in common, at begin and end."
@@ -356,8 +367,7 @@ All changes of a command are one step, and so are some typed characters."
   (setf (mgr--session-joins session) nil)
   (unless (eq this-command 'self-insert-command)
     (setf (mgr--session-typed session) 0))
-  (when (and (mgr--session-old session) (not (mgr--session-is-sent session)))
-    (mgr--send-change session))
+  (mgr--send-rest session)
   (cond ((not (mgr--is-as-sent session))
          (mgr--end session "the buffer was changed in a way that Emacs tells nobody of"))
         ((not (or (mgr--session-timer session) (string-empty-p (mgr--session-shown session))
@@ -600,14 +610,19 @@ is to be asked about that who types on or saves."
     (set-visited-file-modtime)))
 
 (defun mgr--live-session ()
-  "Return the session of this buffer; it is an error if there is none."
-  (or mgr--session (user-error "This buffer is no open note")))
+  "Return the session of this buffer, which has all of it; it is an error if there is none."
+  (unless mgr--session
+    (user-error "This buffer is no open note"))
+  (mgr--send-rest mgr--session)
+  mgr--session)
 
 (defun mgr--start (name words)
   "Begin a session with the note NAME, for which mgr-channel has these WORDS too.
 Return its buffer."
   (unless (fboundp 'json-serialize)
     (user-error "This Emacs was built without JSON"))
+  (unless (executable-find mgr-channel-program)
+    (user-error "%s is not installed: see `mgr-channel-program'" mgr-channel-program))
   (let* ((buffer (generate-new-buffer (file-name-nondirectory name)))
          (told (generate-new-buffer " *mgr-channel*" t))
          (session (mgr--make-session :buffer buffer))
@@ -675,7 +690,7 @@ At a hub of this machine it is the file of a copy."
       (accept-process-output told 0.2))
     (if (not (buffer-live-p buffer))
         ""
-      (prog1 (string-trim (with-current-buffer buffer (buffer-string)))
+      (prog1 (string-trim (with-current-buffer buffer (buffer-string)) "\\(?:usage:\\(?:.\\|\n\\)*? error:\\)?[ \n]*")
         (let ((kill-buffer-query-functions nil))
           (kill-buffer buffer))))))
 
@@ -768,13 +783,20 @@ At a hub of this machine it is the file of a copy."
 
 (defun mgr--enter (name words)
   "Go to the buffer of the note NAME; if it is not open, open it with these WORDS."
-  (let* ((name (expand-file-name (string-remove-suffix ".ops" name))) (buffer (find-buffer-visiting name)))
-    (cond ((file-remote-p name) (user-error "A note is a file of this machine"))
-          ((and buffer (buffer-local-value 'mgr--session buffer)) (ignore buffer))
+  (let* ((name (mgr--checked (string-remove-suffix ".ops" name))) (buffer (find-buffer-visiting name)))
+    (cond ((and buffer (buffer-local-value 'mgr--session buffer)) (ignore buffer))
           ((and buffer (buffer-modified-p buffer)) (user-error "%s has changes: save it first" buffer))
           (t (when buffer (kill-buffer buffer))
              (setq buffer (mgr--start name words))))
     (pop-to-buffer-same-window buffer)))
+
+(defun mgr--checked (name)
+  "Return the full NAME of a note; it is an error where none may be."
+  (let* ((name (expand-file-name name)) (folder (file-name-directory name)))
+    (cond ((file-remote-p name) (user-error "%s: a note is a file of this machine" name))
+          ((file-directory-p name) (user-error "%s is a folder" name))
+          ((not (file-directory-p folder)) (user-error "%s is not there: `make-directory' makes it" folder))
+          (t name))))
 
 ;;;###autoload
 (defun mgr-open (name)

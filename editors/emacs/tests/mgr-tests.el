@@ -215,8 +215,12 @@
      (mgr-tests-insert (concat "a" (string #x3fff80) "é" (string #xd800) "b"))
      (should (equal (buffer-string) "aéb"))
      (should (= (mgr--session-size mgr--session) 3))
+     (let ((coding-system-for-write 'no-conversion))
+       (write-region (unibyte-string ?\n ?c 255 ?d) nil (mgr-tests-file "file") nil 'quiet))
+     (let ((coding-system-for-read 'utf-8))
+       (mgr-tests-do insert-file (insert-file (mgr-tests-file "file"))))
      (mgr-tests-rest (current-buffer))
-     (should (equal (mgr-tests-text "note") "aéb")))))
+     (should (equal (mgr-tests-text "note") "aéb\ncd")))))
 
 (ert-deftest mgr-tests-another-mode ()
   "Another major mode leaves the note as it is."
