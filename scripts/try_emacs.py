@@ -12,6 +12,7 @@ installed. `make try-emacs` calls it, and no test waits for it.
 import argparse
 import concurrent.futures
 import glob
+import multiprocessing
 import os
 import random
 import shutil
@@ -77,7 +78,8 @@ def sessions(mgr, options):
     """random sessions of two Emacs and one mgr-live at a hub"""
     compiled()
     seeds = range(options.seed, options.seed + options.sessions)
-    with concurrent.futures.ProcessPoolExecutor(options.jobs) as pool:
+    # Forked ones would try the same ports.
+    with concurrent.futures.ProcessPoolExecutor(options.jobs, multiprocessing.get_context("spawn")) as pool:
         ended = list(pool.map(session, [mgr] * len(seeds), seeds))
     if faults := [seed for seed, end in zip(seeds, ended) if not end]:
         fail(f"{len(faults)} of {options.sessions} sessions: {faults}")

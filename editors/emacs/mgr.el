@@ -185,6 +185,13 @@ What comes meanwhile waits, unless it reads in the minibuffer.")
       (accept-process-output process 0.1))
     (or value (funcall done))))
 
+(defun mgr--no-answer (session)
+  "Say that mgr was asked in vain in SESSION."
+  (if (process-live-p (mgr--session-process session))
+      (user-error "%s: mgr has not answered for %s seconds; what it took it will do"
+                  (mgr--session-path session) mgr-seconds)
+    (user-error "%s: mgr has ended" (mgr--session-path session))))
+
 ;;;; Changes of others
 
 (defun mgr--change (session made splices by is-undo)
@@ -396,7 +403,7 @@ GOES-ON says that the command before did so too."
           (mgr--session-joins session) nil)
     (mgr--send session '(op . "undo") `(kind . ,kind) `(again . ,(if goes-on t :false)))
     (unless (mgr--await session (lambda () (mgr--session-undone session)))
-      (user-error "Mgr does not answer"))
+      (mgr--no-answer session))
     (unless (string-empty-p (mgr--session-undone session))
       (user-error "%s" (mgr--session-undone session)))
     (when-let* ((place (mgr--session-undo-place session)))
@@ -447,9 +454,10 @@ COUNT says how many steps it is."
   (interactive)
   (let ((session (mgr--live-session)))
     (setf (mgr--session-saved session) nil)
+    (message "Saving file %s..." (mgr--session-path session))
     (mgr--send session '(op . "save"))
     (let ((why (mgr--await session (lambda () (mgr--saved session (mgr--session-made session))))))
-      (cond ((not why) (error "Mgr does not answer"))
+      (cond ((not why) (mgr--no-answer session))
             ((string-empty-p why) (message "Wrote %s" (mgr--session-path session)))
             (t (error "%s" why))))))
 
@@ -726,7 +734,7 @@ At a hub of this machine it is the file of a copy."
   "Say that the note is not open any more and WHY; LACKS, that the buffer has more."
   (setq buffer-offer-save t)
   (display-warning 'mgr
-                   (format "%s is not live any more%s.  %s" (buffer-name)
+                   (format "%s is not live any more%s.  %s" (or buffer-file-name (buffer-name))
                            (if (string-empty-p why) "" (concat ": " why))
                            (if lacks
                                "This buffer has words that the note lacks: save it, and open the note again"

@@ -125,17 +125,28 @@ What stands between two things that an undo takes is put again by it."
     (while (and (<= 0 (cl-decf left)) (re-search-forward pattern nil t))
       (replace-match text))))
 
+(defun writer-replace-slowly ()
+  "Replace what was found some time ago, as `query-replace' does."
+  (when (let (case-fold-search) (search-forward "e" nil t))
+    (let ((found (match-data t)))
+      (accept-process-output nil 0.05)
+      (set-match-data found)
+      (if (equal (match-string 0) "e")
+          (replace-match "E")
+        (push "a place moved within a command" writer-faults)))))
+
 (defun writer-paste ()
-  "Paste 1 MB somewhere, in which each 5000th character stands nowhere else."
+  "Paste 1 MB somewhere, in which each 1302nd character stands nowhere else."
   (writer-go)
-  (let ((text (mapconcat (lambda (sign) (concat (string sign) (apply #'concat (make-list 100 writer-line)) "\n"))
+  (let ((text (mapconcat (lambda (sign) (concat (string sign) (apply #'concat (make-list 26 writer-line)) "\n"))
                          (number-sequence writer-next (+ writer-next 199)) "")))
     (cl-incf writer-next 200)
     (when mgr--session
       (writer-do (lambda () (insert text)))))
   (writer-told))
 
-(defconst writer-line "the quick brown fox jumps over the lazy dog again\n")
+(defconst writer-line (concat (make-string 49 #x1d11e) "\n")
+  "A line of 197 bytes: a note takes 1,000,000 characters, deleted ones too.")
 
 (defconst writer-deeds
   `((20 . ,(lambda () (writer-go) (writer-type (1+ (random 8)))))
@@ -158,6 +169,12 @@ What stands between two things that an undo takes is put again by it."
             (writer-do (lambda () (sort-lines nil (region-beginning) (region-end))))))
     (2 . ,(lambda () (writer-go) (writer-do (lambda () (writer-replace "e" "éé")))))
     (2 . ,(lambda () (writer-go) (writer-do (lambda () (writer-replace "é+\\|  +" "e")))))
+    (2 . ,(lambda () (writer-go) (writer-do (lambda () (writer-replace-slowly)))))
+    (1 . ,(lambda () (writer-go) (writer-span 200)
+            (writer-do (lambda () (string-rectangle (region-beginning) (region-end) "|")))))
+    (1 . ,(lambda () (writer-go) (writer-span 100)
+            (writer-do (lambda () (kill-rectangle (region-beginning) (region-end))))
+            (writer-go) (writer-do 'yank-rectangle)))
     (1 . ,(lambda () (writer-do (lambda () (subst-char-in-region (point-min) (point-max) ?a ?b)))))
     (2 . ,(lambda () (writer-go) (let ((text (writer-text (random 400))))
                                    (writer-do (lambda () (insert text))))))
