@@ -741,15 +741,19 @@ At a hub of this machine it is the file of a copy."
                              "The note has all that this buffer has: `mgr-open' opens it again"))
                    (if lacks :error :warning)))
 
+(defun mgr--runs (process)
+  "Return whether PROCESS runs.
+An Emacs that a signal ends is not told of the end of others: this looks."
+  (and (process-live-p process)
+       (not (equal "Z" (alist-get 'state (process-attributes (process-id process)))))))
+
 (defun mgr--leave (session)
   "Leave SESSION, once all is saved."
-  (let* ((process (mgr--session-process session)) (until (time-add nil 2)) (mgr--is-awaiting t)
-         ;; An Emacs that a signal ends is told of no process's end, but of that of its pipe.
-         (pipe (get-buffer-process (process-get process 'mgr-told))))
+  (let ((process (mgr--session-process session)) (until (time-add nil 2)) (mgr--is-awaiting t))
     (setf (mgr--session-is-left session) t)
     (when (process-live-p process)
       (process-send-eof process)
-      (while (and (process-live-p process) (process-live-p pipe))
+      (while (mgr--runs process)
         (accept-process-output process 0.1)
         (when (and until (time-less-p until nil))
           (setq until nil)
