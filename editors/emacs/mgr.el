@@ -618,7 +618,8 @@ is to be asked about that who types on or saves."
     (set-visited-file-modtime)))
 
 (defun mgr--live-session ()
-  "Return the session of this buffer, which has all of it; it is an error if there is none."
+  "Return the session of this buffer, once it has sent all of that.
+It is an error if there is none."
   (unless mgr--session
     (user-error "This buffer is no open note"))
   (mgr--send-rest mgr--session)
@@ -698,7 +699,8 @@ At a hub of this machine it is the file of a copy."
       (accept-process-output told 0.2))
     (if (not (buffer-live-p buffer))
         ""
-      (prog1 (string-trim (with-current-buffer buffer (buffer-string)) "\\(?:usage:\\(?:.\\|\n\\)*? error:\\)?[ \n]*")
+      (prog1 (string-trim (with-current-buffer buffer (buffer-string))
+                          "\\(?:usage:\\(?:.\\|\n\\)*? error:\\)?[ \n]*")
         (let ((kill-buffer-query-functions nil))
           (kill-buffer buffer))))))
 
@@ -742,7 +744,7 @@ At a hub of this machine it is the file of a copy."
                    (if lacks :error :warning)))
 
 (defun mgr--runs (process)
-  "Return whether PROCESS runs.
+  "Return whether PROCESS is alive.
 An Emacs that a signal ends is not told of the end of others: this looks."
   (and (process-live-p process)
        (not (equal "Z" (alist-get 'state (process-attributes (process-id process)))))))
