@@ -24,7 +24,7 @@ CHANNEL = ROOT / "front" / "mgr-channel"
 COMPILED = ROOT / "build" / "try-emacs" / "elisp"
 # Characters from here on stand nowhere else; each who writes has so many of them.
 LEAST, EACH = 0x20000, 0x3000
-PATIENCE, REST = 300, 120
+PATIENCE, REST = 300, 60
 # In so many sessions of all 1 MB is pasted.
 LARGE = 0.1
 UP, DOWN, LEAVE = b"\x10", b"\x0e", b"\x18\x03"
@@ -232,7 +232,7 @@ class Game:
             writer.again()
 
     def rest(self):
-        """Waits until all have one text, and returns it."""
+        """Waits until all have one text, for as long as a text changes, and returns it."""
         end, last = time.monotonic() + REST, None
         while True:
             states = [writer.ask("(writer-state)") for writer in self.writers]
@@ -241,7 +241,8 @@ class Game:
             is_one = len(set(texts)) == 1 and all(state["rests"] for state in states)
             if is_one and texts == last:
                 return texts[0]
-            last = texts
+            if texts != last:
+                end, last = time.monotonic() + REST, texts
             if time.monotonic() > end:
                 raise Fault(f"the texts stay apart: {differences(texts)}, {[state['shown'] for state in states]}")
             time.sleep(0.4)
