@@ -68,7 +68,8 @@ try-sharing: build/mgr
 try-engines: build/mgr
 	@scripts/try_engines.py build/mgr
 
-# mgr.el in batch Emacs: its tests, random sessions with an mgr-live at a hub, how long a key takes. It takes some four minutes.
+# mgr.el in batch Emacs: its tests, notes by ssh, a folder, git and Redis, random sessions with an mgr-live at a hub, how long a key takes.
+# It takes some five minutes.
 try-emacs: build/mgr
 	@$(NEED_PYTHON)
 	@scripts/try_emacs.py build/mgr
