@@ -171,8 +171,10 @@ What comes meanwhile waits, unless it reads in the minibuffer.")
       ("fault" (mgr--note-fault session .why))
       ("refused" (setf (mgr--session-why session) (format "a change was refused: %s" .why)))
       ("say" (message "%s: %s" (buffer-name) .text))
-      ("over" (mgr--end session (or (mgr--session-why session)
-                                    (mgr--told (mgr--session-process session))))))))
+      ("over" (when (mgr--session-begun session)
+                (set-process-filter (mgr--session-process session) t)
+                (mgr--end session (or (mgr--session-why session)
+                                      (mgr--told (mgr--session-process session)))))))))
 
 (defun mgr--await (session done)
   "Wait for DONE to return non-nil while SESSION lives, not too long; return that."
@@ -187,6 +189,7 @@ What comes meanwhile waits, unless it reads in the minibuffer.")
 
 (defun mgr--no-answer (session)
   "Say that mgr was asked in vain in SESSION."
+  (setq buffer-save-without-query nil)
   (if (process-live-p (mgr--session-process session))
       (user-error "%s: mgr has not answered for %s seconds; what it took it will do"
                   (mgr--session-path session) mgr-seconds)
@@ -445,6 +448,8 @@ COUNT says how many steps it is."
 (defun mgr--note-fault (session why)
   "Take note in SESSION of WHY the log was not written; if WHY is empty it was."
   (setf (mgr--session-fault session) why)
+  ;; Whoever ends Emacs has to be able to say no to what fails.
+  (setq buffer-save-without-query (string-empty-p why))
   (unless (string-empty-p why)
     (message "%s: %s" (buffer-name) why))
   (force-mode-line-update))
@@ -715,6 +720,7 @@ At a hub of this machine it is the file of a copy."
 
 (defun mgr--end (session why)
   "End SESSION; WHY is what was wrong, and empty if nothing was."
+  (setf (mgr--session-is-over session) t)
   (when (process-live-p (mgr--session-process session))
     (ignore-errors (process-send-eof (mgr--session-process session))))
   (when (buffer-live-p (mgr--session-buffer session))
@@ -724,7 +730,6 @@ At a hub of this machine it is the file of a copy."
                (is-bad (or lacks (not (mgr--session-is-left session)))))
           (setq mgr--session nil mgr-mode nil)
           (mgr--watch (remq session mgr--sessions))
-          (setf (mgr--session-is-over session) t)
           (mapc (lambda (each) (delete-overlay (cdr each))) (mgr--session-others session))
           (mgr--take-down (not is-bad))
           (set-buffer-modified-p is-bad)
@@ -743,27 +748,29 @@ At a hub of this machine it is the file of a copy."
                              "The note has all that this buffer has: `mgr-open' opens it again"))
                    (if lacks :error :warning)))
 
-(defun mgr--runs (process)
-  "Return whether PROCESS is alive.
-An Emacs that a signal ends is not told of the end of others: this looks."
-  (and (process-live-p process)
-       (not (equal "Z" (alist-get 'state (process-attributes (process-id process)))))))
-
 (defun mgr--leave (session)
-  "Leave SESSION, once all is saved."
-  (let ((process (mgr--session-process session)) (until (time-add nil 2)) (mgr--is-awaiting t))
+  "Leave SESSION, once all is saved; \\[keyboard-quit] has mgr go on alone."
+  (let ((process (mgr--session-process session)) (mgr--is-awaiting t))
     (setf (mgr--session-is-left session) t)
-    (when (process-live-p process)
-      (process-send-eof process)
-      (while (mgr--runs process)
-        (accept-process-output process 0.1)
-        (when (and until (time-less-p until nil))
-          (setq until nil)
-          (message "Waiting for mgr to save %s; C-g leaves that to it" (mgr--session-path session)))))
-    ;; What it said last may not be taken yet, nor its end.
-    (while (accept-process-output process 0.05))
-    (mgr--take-queue session)
-    (mgr--end session (mgr--told process))))
+    (condition-case nil
+        (progn (ignore-errors (process-send-eof process))
+               (mgr--await-end session process)
+               (mgr--take-queue session)
+               (mgr--end session (mgr--told process)))
+      (quit (message "mgr goes on to save %s" (mgr--session-path session))))))
+
+(defun mgr--await-end (session process)
+  "Wait until PROCESS, that of SESSION, has ended, or has said that it is about to.
+An Emacs that a signal ends is not told of the end of a process, and waits for
+output for ever once there is none."
+  (let ((until (time-add nil 2)))
+    (while (and (process-live-p process) (not (mgr--session-is-over session)))
+      (accept-process-output process 0.1)
+      (when (and until (time-less-p until nil))
+        (setq until nil)
+        (message "Waiting for mgr to save %s; C-g leaves that to it" (mgr--session-path session))))
+    ;; What it said last may not be taken yet.
+    (while (and (not (mgr--session-is-over session)) (accept-process-output process 0.05)))))
 
 (defun mgr--is-note ()
   "Return whether this buffer is a note that is open, and no clone of it."

@@ -69,4 +69,8 @@ def main(words: Sequence[str], folder: str) -> int:
     """Edits as the command line says, and returns the status; `folder` is where mgr-channel stands."""
     options, lines = read_channel(words), Lines()
     speak_for(PROGRAM, lines.choose)
-    return guarded(folder, options, partial(open_note, lines))
+    try:
+        return guarded(folder, options, partial(open_note, lines))
+    finally:
+        lines.say("over")
+        lines.end()
