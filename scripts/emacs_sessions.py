@@ -25,8 +25,8 @@ COMPILED = ROOT / "build" / "try-emacs" / "elisp"
 # Characters from here on stand nowhere else; each who writes has so many of them.
 LEAST, EACH = 0x20000, 0x3000
 PATIENCE, REST = 300, 60
-# In so many sessions of all 1 MB is pasted.
-LARGE = 0.1
+# In so many sessions of all 1 MB is pasted. What redoes that takes minutes to all others on a busy machine.
+LARGE, LARGE_REST = 0.1, 600
 UP, DOWN, LEAVE = b"\x10", b"\x0e", b"\x18\x03"
 
 
@@ -233,7 +233,8 @@ class Game:
 
     def rest(self):
         """Waits until all have one text, for as long as a text changes, and returns it."""
-        end, last = time.monotonic() + REST, None
+        patience = LARGE_REST if self.is_large else REST
+        end, last = time.monotonic() + patience, None
         while True:
             states = [writer.ask("(writer-state)") for writer in self.writers]
             files = [self.folder / name / "note" for name in ("hub", "live")]
@@ -242,7 +243,7 @@ class Game:
             if is_one and texts == last:
                 return texts[0]
             if texts != last:
-                end, last = time.monotonic() + REST, texts
+                end, last = time.monotonic() + patience, texts
             if time.monotonic() > end:
                 raise Fault(f"the texts stay apart: {differences(texts)}, {[state['shown'] for state in states]}")
             time.sleep(0.4)
