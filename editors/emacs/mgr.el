@@ -73,8 +73,8 @@
   "What no note takes: halves of characters, what is no character, raw bytes.")
 
 (cl-defstruct (mgr--session (:constructor mgr--make-session) (:copier nil))
-  "A note that is open."
-  process buffer path
+  "A note that is open, by this name; its file may have another PATH."
+  process buffer name path
   ;; How many changes were made here, how many of these the log has, how many
   ;; of others were made here too, and the size of the text.
   (made 0) (kept 0) (seen 0) (size 0)
@@ -639,7 +639,7 @@ Return its buffer."
     (user-error "%s is not installed: see `mgr-channel-program'" mgr-channel-program))
   (let* ((buffer (generate-new-buffer (file-name-nondirectory name)))
          (told (generate-new-buffer " *mgr-channel*" t))
-         (session (mgr--make-session :buffer buffer))
+         (session (mgr--make-session :buffer buffer :name name))
          (process-adaptive-read-buffering nil)
          (default-directory (file-name-directory name)))
     (setf (mgr--session-process session)
@@ -695,19 +695,24 @@ At a hub of this machine it is the file of a copy."
   (setq mgr--session session)
   (mgr--watch (cons session mgr--sessions))
   (set-buffer-modified-p nil)
-  (mgr-mode 1))
+  (mgr-mode 1)
+  (let ((told (mgr--told (mgr--session-process session) t)))
+    (unless (string-empty-p told)
+      (message "%s" told))))
 
-(defun mgr--told (process)
-  "Return what PROCESS said on standard error, once it has ended."
+(defun mgr--told (process &optional goes-on)
+  "Return what PROCESS said on standard error since this was last asked.
+Unless it GOES-ON that is the last."
   (let ((buffer (process-get process 'mgr-told)))
-    (when-let* ((told (get-buffer-process buffer)))
-      (accept-process-output told 0.2))
+    (when-let* ((pipe (get-buffer-process buffer)))
+      (accept-process-output pipe (if goes-on 0.01 0.2)))
     (if (not (buffer-live-p buffer))
         ""
-      (prog1 (string-trim (with-current-buffer buffer (buffer-string))
+      (prog1 (string-trim (with-current-buffer buffer (delete-and-extract-region (point-min) (point-max)))
                           "\\(?:usage:\\(?:.\\|\n\\)*? error:\\)?[ \n]*")
-        (let ((kill-buffer-query-functions nil))
-          (kill-buffer buffer))))))
+        (unless goes-on
+          (let ((kill-buffer-query-functions nil))
+            (kill-buffer buffer)))))))
 
 (defun mgr--sentinel (process _event)
   "Take note that PROCESS ended."
@@ -804,7 +809,9 @@ output for ever once there is none."
 
 (defun mgr--enter (name words)
   "Go to the buffer of the note NAME; if it is not open, open it with these WORDS."
-  (let* ((name (mgr--checked (string-remove-suffix ".ops" name))) (buffer (find-buffer-visiting name)))
+  (let* ((name (mgr--checked (string-remove-suffix ".ops" name)))
+         (session (cl-find name mgr--sessions :key #'mgr--session-name :test #'equal))
+         (buffer (if session (mgr--session-buffer session) (find-buffer-visiting name))))
     (cond ((and buffer (buffer-local-value 'mgr--session buffer)) (ignore buffer))
           ((and buffer (buffer-modified-p buffer)) (user-error "%s has changes: save it first" buffer))
           (t (when buffer (kill-buffer buffer))
