@@ -231,7 +231,9 @@ Point, region, narrowing and the kill ring stay."
         (goto-char (1+ lo))
         (delete-region (point) (1+ hi))
         (insert text)
-        (setf (mgr--session-size session) (buffer-size) (mgr--session-old session) nil)))))
+        ;; Not the size of the buffer: what other hooks may do is to be seen.
+        (cl-incf (mgr--session-size session) (- (length text) (- hi lo)))
+        (setf (mgr--session-old session) nil)))))
 
 ;;;; Changes of one's own
 
@@ -529,12 +531,12 @@ Return nil if that is not known, or if it has less than MADE changes."
 
 (defun mgr--lighter ()
   "Return the part of the mode line about the note."
-  (if-let* ((session mgr--session))
-      (let ((told (mgr--session-shown session)) (fault (mgr--session-fault session)))
-        (cond ((not (string-empty-p fault)) (format " mgr[%s]" fault))
-              ((string-empty-p told) " mgr")
-              (t (format " mgr[%s]" told))))
-    ""))
+  (if (or (not mgr--session) (mgr--session-is-over mgr--session))
+      ""
+    (let ((told (mgr--session-shown mgr--session)) (fault (mgr--session-fault mgr--session)))
+      (cond ((not (string-empty-p fault)) (format " mgr[%s]" fault))
+            ((string-empty-p told) " mgr")
+            (t (format " mgr[%s]" told))))))
 
 ;;;; Begin and end
 
@@ -625,7 +627,7 @@ is to be asked about that who types on or saves."
 (defun mgr--live-session ()
   "Return the session of this buffer, once it has sent all of that.
 It is an error if there is none."
-  (unless mgr--session
+  (unless (and mgr--session (not (mgr--session-is-over mgr--session)))
     (user-error "This buffer is no open note"))
   (mgr--send-rest mgr--session)
   mgr--session)

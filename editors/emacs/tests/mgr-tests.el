@@ -413,6 +413,24 @@
      (should (equal (mgr-tests-same one other) "in front, some signs of a text")))
    "some words of a text"))
 
+(ert-deftest mgr-tests-answered ()
+  "A buffer that something else changes as others write is live no longer."
+  (mgr-tests-with-two
+   (lambda (one other)
+     (with-current-buffer one
+       (add-hook 'after-change-functions
+                 (lambda (&rest _)
+                   (unless (= ?! (char-before (point-max)))
+                     (save-excursion (goto-char (point-max)) (insert "!"))))
+                 nil t))
+     (with-current-buffer other
+       (mgr-tests-insert "more "))
+     (mgr-tests-await "it has come" (lambda () (equal (mgr-tests-string one) "more some!")))
+     (run-hooks 'post-command-hook)
+     (should-not (buffer-local-value 'mgr-mode one))
+     (should (eq (nth 2 (car mgr-tests-warned)) :warning)))
+   "some"))
+
 (ert-deftest mgr-tests-at-once ()
   "Two who write at the same time come to one text with the words of both."
   (mgr-tests-with-two

@@ -79,6 +79,9 @@ What stands between two things that an undo takes is put again by it."
 
 ;;;; What is done
 
+(defvar writer-undoing nil
+  "Whether mgr ended while an undo was asked for, which it may have done.")
+
 (defun writer-do (command &optional event)
   "Have COMMAND be done as by a key, by that of EVENT."
   (setq this-command command)
@@ -86,7 +89,9 @@ What stands between two things that an undo takes is put again by it."
   (condition-case fault
       (let ((last-command-event (or event ?x)) (current-prefix-arg nil))
         (if (symbolp command) (call-interactively command) (funcall command)))
-    ((user-error beginning-of-buffer end-of-buffer buffer-read-only) nil)
+    ((user-error beginning-of-buffer end-of-buffer buffer-read-only)
+     (unless mgr--session
+       (setq writer-undoing (or writer-undoing (memq command '(mgr-undo mgr-undo-only mgr-redo))))))
     ;; What a killed program did not answer is no fault.
     (error (unless (or (not mgr--session) (string-search "two things" (error-message-string fault)))
              (push (format "%S: %S" command fault) writer-faults))))
@@ -234,20 +239,30 @@ What stands between two things that an undo takes is put again by it."
 
 (advice-add 'mgr--warn :override #'writer-note-end)
 
+(defun writer-whole ()
+  "Return the text of this buffer."
+  (save-restriction (widen) (buffer-substring-no-properties (point-min) (point-max))))
+
 (defun writer-state ()
   "Return the text, and how far others have it."
   (let ((session mgr--session))
-    (list :text (save-restriction (widen) (buffer-substring-no-properties (point-min) (point-max)))
+    (list :text (writer-whole)
           :rests (if (and session (= (mgr--session-made session) (mgr--session-kept session))) t :false)
           :shown (if session (mgr--session-shown session) ""))))
 
 (defun writer-open-again (name words)
   "Open the note NAME again with WORDS, as one does whose session ended."
-  (when writer-lacks
-    (save-restriction (widen) (write-region nil nil buffer-file-name nil 'quiet)))
-  (set-buffer-modified-p nil)
-  (setq writer-lacks nil)
-  (writer-open name words))
+  (let ((before (writer-unique (writer-whole))))
+    (when writer-lacks
+      (save-restriction (widen) (write-region nil nil buffer-file-name nil 'quiet)))
+    (set-buffer-modified-p nil)
+    (setq writer-lacks nil)
+    (prog1 (writer-open name words)
+      (when writer-undoing
+        (setq writer-undoing nil)
+        (dolist (sign (cl-set-difference before (writer-unique (writer-whole))))
+          (when (gethash sign writer-mine)
+            (push sign writer-gone)))))))
 
 (defun read-char-choice (_prompt _letters &rest _)
   "The answer to whether the text or the log counts: the text."
