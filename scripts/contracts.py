@@ -8,6 +8,8 @@ they are. They are found by name, so that a variable with the name of a definiti
 definition. What the sources declare, types and how these are seen, is not followed. After names
 `--down-to mg_plain,mg_keys` prints these definitions themselves, down to those of these crates and of
 the crates below them.
+With `--without-clause mgr_port`: the functions of that crate that have no clause, of their own or of a
+trait, and how many they are.
 With --claim: what is to be read to audit the claim of README.md, part by part in docs/promises.md, which are the definitions that the
 contracts of its table reach, by file; and after them, by file, those that no such contract reaches.
 """
@@ -22,6 +24,7 @@ import plain_ends  # noqa: F401
 
 CRATES = pathlib.Path(__file__).resolve().parent.parent / "crates"
 CALL = re.compile(r"^( *)(pub )?(?:const )?fn (\w+)", re.M)
+FUNCTION = re.compile(r"^( *)(?:pub(?:\(crate\))? )?(?:const )?fn (\w+)", re.M)
 OWNER = re.compile(r"^(?:pub (?:trait (?P<trait>\w+))|trait |impl\b(?P<impl>[^{]*))", re.M)
 CLAUSE = re.compile(r"\b(?:requires|ensures)(?:\s+[\w-]+)?\s*$")
 DEFINITION = re.compile(r"(?:  )?(?:(?:abbrev|unfoldable)(?: pub)?|pub (?:record|data)) (\w+)|pub (\w+) :")
@@ -70,6 +73,20 @@ def calls_of(crate):
             meets = headings and (headings[-1]["trait"] or " for " in (headings[-1]["impl"] or "") and clauses)
             if (call[2] or meets) and (owner in exported or is_program or not headings):
                 yield path, f"{owner}::{call[3]}" if owner else call[3], whole[call.start():end].rstrip(), clauses
+
+
+def print_without_clause(crate):
+    found, count = [], 0
+    for path in sorted((CRATES / crate / "src").rglob("*.rt")):
+        text = without_comments(path.read_text(), "//")
+        for function in FUNCTION.finditer(text):
+            headings = [heading for heading in OWNER.finditer(text, 0, function.start())] if function[1] else []
+            is_of_a_trait = headings and " for " in (headings[-1]["impl"] or "")
+            count += 1
+            if not is_of_a_trait and not head_and_clauses(text, function.start())[1]:
+                found.append(f"{path.stem}: {function[2]}")
+    print(*found, sep="\n")
+    print(f"{len(found)} of {count} functions of {crate} have no clause")
 
 
 def scope_of(text):
@@ -205,6 +222,8 @@ def main():
     words, printed, last = sys.argv[1:], set(), None
     if words == ["--claim"]:
         return print_claim()
+    if words[:1] == ["--without-clause"] and len(words) == 2 and words[1] in listed_crates():
+        return print_without_clause(words[1])
     ended = below(words.pop(words.index("--down-to") + 1).split(",")) if "--down-to" in words[:-1] else None
     asked = set(words) - {"--down-to"}
     for crate in listed_crates():

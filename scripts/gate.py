@@ -46,7 +46,7 @@ def proved(tree, name):
         progress.show_faults()
         return passed, max(failed, 1)
     progress.keep()
-    print(counts[0], flush=True)
+    print(*[line for line in last if line.startswith("rt: ok")], counts[0], sep="\n", flush=True)
     return passed, failed
 
 

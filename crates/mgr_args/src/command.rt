@@ -10,8 +10,8 @@ use crate::part::described;
 use clap::Command;
 use std::alloc::{AllocError, Global};
 
-/// The version of the package.
-pub const VERSION: &str = "0.1.0";
+/// The version of the package, and the toolchain that proves it.
+pub const VERSION: &str = "0.1.0 (rattle-kit-13f)";
 
 const MGR_HELP: &str = "`mgr help show` is the help of `show`, and so on.";
 

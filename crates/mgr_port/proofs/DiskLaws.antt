@@ -1,7 +1,7 @@
 -- What stands under a name behind each beginning of the steps that give it a file.
 use Rattle.std.proofs.Common.{◌≡◌, ◌⊎◌, inl, inr, ℕ, List, [], ◌∷◌, ◌++◌, Bool, true, false, Option, Some, None, Result, OnErr, refl, sym, ap, ◌∙◌, subst, append_assoc}
 use Rattle.std.proofs.lemmas.Result.{on_err_weaker}
-use Rattle.mgr_port.specs.Disk.{DiskStep, Empties, Writes, Syncs, Keeps, TakesName, SyncsFolder, Removes, BeginsSteps, AreGivenUp, Place, behind_step, behind_steps, MayBeFound, IsUntouched, keeping_steps, unnamed_steps, whole_steps, TellsSteps, TellsWrittenFront, StopsBefore}
+use Rattle.mgr_port.specs.Disk.{DiskStep, Empties, Writes, Syncs, Removes, BeginsSteps, AreGivenUp, Place, behind_step, behind_steps, MayBeFound, IsUntouched, keeping_steps, unnamed_steps, whole_steps, TellsSteps, TellsWrittenFront, StopsBefore}
 
 -- It holds of a place, of it behind a part of the first step where that is a write, and so on behind that step.
 abbrev Always : (Place → Type 0) → Place → List DiskStep → Type 0

@@ -1,3 +1,4 @@
 pub mod DiskLaws
 pub mod RaisedLaws
 pub mod LogsLaws
+pub mod WorldLaws

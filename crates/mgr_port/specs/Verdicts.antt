@@ -1,5 +1,5 @@
 -- What becomes of files, by what was looked at.
-use Rattle.std.specs.Prelude.{◌≡◌, ◌≢◌, ◌⊎◌, ℕ, ◌≤◌, pos, Bool, true, Option, Some, bit_and, bit_or, if◌then◌else◌}
+use Rattle.std.specs.Prelude.{◌≡◌, ◌≢◌, ◌⊎◌, ℕ, ◌≤◌, pos, Bool, true, Some, bit_and, bit_or, if◌then◌else◌}
 use Rattle.mgr_port.specs.declared.stamp.Stamp.{Stamp}
 use Rattle.mgr_port.specs.declared.stamp.Time.{Time}
 use Rattle.mgr_port.specs.declared.log.FoundLog.{FoundLog}

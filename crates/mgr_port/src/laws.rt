@@ -1,6 +1,9 @@
-//! Theorems about files that are written whole. Each function does nothing: its contract is the
-//! theorem.
+//! Theorems about files that are written whole, and about paths that go. Each function does nothing:
+//! its contract is the theorem.
 ghost use Rattle.std.specs.Prelude.{◌≡◌, ◌⊎◌, ℕ, List, Bool, true, Option, Some};
+ghost use Rattle.mgr_port.specs.declared.spare.Look.{Look};
+ghost use Rattle.mgr_port.specs.Spares.{IsNothing};
+ghost use Rattle.mgr_port.specs.Worlds.{World, Has, Shows, IsLinked, IsMade, IsLeftAlone, IsBare, StoodUnder, Locks};
 ghost use Rattle.mgr_port.specs.Disk.{DiskStep, Place, BeginsSteps, AreGivenUp, IsUntouched, MayBeFound, behind_steps, whole_steps};
 
 /// If the machine stops behind any beginning of the steps of `put_whole`, the old file stands under
@@ -20,4 +23,26 @@ pub fn a_file_is_whole_whenever_the_machine_stops()
     ensures kept { (p : Place) (bytes : List ℕ) (made : List DiskStep) → IsUntouched p
         → BeginsSteps made (whole_steps true bytes) → (behind_steps p made).is_named ≡ true
         → (behind_steps p made).is_kept ≡ true }
+{}
+
+/// What a path stood for when it goes, was nothing, or stood under another name before, if other
+/// programs leave the path and its file alone from the look on, the second name, or the reading. They
+/// may do anything else, to that name too. `keep`, `make_way` and `give_free_name` take these steps.
+pub fn a_path_that_goes_loses_nothing()
+    ensures nothing { (path : List ℕ) (found : Option Look) (a b : World) → IsNothing found
+        → Shows a path found → IsLeftAlone path a b → IsBare b path }
+    ensures linked { (path name : List ℕ) (a b c : World) → IsLinked path name a b
+        → IsLeftAlone path b c → StoodUnder name b path c }
+    ensures copied { (path name bytes : List ℕ) (file : ℕ) (a b c d : World) → Has a path file
+        → a.bytes file ≡ bytes → IsLeftAlone path a b → IsMade name bytes b c
+        → IsLeftAlone path c d → StoodUnder name c path d }
+{}
+
+/// If one session has the file of a path locked, and keeps it so while nobody gives the path to
+/// another file, whoever has the file of that path locked then is the same. So a note has one
+/// session: `open_locked` and `take_beside` look at the path after they have the lock.
+pub fn a_note_has_one_session()
+    ensures { (path : List ℕ) (one two first second : ℕ) (a b : World) → Locks one a path first
+        → IsLeftAlone path a b → b.holder first ≡ Some one → Locks two b path second
+        → one ≡ two }
 {}

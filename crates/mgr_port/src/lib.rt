@@ -4,14 +4,22 @@
 //! mg_files for what a port is, and on rga_exchange for devices that are counted. The layer above
 //! may rest on the contracts of `Port`, and of `Logs` for a log that is written anew, where this
 //! one tells no calls, no links and no steps: what files give and keep, and what a peer says, no
-//! clause can name. So that a note has one writer, that its files are whole whenever the machine
-//! stops, and that nothing that the note has not is destroyed, is said beside each function, and
-//! tried with the built program.
+//! clause can name.
+//!
+//! What may be destroyed is decided over a `Folder`, a trait of steps, each a call of the system or
+//! two. A path goes, or is given to another file, only as a `Spare`, which a look, a second name or a
+//! copy makes; lines are put behind a log only after it was looked at. That is proved for every
+//! folder, whatever other programs do in it; the machine's (`System`) tells nothing, and is short.
+//! That files are whole whenever the machine stops is said beside the other functions, and tried with
+//! the built program.
 #![tactic(auto)]
 
 mod disk;
 mod files;
+mod folder;
+mod keeping;
 pub mod laws;
+mod locking;
 mod log;
 mod logs;
 mod names;
@@ -19,11 +27,19 @@ mod note;
 mod patient;
 mod port;
 mod rewriting;
+mod spare;
 mod staged;
 mod stamp;
+mod system;
 mod text;
 
 pub use disk::{Disk, Named, put_whole};
+pub use folder::{Folder, Lock, Opening};
+pub use keeping::{Keeping, give_free_name, keep, make_way, remove_open, spare_for};
+pub use locking::{open_locked, take_beside};
+pub use log::{End, LeftLog};
 pub use logs::Logs;
 pub use port::FilePort;
 pub use rewriting::OpenLog;
+pub use spare::{Look, Reason, Spare, Standing};
+pub use stamp::Stamp;

@@ -1,30 +1,31 @@
 //! A log that this port has open.
-ghost use Rattle.std.specs.Prelude.{◌≡◌, ◌↔◌, true};
+ghost use Rattle.std.specs.Prelude.{◌≡◌, ◌↔◌, OnErr, OnOk, true};
+ghost use Rattle.mgr_port.specs.Growth.{IsAdded, ShowsGrowth};
 ghost use Rattle.mgr_port.specs.Verdicts.{MayGrow};
 
-use crate::files::{metadata_if_there, write_lines};
-use crate::staged::{Date, remove_next};
+use crate::folder::Folder;
+use crate::keeping::remove_second_name;
+use crate::staged::Date;
 use crate::stamp::{LATER, Stamp};
 use mg_files::LogLines;
-use std::fs::{File, Metadata};
+use std::fs::File;
 use std::io;
 use std::io::{ErrorKind, Read};
 use std::os::unix::fs::FileExt;
-use std::rt::Files;
 
 /// How many bytes of a log's end are remembered.
 const END: usize = 256;
 
 /// A log as this port read or wrote it last. It is locked for as long as it is open.
 #[derive(Drop)]
-pub(crate) struct Log {
-    file: File,
+pub(crate) struct Log<T> {
+    file: T,
     pub(crate) left: LeftLog,
 }
 
 /// What a log was when this port left it.
 #[derive(Clone, Copy)]
-pub(crate) struct LeftLog {
+pub struct LeftLog {
     pub(crate) stamp: Stamp,
     end: End,
 }
@@ -40,29 +41,65 @@ pub(crate) struct FoundLog {
 
 /// The last bytes of a log.
 #[derive(Clone, Copy, PartialEq, Eq)]
-pub(crate) struct End {
+pub struct End {
     bytes: [u8; END],
     length: usize,
 }
 
-impl Log {
+impl<T: Drop> Log<T> {
     /// A log that was read up to such a length. What another program put behind it meanwhile was not.
-    pub(crate) fn read_to(file: File, length: u64) -> io::Result<Log> {
-        let mut stamp = Stamp::of(&file.metadata()?);
+    pub(crate) fn read_to<F: Folder<File = T>>(
+        folder: &mut F,
+        file: T,
+        length: u64,
+    ) -> io::Result<Log<T>> {
+        let mut stamp = folder.look_at(&file)?.stamp;
         stamp.length = length;
-        let end = End::of(&file, length)?;
-        Ok(Log {
-            file,
-            left: LeftLog { stamp, end },
-        })
+        match folder.end_of(&file, length)? {
+            Some(end) => Ok(Log {
+                file,
+                left: LeftLog { stamp, end },
+            }),
+            None => Err(io::Error::from(ErrorKind::UnexpectedEof)),
+        }
     }
 
-    /// Takes another name from it, if it has that: one that was killed when it gave the log its name may
-    /// have left it both.
-    pub(crate) fn give_up<R: Files<File = File>>(&self, rt: &R, path: &str) {
-        remove_next(rt, path, &self.file);
+    /// Takes another name from it, if it has that beside its own: one that was killed when it gave the
+    /// log its name may have left it both.
+    pub(crate) fn give_up<F: Folder<File = T>>(&self, folder: &mut F, path: &str) {
+        let _ = remove_second_name(folder, path, &self.file);
     }
 
+    /// Adds lines at the end, and waits until they are on the device. Nothing is written if the path
+    /// stands for another file, or the log is not as it was left and at most something whole behind
+    /// it. It is looked at after that, too: what became of it meanwhile may have lost the lines.
+    pub(crate) fn append<F: Folder<File = T>>(
+        &mut self,
+        folder: &mut F,
+        path: &str,
+        lines: &LogLines,
+    ) -> io::Result<()>
+        ensures added { OnOk result (IsAdded path.now self.old.left lines.now self.new.left
+            (F.steps folder.old) (F.steps folder.new)) }
+        ensures same { OnErr result (self.new.left ≡ self.old.left) }
+    {
+        check_growth(folder, path, &self.file, &self.left)?;
+        folder.add_lines(path, &mut self.file, &self.left, lines)?;
+        folder.sync(&self.file)?;
+        let stamp = folder.look_at(&self.file)?.stamp;
+        let end = folder.end_of(&self.file, stamp.length)?;
+        check_growth(folder, path, &self.file, &self.left)?;
+        match end {
+            Some(end) if self.left.stamp.length < stamp.length => {
+                self.left = LeftLog { stamp, end };
+                Ok(())
+            }
+            _ => Err(io::Error::from(ErrorKind::NotFound)),
+        }
+    }
+}
+
+impl Log<File> {
     /// By what a text is dated that is put beside it.
     pub(crate) fn date(&self) -> Date<'_> {
         Date {
@@ -70,56 +107,37 @@ impl Log {
             later: LATER,
         }
     }
+}
 
-    /// The bytes of the log, from its begin.
-    pub(crate) fn read<R: AllocGlobal, F: Read>(rt: &R, file: &mut F) -> io::Result<Vec<u8>> {
-        let mut bytes = Vec::new(rt.alloc());
-        file.read_to_end(&mut bytes)?;
-        Ok(bytes)
-    }
+/// The bytes of a log, from where it is read.
+pub(crate) fn read<R: AllocGlobal, T: Read>(rt: &R, file: &mut T) -> io::Result<Vec<u8>> {
+    let mut bytes = Vec::new(rt.alloc());
+    file.read_to_end(&mut bytes)?;
+    Ok(bytes)
+}
 
-    /// Adds lines at the end, and waits until they are on the device. Nothing is written where the
-    /// path stands for another file, or the log is not as it was left and at most something whole
-    /// behind it. It is looked at behind that, too: what became of it meanwhile may have lost the lines.
-    pub(crate) fn append<R: Files>(
-        &mut self,
-        rt: &R,
-        path: &str,
-        lines: &LogLines,
-    ) -> io::Result<()> {
-        self.check_growth(rt, path)?;
-        write_lines(&mut self.file, lines)?;
-        self.file.sync_all()?;
-        let stamp = Stamp::of(&self.file.metadata()?);
-        if stamp.length <= self.left.stamp.length {
-            return Err(io::Error::from(ErrorKind::NotFound));
-        }
-        self.check_growth(rt, path)?;
-        let end = End::of(&self.file, stamp.length)?;
-        self.left = LeftLog { stamp, end };
-        Ok(())
+/// `NotFound` unless the path stands for the log, which has what it had, and at most lines behind it.
+fn check_growth<F: Folder>(
+    folder: &mut F,
+    path: &str,
+    log: &F::File,
+    left: &LeftLog,
+) -> io::Result<()>
+    ensures { OnOk result
+        (ShowsGrowth path.now left.now (F.steps folder.old) (F.steps folder.new)) }
+{
+    let Some(there) = folder.follow(path)?.found else {
+        return Err(io::Error::from(ErrorKind::NotFound));
+    };
+    let found = FoundLog {
+        stamp: there.stamp,
+        end: folder.end_of(log, left.stamp.length)?,
+        ends_in_newline: folder.ends_in_newline(log, there.stamp.length)?,
+    };
+    if !may_grow(left, &found) {
+        return Err(io::Error::from(ErrorKind::NotFound));
     }
-
-    /// `NotFound` unless the path stands for the log, which has what it had, and at most lines behind
-    /// it.
-    fn check_growth<R: Files>(&self, rt: &R, path: &str) -> io::Result<()> {
-        if let Some(there) = metadata_if_there(rt, path)? {
-            if may_grow(&self.left, &self.look(&there)) {
-                return Ok(());
-            }
-        }
-        Err(io::Error::from(ErrorKind::NotFound))
-    }
-
-    /// What is found of the log, where this has its name.
-    fn look(&self, there: &Metadata) -> FoundLog {
-        let stamp = Stamp::of(there);
-        FoundLog {
-            stamp,
-            end: End::of(&self.file, self.left.stamp.length).ok(),
-            ends_in_newline: ends_in_a_newline(&self.file, stamp.length).unwrap_or(false),
-        }
-    }
+    Ok(())
 }
 
 /// Whether lines may be put behind a log that was left, by what is found of it.
@@ -140,12 +158,25 @@ fn may_grow(left: &LeftLog, found: &FoundLog) -> bool
 
 impl End {
     /// The end of a file of such a length.
-    fn of(file: &File, length: u64) -> io::Result<End> {
+    pub(crate) fn of(file: &File, length: u64) -> io::Result<End> {
         let mut bytes = [0u8; END];
         let count = length.min(END as u64) as usize;
         let from = length.saturating_sub(END as u64);
         file.read_exact_at(&mut bytes[..count], from)?;
         Ok(End {
+            bytes,
+            length: count,
+        })
+    }
+
+    /// The end of a file that begins with so many of these bytes. None if these are fewer.
+    pub fn of_bytes(file: &[u8], length: u64) -> Option<End> {
+        let length = usize::try_from(length).ok()?;
+        let front = file.get(..length)?;
+        let count = length.min(END);
+        let mut bytes = [0u8; END];
+        bytes[..count].copy_from_slice(&front[length - count..]);
+        Some(End {
             bytes,
             length: count,
         })

@@ -1,28 +1,33 @@
 //! The files of one note, as this port found and left them.
+ghost use Rattle.std.specs.Prelude.{◌≡◌, IfOk, OnOk};
+ghost use Rattle.mgr_port.specs.Locks.{HoldsInItsPlace, IsTaken};
+
 use crate::disk::{Named, put_log};
-use crate::files::{
-    OWN, lock_beside, metadata_if_there, open_beside, open_locked, repeat, set_mode, stands_for,
-    take_beside, take_mode,
-};
-use crate::log::Log;
+use crate::files::{OWN, metadata_if_there, set_mode, take_mode};
+use crate::folder::Folder;
+use crate::keeping::remove_open;
+use crate::locking::{hold_empty, open_beside, open_locked, repeat, stands_for, take_beside};
+use crate::log::{Log, read};
 use crate::names::Paths;
 use crate::staged::{Old, Staged, remove_next};
+use crate::system::System;
 use crate::text::Text;
 use mg_files::{Found, LogLines};
+use std::alloc::Global;
 use std::fs::{File, Metadata};
+use std::io;
 use std::io::ErrorKind;
 use std::rt::Files;
-use std::{fs, io};
 
 /// A note under its name. What is open of its files is locked.
 #[derive(Drop)]
 pub(crate) struct Note {
     pub(crate) paths: Paths,
     /// The log, where this port has read or written one.
-    log: Option<Log>,
+    log: Option<Log<File>>,
     /// The next log, where it is open.
     next: Option<File>,
-    text: Text,
+    text: Text<File>,
 }
 
 impl Note {
@@ -60,12 +65,15 @@ impl Note {
 
     fn try_load<R: Files<File = File> + AllocGlobal>(&mut self, rt: &R) -> io::Result<Found> {
         let Some(mut file) = repeat(|| self.try_log(rt))? else {
-            let text = self.text.load(rt, self.paths.text.as_str())?;
+            let text = self
+                .text
+                .load(&mut System { rt }, self.paths.text.as_str())?;
             return Ok(Found { log: None, text });
         };
-        let bytes = Log::read(rt, &mut file)?;
-        let log = Log::read_to(file, bytes.len() as u64)?;
-        log.give_up(rt, self.paths.next_log.as_str());
+        let bytes = read(rt, &mut file)?;
+        let folder = &mut System { rt };
+        let log = Log::read_to(folder, file, bytes.len() as u64)?;
+        log.give_up(folder, self.paths.next_log.as_str());
         let text = self.text.take_beside(rt, self.paths.text.as_str(), &log)?;
         self.log = Some(log);
         Ok(Found {
@@ -77,15 +85,15 @@ impl Note {
     /// The log, locked; where there is none the file that will be it is locked.
     fn try_log<R: Files<File = File> + AllocGlobal>(&mut self, rt: &R) -> io::Result<Option<File>> {
         let path = self.paths.log.as_str();
-        if let Some(file) = open_locked(rt, path, true)? {
+        if let Some(file) = open_locked(&mut System { rt }, path, true)? {
             return Ok(Some(file));
         }
         let next = self.paths.next_log.as_str();
         // In a folder that takes no file, a note can be looked at all the same.
-        let Ok(file) = open_beside(rt, next) else {
+        let Ok(file) = open_beside(&mut System { rt }, next) else {
             return Ok(None);
         };
-        match lock_next(rt, next, &file, path) {
+        match lock_next(&mut System { rt }, rt.alloc(), next, &file, path) {
             Ok(()) => self.next = Some(file),
             Err(error) if error.kind() == ErrorKind::PermissionDenied => {}
             Err(error) => return Err(error),
@@ -102,7 +110,7 @@ impl Note {
     ) -> io::Result<()> {
         let path = self.paths.log.as_str();
         if let Some(log) = &mut self.log {
-            return log.append(rt, path, lines);
+            return log.append(&mut System { rt }, path, lines);
         }
         if metadata_if_there(rt, path)?.is_some() {
             return Err(io::Error::from(ErrorKind::AlreadyExists));
@@ -130,13 +138,13 @@ impl Note {
     ) -> io::Result<()> {
         let path = self.paths.next_log.as_str();
         if let Some(log) = &self.log {
-            log.give_up(rt, path);
+            log.give_up(&mut System { rt }, path);
         }
-        let mut next = take_next(rt, path, &mut self.next)?;
+        let mut next = take_next(&mut System { rt }, rt.alloc(), path, &mut self.next)?;
         match name_next(rt, &self.paths, &mut next, lines, standing) {
             Ok(named) => {
                 let length = next.metadata()?.len();
-                self.log = Some(Log::read_to(next, length)?);
+                self.log = Some(Log::read_to(&mut System { rt }, next, length)?);
                 named.settled()
             }
             Err(error) => {
@@ -163,44 +171,53 @@ impl Note {
 
     /// Removes what was only locked in the place of a log that was never made, and a name that the log
     /// may have kept beside its own.
-    pub(crate) fn leave<R: Files<File = File>>(&self, rt: &R) {
+    pub(crate) fn leave<R: Files<File = File> + AllocGlobal>(&self, rt: &R) {
         let path = self.paths.next_log.as_str();
         if let Some(next) = &self.next {
             remove_next(rt, path, next);
         }
         if let Some(log) = &self.log {
-            log.give_up(rt, path);
+            log.give_up(&mut System { rt }, path);
         }
     }
 }
 
-/// Locks the next log. `Interrupted` as of `lock_beside`, and where the log is there by now.
-fn lock_next<R: Files<File = File> + AllocGlobal>(
-    rt: &R,
+/// Locks the next log, which is empty. `Interrupted` as of `hold_empty`, and if the log is there by
+/// now.
+fn lock_next<F: Folder>(
+    folder: &mut F,
+    alloc: Global,
     path: &str,
-    next: &File,
+    next: &F::File,
     log: &str,
-) -> io::Result<()> {
-    lock_beside(rt, path, next)?;
-    if metadata_if_there(rt, log)?.is_some() {
-        let _ = fs::remove_file(rt, path);
+) -> io::Result<()>
+    ensures { OnOk result
+        (HoldsInItsPlace path.now log.now (F.steps folder.old) (F.steps folder.new)) }
+{
+    hold_empty(folder, alloc, path, next)?;
+    if folder.follow(log)?.found.is_some() {
+        let _ = remove_open(folder, path, next);
         return Err(io::Error::from(ErrorKind::Interrupted));
     }
     Ok(())
 }
 
-/// The next log of a path, open and locked.
-fn take_next<R: Files<File = File> + AllocGlobal>(
-    rt: &R,
+/// The next log of a path, locked: the one that is open, if the path still stands for it.
+fn take_next<F: Folder>(
+    folder: &mut F,
+    alloc: Global,
     path: &str,
-    open: &mut Option<File>,
-) -> io::Result<File> {
+    open: &mut Option<F::File>,
+) -> io::Result<F::File>
+    ensures { IfOk result
+        (λ _. IsTaken path.now (F.steps folder.old) (F.steps folder.new)) }
+{
     if let Some(next) = open.take() {
-        if stands_for(rt, path, &next)? {
+        if stands_for(folder, path, &next)? {
             return Ok(next);
         }
     }
-    take_beside(rt, path)
+    take_beside(folder, alloc, path)
 }
 
 /// Writes all of the next log, and gives it the log's name. Its owner and rights are those of the log
@@ -229,6 +246,7 @@ fn name_next<'a, R: Files<File = File> + AllocGlobal>(
         name: paths.log.as_str(),
         date: None,
         old,
+        spare: None,
     };
     put_log(&mut staged, lines, keeps)
 }

@@ -6,7 +6,7 @@ ghost use Rattle.mg_files.specs.Calls.{failures_after, failures_after_link};
 ghost use Rattle.mg_files.specs.declared.port.LinkFault.TheVariants.{NoPort};
 ghost use Rattle.mgr_port.specs.Logs.{raised};
 
-use crate::log::Log;
+use crate::log::read;
 use crate::logs::Logs;
 use crate::names::Paths;
 use crate::note::Note;
@@ -275,7 +275,7 @@ impl<R: Files<File = File> + Net + AllocGlobal + Drop> Logs for FilePort<R> {
     }
 
     fn read_log(&mut self, log: &mut OpenLog) -> Result<Vec<u8>, PortFault> {
-        let bytes = Log::read(&self.rt, log);
+        let bytes = read(&self.rt, log);
         told(&mut self.failures, bytes)
     }
 

@@ -1,13 +1,16 @@
 //! A log that is read whole, and written anew beside.
-use crate::disk::name_written;
-use crate::files::{
-    check_writable, is_plain_there, metadata_if_there, open_beside, open_locked, repeat,
-    sync_folder, take_beside, take_mode,
-};
+ghost use Rattle.std.specs.Prelude.{◌≡◌, IfOk, OnOk};
+ghost use Rattle.mgr_port.specs.Locks.{ShowsPlain, StandsAsRead};
+
+use crate::disk::{Named, name_written};
+use crate::files::{check_writable, sync_folder, take_mode};
+use crate::folder::Folder;
+use crate::keeping::remove_second_name;
+use crate::locking::{open_again, open_beside, take_beside};
 use crate::log::ends_in_a_newline;
 use crate::names::Paths;
 use crate::staged::{Date, Old, Staged, remove_next};
-use crate::stamp::Stamp;
+use crate::system::System;
 use std::fs::File;
 use std::io;
 use std::io::{ErrorKind, Read, Write};
@@ -45,7 +48,7 @@ impl OpenLog {
     ) -> io::Result<OpenLog> {
         let paths = Paths::new(rt, name)?;
         let path = paths.log.as_str();
-        let Some(file) = repeat(|| open_locked(rt, path, true))? else {
+        let Some(file) = open_again(&mut System { rt }, path, true)? else {
             return Err(io::Error::from(ErrorKind::NotFound));
         };
         check_writable(rt, path)?;
@@ -57,11 +60,17 @@ impl OpenLog {
     }
 
     /// `WouldBlock` unless a path stands for the log, which has the length that was read.
-    pub(crate) fn check_as_read<R: Files>(&self, rt: &R, path: &str) -> io::Result<()> {
-        if let Some(there) = metadata_if_there(rt, path)? {
-            let there = Stamp::of(&there);
-            let open = Stamp::of(&self.file.metadata()?);
-            if there.is_of_the_file(&open) && there.length == self.read {
+    pub(crate) fn check_as_read<F: Folder<File = File>>(
+        &self,
+        folder: &mut F,
+        path: &str,
+    ) -> io::Result<()>
+        ensures { OnOk result (StandsAsRead path.now self.now.read
+            (F.steps folder.old) (F.steps folder.new)) }
+    {
+        if let Some(found) = folder.follow(path)?.found {
+            let open = folder.look_at(&self.file)?;
+            if found.stamp.is_of_the_file(&open.stamp) && found.stamp.length == self.read {
                 return Ok(());
             }
         }
@@ -82,6 +91,18 @@ impl OpenLog {
     }
 }
 
+/// Whether a plain file stands under a path itself. `InvalidInput` if something else does, a link
+/// too.
+fn is_plain_there<F: Folder>(folder: &mut F, path: &str) -> io::Result<bool>
+    ensures { IfOk result (ShowsPlain path.now (F.steps folder.old) (F.steps folder.new)) }
+{
+    match folder.look(path)?.found {
+        None => Ok(false),
+        Some(look) if look.is_plain => Ok(true),
+        Some(_) => Err(io::Error::from(ErrorKind::InvalidInput)),
+    }
+}
+
 /// Puts bytes at the end of the file of what was refused of a log, and waits until they are on the
 /// device under its name. Where it is not there it is made, with the owner and the rights of the
 /// log. Who has the log open has this file for himself.
@@ -93,8 +114,9 @@ pub(crate) fn keep_refused<R: Files<File = File> + AllocGlobal>(
 ) -> io::Result<()> {
     log.refused = true;
     let path = Paths::new(rt, name)?.refused(rt.alloc())?;
-    let is_there = is_plain_there(rt, path.as_str())?;
-    let mut refused = open_beside(rt, path.as_str())?;
+    let folder = &mut System { rt };
+    let is_there = is_plain_there(folder, path.as_str())?;
+    let mut refused = open_beside(folder, path.as_str())?;
     if !is_there {
         take_mode(&refused, &log.file.metadata()?)?;
     }
@@ -118,8 +140,8 @@ pub(crate) fn make_next<R: Files<File = File> + AllocGlobal>(
     let paths = Paths::new(rt, name)?;
     let path = paths.next_log.as_str();
     // One that was killed when it gave the log its name may have left it this one too.
-    remove_next(rt, path, &log.file);
-    let next = take_beside(rt, path)?;
+    let _ = remove_second_name(&mut System { rt }, path, &log.file);
+    let next = take_beside(&mut System { rt }, rt.alloc(), path)?;
     take_mode(&next, &log.file.metadata()?)?;
     Ok(next)
 }
@@ -133,20 +155,30 @@ pub(crate) fn name_next<R: Files<File = File> + AllocGlobal>(
     mut next: File,
 ) -> io::Result<()> {
     let paths = Paths::new(rt, name)?;
-    let path = paths.next_log.as_str();
+    let named = name_staged(rt, &paths, read, &mut next);
+    if named.is_err() {
+        remove_next(rt, paths.next_log.as_str(), &next);
+    }
+    named?.settled()
+}
+
+/// The same of the file as it is, which stays beside if a step before the last fails.
+fn name_staged<'a, R: Files<File = File> + AllocGlobal>(
+    rt: &'a R,
+    paths: &'a Paths,
+    read: &'a OpenLog,
+    next: &'a mut File,
+) -> io::Result<Named> {
     let mut staged = Staged {
         rt,
-        file: &mut next,
-        path,
+        file: next,
+        path: paths.next_log.as_str(),
         name: paths.log.as_str(),
         date: read.date(),
         old: Old::Read(read),
+        spare: None,
     };
-    let named = name_written(&mut staged, true);
-    if named.is_err() {
-        remove_next(rt, path, &next);
-    }
-    named?.settled()
+    name_written(&mut staged, true)
 }
 
 /// Removes a file beside a log of a name.

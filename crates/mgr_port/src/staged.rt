@@ -1,14 +1,18 @@
 //! Files that are written beside another, whose name they are to take.
 use crate::disk::Disk;
-use crate::files::{Keeping, give_free_name, keep, stands_for, sync_folder, write_lines};
+use crate::files::{sync_folder, write_lines};
+use crate::folder::Folder;
+use crate::keeping::{Keeping, give_free_name, keep, remove_open};
 use crate::rewriting::OpenLog;
+use crate::spare::Spare;
+use crate::system::System;
 use crate::text::NextText;
 use mg_files::LogLines;
 use std::fs::File;
+use std::io;
 use std::io::Write;
 use std::rt::Files;
 use std::time::Duration;
-use std::{fs, io};
 
 /// A file beside a log or a text, whose name it is to take.
 #[derive(Drop)]
@@ -19,6 +23,8 @@ pub(crate) struct Staged<'a, R> {
     pub(crate) name: &'a str,
     pub(crate) date: Option<Date<'a>>,
     pub(crate) old: Old<'a>,
+    /// The name, once nothing is lost of what stands there.
+    pub(crate) spare: Option<Spare<'a>>,
 }
 
 /// By when a file was changed, and how many nanoseconds later, another one is dated.
@@ -63,23 +69,24 @@ impl<'a, R: Files<File = File> + AllocGlobal> Disk for Staged<'a, R> {
     }
 
     fn keep(&mut self) -> io::Result<()> {
+        let folder = &mut System { rt: self.rt };
         match self.old {
             Old::Nothing => return Ok(()),
             Old::Log => {}
-            Old::Text(text) => {
-                if text.is_safe(self.rt, self.name)? {
-                    return Ok(());
-                }
-            }
-            Old::Read(log) => log.check_as_read(self.rt, self.name)?,
+            Old::Text(text) => self.spare = text.spare(folder, self.name)?,
+            Old::Read(log) => log.check_as_read(folder, self.name)?,
         }
-        keep(self.rt, self.name, Keeping::ByName)
+        if self.spare.is_none() {
+            self.spare = Some(keep(folder, self.rt.alloc(), self.name, Keeping::ByName)?);
+        }
+        Ok(())
     }
 
     fn take_name(&mut self) -> io::Result<()> {
-        match self.old {
-            Old::Nothing => give_free_name(self.rt, self.path, self.name),
-            _ => fs::rename(self.rt, self.path, self.name),
+        let folder = &mut System { rt: self.rt };
+        match self.spare.take() {
+            Some(spare) => folder.rename(self.path, spare),
+            None => give_free_name(folder, self.path, self.name),
         }
     }
 
@@ -89,10 +96,8 @@ impl<'a, R: Files<File = File> + AllocGlobal> Disk for Staged<'a, R> {
 }
 
 /// Removes a file from the path at which it was to wait for its name, if it still stands there.
-pub(crate) fn remove_next<R: Files<File = File>>(rt: &R, path: &str, next: &File) {
-    if let Ok(true) = stands_for(rt, path, next) {
-        let _ = fs::remove_file(rt, path);
-    }
+pub(crate) fn remove_next<R: Files<File = File> + AllocGlobal>(rt: &R, path: &str, next: &File) {
+    let _ = remove_open(&mut System { rt }, path, next);
 }
 
 /// Dates a file, and waits until it is on the device. By its date a later session knows beside which

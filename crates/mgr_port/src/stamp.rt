@@ -14,7 +14,7 @@ const SECOND: i64 = 1_000_000_000;
 
 /// A file as it was when it was last read or written.
 #[derive(Clone, Copy, PartialEq, Eq)]
-pub(crate) struct Stamp {
+pub struct Stamp {
     device: u64,
     inode: u64,
     pub(crate) length: u64,
@@ -29,6 +29,17 @@ struct Time {
 }
 
 impl Stamp {
+    /// That of a file by its number on the first device, changed so many seconds after the start of
+    /// 1970.
+    pub fn of_file(inode: u64, length: u64, seconds: i64) -> Stamp {
+        Stamp {
+            device: 0,
+            inode,
+            length,
+            changed: Time { seconds, nanos: 0 },
+        }
+    }
+
     pub(crate) fn of(metadata: &Metadata) -> Stamp {
         Stamp {
             device: metadata.dev(),

@@ -1,18 +1,20 @@
 //! A text, as this port found and left it.
-ghost use Rattle.std.specs.Prelude.{◌≡◌, ◌≢◌, None, Some, true, false, nat_eq, if◌then◌else◌};
-ghost use Rattle.mgr_port.specs.declared.stamp.Stamp.{Stamp};
-ghost use Rattle.mgr_port.specs.declared.text.Loss.TheVariants as Loss;
+ghost use Rattle.std.specs.Prelude.{◌≡◌, None, Some, IfOk, IfSome, true, false, if◌then◌else◌};
 ghost use Rattle.mgr_port.specs.declared.text.Way.TheVariants as Way;
+ghost use Rattle.mgr_port.specs.Locks.{IsOwnRead};
+ghost use Rattle.mgr_port.specs.Spares.{MayBeOverwritten};
 
 use crate::disk::{Named, put_whole};
-use crate::files::{
-    Keeping, check_writable, keep, lock, make_beside, open_locked, plain_if_there, repeat,
-    set_mode, take_owner,
-};
+use crate::files::{check_writable, plain_if_there, set_mode, take_owner};
+use crate::folder::Folder;
+use crate::keeping::{Keeping, keep, remove_open, spare_for};
+use crate::locking::{check_lock, make_beside, open_again};
 use crate::log::Log;
 use crate::names::Paths;
+use crate::spare::Spare;
 use crate::staged::{Date, Old, Staged, remove_next, sync_dated};
 use crate::stamp::{Stamp, is_dated_by};
+use crate::system::System;
 use std::fs::{File, Metadata};
 use std::io::{ErrorKind, Write};
 use std::os::unix::fs::MetadataExt;
@@ -24,19 +26,19 @@ const ALL: u32 = 0o666;
 
 /// A text. It is locked for as long as it is open.
 #[derive(Drop)]
-pub(crate) struct Text {
+pub(crate) struct Text<T> {
     /// The file, where it is there.
-    file: Option<File>,
+    file: Option<T>,
     /// What it was when this port read it or put it.
     own: Option<Stamp>,
     /// The file whose name it took, still open: to close that may give up its place on the device,
     /// which takes as long as to wait for the device.
-    pub(crate) replaced: Option<File>,
+    pub(crate) replaced: Option<T>,
 }
 
-impl Text {
+impl<T: Drop> Text<T> {
     /// A text of which nothing was read and nothing is locked.
-    pub(crate) fn new() -> Text {
+    pub(crate) fn new() -> Text<T> {
         Text {
             file: None,
             own: None,
@@ -44,6 +46,35 @@ impl Text {
         }
     }
 
+    /// Locks and reads the text, which is this port's own then. `InvalidInput` where it is no plain
+    /// file, and `WouldBlock` where something else has it locked.
+    pub(crate) fn load<F: Folder<File = T>>(
+        &mut self,
+        folder: &mut F,
+        path: &str,
+    ) -> io::Result<Option<Vec<u8>>>
+        ensures { IfOk result (λ o. IfSome o (λ bytes.
+            IsOwnRead self.new.own path.now bytes.items (F.steps folder.new))) }
+    {
+        self.file = open_again(folder, path, false)?;
+        self.own = None;
+        // It is looked at before it is read, so that what comes between is not taken for this port's.
+        let stamp = match &self.file {
+            Some(file) => Some(folder.look_at(file)?.stamp),
+            None => None,
+        };
+        match folder.read(path) {
+            Ok(bytes) => {
+                self.own = stamp;
+                Ok(Some(bytes))
+            }
+            Err(error) if error.kind() == ErrorKind::NotFound => Ok(None),
+            Err(error) => Err(error),
+        }
+    }
+}
+
+impl Text<File> {
     /// Locks the text beside a log that was read, where it is there. `WouldBlock` where something else
     /// has it locked; else it need not be readable. It is this port's own where it was put beside this
     /// log; else it is read, and stays what another program left.
@@ -51,9 +82,9 @@ impl Text {
         &mut self,
         rt: &R,
         path: &str,
-        log: &Log,
+        log: &Log<File>,
     ) -> io::Result<Option<Vec<u8>>> {
-        match repeat(|| open_locked(rt, path, false)) {
+        match open_again(&mut System { rt }, path, false) {
             Ok(file) => self.file = file,
             Err(error) if error.kind() == ErrorKind::WouldBlock => return Err(error),
             Err(_) => return Ok(None),
@@ -73,28 +104,6 @@ impl Text {
         }
     }
 
-    /// Locks and reads the text, which is this port's own then. `InvalidInput` where it is no plain
-    /// file, and `WouldBlock` where something else has it locked.
-    pub(crate) fn load<R: Files<File = File> + AllocGlobal>(
-        &mut self,
-        rt: &R,
-        path: &str,
-    ) -> io::Result<Option<Vec<u8>>> {
-        self.file = repeat(|| open_locked(rt, path, false))?;
-        // It is looked at before it is read, so that what comes between is not taken for this port's.
-        let stamp = match &self.file {
-            Some(file) => Some(Stamp::of(&file.metadata()?)),
-            None => None,
-        };
-        let bytes = match fs::read(rt, path) {
-            Ok(bytes) => bytes,
-            Err(error) if error.kind() == ErrorKind::NotFound => return Ok(None),
-            Err(error) => return Err(error),
-        };
-        self.own = stamp;
-        Ok(Some(bytes))
-    }
-
     /// Makes these bytes the text, beside a log. What stands there is kept, unless this port read it
     /// or put it, or it is the same; it is refused where it is no plain file, or may not be written.
     /// The file whose name the text takes stays open as `replaced`, until the next call.
@@ -103,7 +112,7 @@ impl Text {
         rt: &R,
         paths: &Paths,
         bytes: &[u8],
-        log: &Option<Log>,
+        log: &Option<Log<File>>,
     ) -> io::Result<()> {
         self.replaced = None;
         let path = paths.text.as_str();
@@ -113,7 +122,7 @@ impl Text {
         }
         let text = NextText {
             bytes,
-            date: log.as_ref().map(Log::date),
+            date: log.as_ref().map(|log| log.date()),
             own: self.own,
         };
         let Some(next) = make_next(rt, paths, &there)? else {
@@ -157,10 +166,12 @@ impl Text {
         path: &str,
         text: NextText<'_>,
     ) -> io::Result<()> {
-        if !text.is_safe(rt, path)? {
-            keep(rt, path, Keeping::ByCopy)?;
-        }
-        let mut file = fs::create(rt, path)?;
+        let folder = &mut System { rt };
+        let spare = match text.spare(folder, path)? {
+            Some(spare) => spare,
+            None => keep(folder, rt.alloc(), path, Keeping::ByCopy)?,
+        };
+        let mut file = folder.overwrite(spare)?;
         file.write_all(text.bytes)?;
         sync_dated(&file, text.date)?;
         self.own = Some(Stamp::of(&file.metadata()?));
@@ -178,60 +189,26 @@ pub(crate) struct NextText<'a> {
 }
 
 impl<'a> NextText<'a> {
-    /// Whether nothing is lost where this text takes the name.
-    pub(crate) fn is_safe<R: Files<File = File> + AllocGlobal>(
+    /// The path, if nothing is lost where this text takes its place.
+    pub(crate) fn spare<'p, F: Folder>(
         &self,
-        rt: &R,
-        path: &str,
-    ) -> io::Result<bool> {
-        let there = plain_if_there(rt, path)?.map(|there| Stamp::of(&there));
-        match loss_of(self.own, there, self.bytes.len() as u64) {
-            Loss::Nothing => Ok(true),
-            Loss::Bytes => Ok(false),
-            Loss::OtherBytes => Ok(fs::read(rt, path)?.as_slice() == self.bytes),
-        }
+        folder: &mut F,
+        path: &'p str,
+    ) -> io::Result<Option<Spare<'p>>>
+        ensures { IfOk result (λ o. IfSome o MayBeOverwritten) }
+    {
+        spare_for(folder, path, self.own, self.bytes)
     }
-}
-
-/// What is lost of a file if another takes its place.
-#[derive(Clone, Copy, PartialEq, Eq)]
-enum Loss {
-    /// Nothing: it is not there, or this port read it or put it.
-    Nothing,
-    /// What nobody else may have.
-    Bytes,
-    /// The same, unless it has the bytes of the other.
-    OtherBytes,
-}
-
-/// What is lost of the file that is there, if this port left that one, and if one of such a length
-/// takes its place.
-fn loss_of(own: Option<Stamp>, there: Option<Stamp>, length: u64) -> Loss
-    ensures none { there ≡ None → result ≡ Loss.Nothing }
-    ensures own { (s : Stamp) → there ≡ Some s → own ≡ Some s → result ≡ Loss.Nothing }
-    ensures other { (s : Stamp) → there ≡ Some s → own ≢ Some s →
-        result ≡ (if nat_eq s.length length then Loss.OtherBytes else Loss.Bytes) }
-{
-    let Some(there) = there else {
-        return Loss::Nothing;
-    };
-    if own == Some(there) {
-        return Loss::Nothing;
-    }
-    if there.length == length {
-        return Loss::OtherBytes;
-    }
-    Loss::Bytes
 }
 
 /// Locks the next text, writes all of it, and gives it the text's name.
-fn name_next<R: Files<File = File> + AllocGlobal>(
-    rt: &R,
-    paths: &Paths,
-    next: &mut File,
-    text: NextText<'_>,
+fn name_next<'a, R: Files<File = File> + AllocGlobal>(
+    rt: &'a R,
+    paths: &'a Paths,
+    next: &'a mut File,
+    text: NextText<'a>,
 ) -> io::Result<Named> {
-    lock(next)?;
+    check_lock(System { rt }.lock(next)?)?;
     let mut staged = Staged {
         rt,
         file: next,
@@ -239,6 +216,7 @@ fn name_next<R: Files<File = File> + AllocGlobal>(
         name: paths.text.as_str(),
         date: text.date,
         old: Old::Text(text),
+        spare: None,
     };
     put_whole(&mut staged, text.bytes, true)
 }
@@ -258,7 +236,7 @@ fn make_next<R: Files<File = File> + AllocGlobal>(
     };
     let is_plain = standing.as_ref().map(|standing| standing.is_file());
     match (way_of(is_plain, there.is_some()), standing) {
-        (Way::New, _) => Ok(Some(make_beside(rt, path, ALL)?)),
+        (Way::New, _) => Ok(Some(make_beside(&mut System { rt }, rt.alloc(), path, ALL)?)),
         (Way::Like, Some(standing)) => make_like(rt, path, &standing),
         _ => Ok(None),
     }
@@ -295,12 +273,11 @@ fn make_like<R: Files<File = File> + AllocGlobal>(
     path: &str,
     standing: &Metadata,
 ) -> io::Result<Option<File>> {
-    let Ok(next) = make_beside(rt, path, 0) else {
+    let Ok(next) = make_beside(&mut System { rt }, rt.alloc(), path, 0) else {
         return only_name(standing);
     };
     if !take_owner(&next, standing)? {
-        drop(next);
-        fs::remove_file(rt, path)?;
+        remove_open(&mut System { rt }, path, &next)?;
         return only_name(standing);
     }
     set_mode(&next, standing.mode())?;

@@ -1,9 +1,9 @@
 //! Calls of libraries that no program shows: devices that are counted, exchanges that are cut off,
 //! lines that are lent, runs at stores that are nearly full, writes in blocks, plans that no key
 //! leads to, cursors that no window shows, frames and texts that are not flushed, saves over a port
-//! that refuses, files over a disk that fails, stores and logs that are compacted, notes that are
-//! mended, logs that are read by their names, with what is counted in them, reports that are read,
-//! and a status in full.
+//! that refuses, files over a disk that fails, paths of a folder, stores and logs that are
+//! compacted, notes that are mended, logs that are read by their names, with what is counted in
+//! them, reports that are read, and a status in full.
 #![tactic(auto)]
 
 #[cfg(test)]
@@ -14,6 +14,8 @@ mod cuts;
 mod devices;
 #[cfg(test)]
 mod disks;
+#[cfg(test)]
+mod folders;
 #[cfg(test)]
 mod joins;
 #[cfg(test)]

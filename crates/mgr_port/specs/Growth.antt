@@ -1,0 +1,28 @@
+-- When lines may be put behind a log.
+use Rattle.std.specs.Prelude.{◌≡◌, ◌<◌, ℕ, List, Bool, Option, Some}
+use Rattle.mgr_port.specs.Folder.{History, Adds, Ends, EndsInNewline, Follows, LooksAt, Syncs, after}
+use Rattle.mgr_port.specs.Verdicts.{MayGrow}
+use Rattle.mgr_port.specs.declared.log.End.{End}
+use Rattle.mgr_port.specs.declared.log.LeftLog.{LeftLog}
+use Rattle.mgr_port.specs.declared.spare.Look.{Look}
+
+-- These steps show that the path stands for the log that was left, to which lines may be added.
+abbrev pub ShowsGrowth : List ℕ → LeftLog → History → History → Type 0
+ShowsGrowth path left old now =
+    (look : Look) × (end : Option End) × (newline : Bool) × (followed : History) × (ended : History)
+    × (followed ≡ after (Follows path (Some look)) old) × (ended ≡ after (Ends left.stamp.length end) followed)
+    × (now ≡ after (EndsInNewline look.stamp.length newline) ended)
+    × MayGrow left (record { stamp = look.stamp; end = end; ends_in_newline = newline })
+
+-- the last steps do
+abbrev pub MayAdd : List ℕ → LeftLog → History → Type 0
+MayAdd path left now = (old : History) × ShowsGrowth path left old now
+
+-- Lines might be added to a log; they are, and are on the device; it is longer than it was, and left so; and lines might
+-- have been added to what was left before once more.
+abbrev pub IsAdded : List ℕ → LeftLog → List ℕ → LeftLog → History → History → Type 0
+IsAdded path left lines longer old now =
+    (look : Look) × (shown : History) × (added : History) × (synced : History) × (looked : History) × (ended : History)
+    × ShowsGrowth path left old shown × (added ≡ after (Adds lines) shown) × (synced ≡ after Syncs added)
+    × (looked ≡ after (LooksAt look) synced) × (ended ≡ after (Ends look.stamp.length (Some longer.end)) looked)
+    × ShowsGrowth path left ended now × (longer.stamp ≡ look.stamp) × (left.stamp.length < longer.stamp.length)

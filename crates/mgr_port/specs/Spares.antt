@@ -1,0 +1,97 @@
+-- Why nothing is lost of what stands under a path if that goes.
+use Rattle.std.specs.Prelude.{◌≡◌, ◌⊎◌, ◌<◌, ℕ, List, ◌++◌, ◌∷◌, [], false, Option, Some, None}
+use Rattle.mgr_port.specs.Folder.{History, Looks, Follows, LooksAt, Reads, Links, Makes, Removes, Renames, after}
+use Rattle.mgr_port.specs.Verdicts.{AreOfOneFile}
+use Rattle.mgr_port.specs.declared.spare.Look.{Look}
+use Rattle.mgr_port.specs.declared.spare.Reason.{Reason}
+use Rattle.mgr_port.specs.declared.spare.Reason.TheVariants as reason
+use Rattle.mgr_port.specs.declared.spare.Spare.{Spare}
+use Rattle.mgr_port.specs.declared.stamp.Stamp.{Stamp}
+
+abbrev pub path_of : Spare → List ℕ
+path_of spare = spare.path.now
+
+-- it is this path, for this reason
+pub record IsFor (path : List ℕ) (why : Reason) (spare : Spare) : Type 0 where
+  pub is_path : path_of spare ≡ path
+  pub is_reason : spare.reason ≡ why
+
+-- A second name protects the bytes of a file as long as nobody writes into it.
+abbrev pub OutlastsWriting : Reason → Type 0
+OutlastsWriting reason.Linked = ⊥
+OutlastsWriting reason.Open = ⊥
+OutlastsWriting other = Unit {0}
+
+abbrev pub MayBeOverwritten : Spare → Type 0
+MayBeOverwritten spare = OutlastsWriting spare.reason
+
+-- ---- what a look shows
+
+-- what stands there is no plain file
+abbrev pub IsNoFile : Option Look → Type 0
+IsNoFile None = ⊥
+IsNoFile (Some look) = look.is_plain ≡ false
+
+-- nothing stands there, or no plain file, or one without bytes
+abbrev pub IsNothing : Option Look → Type 0
+IsNothing None = Unit {0}
+IsNothing (Some look) = (look.is_plain ≡ false) ⊎ (look.stamp.length ≡ 0)
+
+-- what stands there is this file
+abbrev pub IsOfFile : Stamp → Option Look → Type 0
+IsOfFile stamp None = ⊥
+IsOfFile stamp (Some look) = AreOfOneFile look.stamp stamp
+
+-- the same, and it has another name
+abbrev pub IsOneOfMore : Stamp → Option Look → Type 0
+IsOneOfMore stamp None = ⊥
+IsOneOfMore stamp (Some look) = (1 < look.names) × AreOfOneFile look.stamp stamp
+
+-- ---- what the last steps show
+
+-- a name that ends in `~`
+abbrev pub EndsInTilde : List ℕ → Type 0
+EndsInTilde name = (front : List ℕ) × (name ≡ front ++ 126 ∷ [])
+
+-- What stood there has another name, which ends in `~`; or its bytes were read, and stand under such a name.
+abbrev pub IsKept : Reason → List ℕ → History → Type 0
+IsKept reason.Linked path now = (name : List ℕ) × (old : History) × EndsInTilde name × (now ≡ after (Links path name) old)
+IsKept reason.Copied path now =
+    (name : List ℕ) × (bytes : List ℕ) × (old : History) × (read : History) × EndsInTilde name × (read ≡ after (Reads path bytes) old) × (now ≡ after (Makes name bytes) read)
+IsKept other path now = ⊥
+
+-- Nothing stood there; or it was as this port had left it; or it had these bytes.
+abbrev pub IsShown : Reason → List ℕ → Option Stamp → List ℕ → History → Type 0
+IsShown reason.Nothing path own bytes now = (old : History) × (now ≡ after (Follows path None) old)
+IsShown reason.Known path own bytes now = (look : Look) × (old : History) × (own ≡ Some look.stamp) × (now ≡ after (Follows path (Some look)) old)
+IsShown reason.Same path own bytes now = (old : History) × (now ≡ after (Reads path bytes) old)
+IsShown other path own bytes now = ⊥
+
+-- ---- what becomes of a path
+
+-- nothing with bytes stood there, or that is kept
+unfoldable pub IsSpare : List ℕ → History → Type 0
+IsSpare path now =
+    ((found : Option Look) × (old : History) × IsNothing found × (now ≡ after (Looks path found) old)) ⊎ ((why : Reason) × IsKept why path now)
+
+-- nothing stood there; or the path is given, and nothing is lost of it
+abbrev pub IsVacated : List ℕ → History → History → Option Spare → Type 0
+IsVacated path old now None = now ≡ after (Looks path None) old
+IsVacated path old now (Some spare) = (path_of spare ≡ path) × IsSpare path now
+
+-- Nothing stood there; or it is gone, and nothing is lost of it.
+abbrev pub MakesWay : List ℕ → History → History → Type 0
+MakesWay path old now = (now ≡ after (Looks path None) old) ⊎ ((spare : History) × IsSpare path spare × (now ≡ after (Removes path) spare))
+
+-- The path is gone, if it stood for such a file that is open; and else it stays.
+abbrev pub RemovesIf : (Stamp → Option Look → Type 0) → List ℕ → History → History → Type 0
+RemovesIf P path old now =
+    (opened : Look) × (found : Option Look) × (looked : History) × (followed : History)
+    × (looked ≡ after (LooksAt opened) old) × (followed ≡ after (Follows path found) looked)
+    × ((P opened.stamp found × (now ≡ after (Removes path) followed)) ⊎ ((P opened.stamp found → ⊥) × (now ≡ followed)))
+
+-- It has got the name too, and may have lost its own; or it has the name in place of its own, and nothing stood there.
+abbrev pub GivesFreeName : List ℕ → List ℕ → History → History → Type 0
+GivesFreeName path name old now =
+    ((linked : History) × (linked ≡ after (Links path name) old) × ((now ≡ linked) ⊎ (now ≡ after (Removes path) linked)))
+    ⊎ ((looked : History) × (looked ≡ after (Looks name None) old) × (now ≡ after (Renames path name) looked))

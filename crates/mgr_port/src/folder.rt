@@ -1,0 +1,125 @@
+//! The steps by which a folder is looked at and changed.
+ghost use Rattle.std.specs.Prelude.{◌≡◌, IfOk, OnOk};
+ghost use Rattle.mgr_port.specs.Folder.{History, Looks, Follows, LooksAt, Opens, Locks, Ends, EndsInNewline, Adds, Syncs, Reads, Links, Makes, Removes, Renames, Overwrites, Steps, after};
+ghost use Rattle.mgr_port.specs.Growth.{MayAdd};
+ghost use Rattle.mgr_port.specs.Spares.{MayBeOverwritten, path_of};
+
+use crate::log::{End, LeftLog};
+use crate::spare::{Look, Spare, Standing};
+use mg_files::LogLines;
+use std::io;
+
+/// How a file is opened.
+#[derive(Clone, Copy, PartialEq, Eq)]
+pub enum Opening {
+    /// To be read.
+    Read,
+    /// To be read, and to be added to at its end.
+    Add,
+    /// The same. If it is not there it is made, and only its owner may read it.
+    Beside,
+    /// As a new one, to be read and written. It gets what the user's mask leaves of this mode.
+    New(u32),
+}
+
+/// Who has a file locked, once it was tried.
+#[derive(Clone, Copy, PartialEq, Eq)]
+pub enum Lock {
+    /// This port, as long as the file is open.
+    Own,
+    /// Something else.
+    Others,
+    /// Nobody can be known to: the file system has no locks.
+    Unknown,
+}
+
+/// A folder, whose files other programs change too. It may tell what it was asked and what it
+/// answered. A path goes, or is given to another file, only as a `Spare`, of which nothing is lost.
+pub trait Folder {
+    /// A file that is open.
+    type File: Drop;
+
+    /// The steps so far, the last one first, where they are told.
+    ghost steps: { Self → History };
+
+    /// What stands under a path itself.
+    fn look<'p>(&mut self, path: &'p str) -> io::Result<Standing<'p>>
+        ensures path { IfOk result (λ standing. standing.path.now ≡ path.now) }
+        ensures step { Steps result (λ standing. Looks path.now standing.found)
+            (steps self.old) (steps self.new) };
+
+    /// What a path leads to.
+    fn follow<'p>(&mut self, path: &'p str) -> io::Result<Standing<'p>>
+        ensures path { IfOk result (λ standing. standing.path.now ≡ path.now) }
+        ensures step { Steps result (λ standing. Follows path.now standing.found)
+            (steps self.old) (steps self.new) };
+
+    /// What an open file is.
+    fn look_at(&mut self, file: &Self::File) -> io::Result<Look>
+        ensures step { Steps result (λ look. LooksAt look) (steps self.old) (steps self.new) };
+
+    /// Opens the file that a path leads to.
+    fn open(&mut self, path: &str, opening: Opening) -> io::Result<Self::File>
+        ensures step { Steps result (λ _. Opens path.now opening)
+            (steps self.old) (steps self.new) };
+
+    /// Tries to lock an open file.
+    fn lock(&mut self, file: &Self::File) -> io::Result<Lock>
+        ensures step { Steps result Locks (steps self.old) (steps self.new) };
+
+    /// How an open file ends at such a length. None if it is not that long, or can't be read.
+    fn end_of(&mut self, file: &Self::File, length: u64) -> io::Result<Option<End>>
+        ensures step { Steps result (Ends length) (steps self.old) (steps self.new) };
+
+    /// Whether the last byte of an open file of such a length is a newline. No, if there is none, or
+    /// it can't be read.
+    fn ends_in_newline(&mut self, file: &Self::File, length: u64) -> io::Result<bool>
+        ensures step { Steps result (EndsInNewline length) (steps self.old) (steps self.new) };
+
+    /// Puts lines at the end of a log that is open and was left so, and to which lines may be added
+    /// by what was seen of it last, under this path. If it fails, a beginning of them may be there.
+    fn add_lines(
+        &mut self,
+        path: &str,
+        log: &mut Self::File,
+        left: &LeftLog,
+        lines: &LogLines,
+    ) -> io::Result<()>
+        requires { MayAdd path.now left.now (steps self.old) }
+        ensures step { OnOk result (steps self.new ≡ after (Adds lines.now) (steps self.old)) };
+
+    /// Waits until an open file is on the device.
+    fn sync(&mut self, file: &Self::File) -> io::Result<()>
+        ensures step { Steps result (λ _. Syncs) (steps self.old) (steps self.new) };
+
+    /// The bytes of the file that a path leads to.
+    fn read(&mut self, path: &str) -> io::Result<Vec<u8>>
+        ensures step { Steps result (λ bytes. Reads path.now bytes.items)
+            (steps self.old) (steps self.new) };
+
+    /// Gives what stands under a path another name. `AlreadyExists` if something has that.
+    fn link(&mut self, path: &str, name: &str) -> io::Result<()>
+        ensures step { Steps result (λ _. Links path.now name.now)
+            (steps self.old) (steps self.new) };
+
+    /// Makes a file of these bytes, which only its owner may read, and waits until it is on the
+    /// device under its name. `AlreadyExists` if something has that.
+    fn make(&mut self, name: &str, bytes: &[u8]) -> io::Result<()>
+        ensures step { Steps result (λ _. Makes name.now bytes.now)
+            (steps self.old) (steps self.new) };
+
+    /// Removes a path.
+    fn remove(&mut self, spare: Spare<'_>) -> io::Result<()>
+        ensures step { Steps result (λ _. Removes (path_of spare.entry)) (steps self.old) (steps self.new) };
+
+    /// Gives a path to the file of another path, which has that no more.
+    fn rename(&mut self, path: &str, spare: Spare<'_>) -> io::Result<()>
+        ensures step { Steps result (λ _. Renames path.now (path_of spare.entry))
+            (steps self.old) (steps self.new) };
+
+    /// Opens the file that a path leads to, with nothing in it.
+    fn overwrite(&mut self, spare: Spare<'_>) -> io::Result<Self::File>
+        requires { MayBeOverwritten spare }
+        ensures step { Steps result (λ _. Overwrites (path_of spare.entry))
+            (steps self.old) (steps self.new) };
+}

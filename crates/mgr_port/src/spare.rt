@@ -1,0 +1,162 @@
+//! Paths that may go, or be given to another file, and why nothing is lost then of what stands there.
+ghost use Rattle.std.specs.Prelude.{◌≡◌, ◌≢◌, ◌↔◌, None, Some, IfSome, IsSome, true, nat_eq, if◌then◌else◌};
+ghost use Rattle.std.specs.Option.{option_map};
+ghost use Rattle.mgr_port.specs.declared.spare.Loss.TheVariants as Loss;
+ghost use Rattle.mgr_port.specs.declared.spare.Reason.TheVariants as Reason;
+ghost use Rattle.mgr_port.specs.Spares.{IsFor, IsNoFile, IsNothing, IsOfFile, IsOneOfMore, path_of};
+
+use crate::stamp::Stamp;
+use std::fs::Metadata;
+use std::os::unix::fs::MetadataExt;
+
+/// A file, as a look at it shows it.
+#[derive(Clone, Copy, PartialEq, Eq)]
+pub struct Look {
+    /// Whether it is a plain file.
+    pub is_plain: bool,
+    /// How many names it has.
+    pub names: u64,
+    pub stamp: Stamp,
+}
+
+impl Look {
+    pub(crate) fn of(metadata: &Metadata) -> Look {
+        Look {
+            is_plain: metadata.is_file(),
+            names: metadata.nlink(),
+            stamp: Stamp::of(metadata),
+        }
+    }
+}
+
+/// What stands under a path, as a look showed it.
+#[derive(Clone, Copy)]
+pub struct Standing<'p> {
+    pub path: &'p str,
+    /// None if nothing stands there.
+    pub found: Option<Look>,
+}
+
+/// Why nothing is lost of what stands under a path if that goes.
+#[derive(Clone, Copy, PartialEq, Eq)]
+pub enum Reason {
+    /// Nothing stands there, or no plain file, or one without bytes.
+    Nothing,
+    /// This port read it, or put it.
+    Known,
+    /// It has the bytes that take its place.
+    Same,
+    /// This port has it open.
+    Open,
+    /// Its file has another name.
+    Linked,
+    /// Its bytes stand under another name.
+    Copied,
+}
+
+/// A path that may go, or be given to another file.
+#[derive(Drop)]
+pub struct Spare<'p> {
+    path: &'p str,
+    reason: Reason,
+}
+
+impl<'p> Spare<'p> {
+    /// The path of what stands there, for a reason that was seen.
+    pub(crate) fn new(path: &'p str, reason: Reason) -> Spare<'p>
+        ensures { IsFor path.now reason result }
+    {
+        Spare { path, reason }
+    }
+
+    /// The path.
+    pub fn path(&self) -> &'p str
+        ensures { result.now ≡ path_of self.now }
+    {
+        self.path
+    }
+}
+
+impl<'p> Standing<'p> {
+    /// The stamp of what stands there, if anything does.
+    pub(crate) fn stamp(self) -> Option<Stamp>
+        ensures { result ≡ option_map (λ look. look.stamp) self.entry.found }
+    {
+        self.found.map(|look| look.stamp)
+    }
+
+    /// The path, if nothing stands there, or nothing with bytes.
+    pub(crate) fn if_nothing(self) -> Option<Spare<'p>>
+        ensures exact { IsSome result ↔ IsNothing self.entry.found }
+        ensures path { IfSome result (IsFor self.entry.path.now Reason.Nothing) }
+    {
+        match self.found {
+            Some(look) if look.is_plain && look.stamp.length > 0 => None,
+            _ => Some(Spare::new(self.path, Reason::Nothing)),
+        }
+    }
+
+    /// The path, if what stands there is no plain file.
+    pub(crate) fn if_no_file(self) -> Option<Spare<'p>>
+        ensures exact { IsSome result ↔ IsNoFile self.entry.found }
+        ensures path { IfSome result (IsFor self.entry.path.now Reason.Nothing) }
+    {
+        match self.found {
+            Some(look) if !look.is_plain => Some(Spare::new(self.path, Reason::Nothing)),
+            _ => None,
+        }
+    }
+
+    /// The path, if it stands for a file that is open.
+    pub(crate) fn if_open(self, open: Look) -> Option<Spare<'p>>
+        ensures exact { IsSome result ↔ IsOfFile open.stamp self.entry.found }
+        ensures path { IfSome result (IsFor self.entry.path.now Reason.Open) }
+    {
+        match self.found {
+            Some(look) if look.stamp.is_of_the_file(&open.stamp) => {
+                Some(Spare::new(self.path, Reason::Open))
+            }
+            _ => None,
+        }
+    }
+
+    /// The path, if it stands for a file that is open, and that has another name too.
+    pub(crate) fn if_second_name(self, open: Look) -> Option<Spare<'p>>
+        ensures exact { IsSome result ↔ IsOneOfMore open.stamp self.entry.found }
+        ensures path { IfSome result (IsFor self.entry.path.now Reason.Linked) }
+    {
+        match self.found {
+            Some(look) if look.names > 1 && look.stamp.is_of_the_file(&open.stamp) => {
+                Some(Spare::new(self.path, Reason::Linked))
+            }
+            _ => None,
+        }
+    }
+}
+
+/// What is lost of a file if another takes its place.
+#[derive(Clone, Copy, PartialEq, Eq)]
+pub(crate) enum Loss {
+    /// Nothing: this port read it, or put it.
+    Nothing,
+    /// What nobody else may have.
+    Bytes,
+    /// The same, unless it has the bytes of the other.
+    OtherBytes,
+}
+
+/// What is lost of the file that is there, if this port left that one, and if one of such a length
+/// takes its place.
+pub(crate) fn loss_of(own: Option<Stamp>, there: Stamp, length: u64) -> Loss
+    ensures own { (result ≡ Loss.Nothing) ↔ (own ≡ Some there) }
+    ensures other { own ≢ Some there →
+        result ≡ (if nat_eq there.length length then Loss.OtherBytes else Loss.Bytes) }
+{
+    if own == Some(there) {
+        return Loss::Nothing;
+    }
+    if there.length == length {
+        return Loss::OtherBytes;
+    }
+    Loss::Bytes
+}

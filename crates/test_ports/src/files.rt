@@ -1,0 +1,357 @@
+//! A folder in memory that tells its steps.
+ghost use Rattle.std.specs.Prelude.{◌≡◌, ◌<◌, ◌∷◌, IfOk, IfSome, OnErr, OnOk, length, string_bytes};
+ghost use Rattle.test_ports.specs.FolderSteps.{folder_step_of};
+
+use mg_files::LogLines;
+use mgr_port::{End, Folder, LeftLog, Lock, Look, Opening, Spare, Stamp, Standing};
+use std::alloc::{AllocError, Global};
+use std::io;
+use std::io::ErrorKind;
+use std::marker::Model;
+
+/// A step that was made, with what was answered.
+#[derive(Drop)]
+pub(crate) enum Step {
+    Looks(String, Option<Look>),
+    Follows(String, Option<Look>),
+    LooksAt(Look),
+    Opens(String, Opening),
+    Locks(Lock),
+    Ends(u64, Option<End>),
+    EndsInNewline(u64, bool),
+    Adds(Vec<u8>),
+    Syncs,
+    Reads(String, Vec<u8>),
+    Links(String, String),
+    Makes(String, Vec<u8>),
+    Removes(String),
+    Renames(String, String),
+    Overwrites(String),
+}
+
+/// The same, as a folder tells it.
+#[derive(Drop)]
+pub struct ToldStep {
+    step: Step,
+}
+
+impl Model for ToldStep {
+    ghost use Rattle.mgr_port.specs.Folder.{FolderStep};
+    ghost use Rattle.test_ports.specs.FolderSteps.{folder_step_of};
+
+    ghost Value = { FolderStep };
+
+    ghost view = { λ told. folder_step_of told.step };
+}
+
+/// A plain file.
+#[derive(Drop)]
+struct File {
+    bytes: Vec<u8>,
+    /// Whether something else has it locked.
+    is_locked: bool,
+}
+
+/// A name, and the file that stands under it; none if something stands there that is no file.
+#[derive(Drop)]
+struct Name {
+    path: String,
+    file: Option<usize>,
+}
+
+/// Files by their names. It tells its steps.
+#[derive(Drop)]
+pub struct MemoryFiles {
+    alloc: Global,
+    files: Vec<File>,
+    names: Vec<Name>,
+    /// The steps so far, the last one first.
+    pub steps: Vec<ToldStep>,
+}
+
+impl MemoryFiles {
+    /// A folder in which nothing stands.
+    pub fn new(alloc: Global) -> MemoryFiles {
+        MemoryFiles {
+            alloc,
+            files: Vec::new(alloc),
+            names: Vec::new(alloc),
+            steps: Vec::new(alloc),
+        }
+    }
+
+    /// Puts a file of these bytes under a name, as another program would. It tells no step.
+    pub fn put(&mut self, path: &str, bytes: &[u8]) -> Result<(), AllocError>
+        ensures { self.new.steps.items ≡ self.old.steps.items }
+    {
+        let file = self.push_file(bytes)?;
+        self.give_name(path, Some(file))
+    }
+
+    /// Puts something under a name that is no file.
+    pub fn put_other(&mut self, path: &str) -> Result<(), AllocError>
+        ensures { self.new.steps.items ≡ self.old.steps.items }
+    {
+        self.give_name(path, None)
+    }
+
+    /// The file of a name is locked by something else.
+    pub fn lock_by_others(&mut self, path: &str)
+        ensures { self.new.steps.items ≡ self.old.steps.items }
+    {
+        if let Some(index) = self.file_of(path) {
+            if let Some(file) = self.files.get_mut(index) {
+                file.is_locked = true;
+            }
+        }
+    }
+
+    /// The bytes of the file of a name.
+    pub fn bytes(&self, path: &str) -> Option<&[u8]> {
+        let file = self.files.get(self.file_of(path)?)?;
+        Some(&file.bytes)
+    }
+
+    fn push_file(&mut self, bytes: &[u8]) -> Result<usize, AllocError>
+        ensures { self.new.steps.items ≡ self.old.steps.items }
+    {
+        let index = self.files.as_slice().len();
+        let bytes = Vec::from_slice(self.alloc, bytes)?;
+        self.files.push(File {
+            bytes,
+            is_locked: false,
+        })?;
+        Ok(index)
+    }
+
+    /// What stands under a name is this from now on.
+    fn give_name(&mut self, path: &str, file: Option<usize>) -> Result<(), AllocError>
+        ensures { self.new.steps.items ≡ self.old.steps.items }
+    {
+        let name = String::from_str(self.alloc, path)?;
+        self.take_name(path);
+        self.names.push(Name { path: name, file })?;
+        Ok(())
+    }
+
+    fn take_name(&mut self, path: &str)
+        ensures { self.new.steps.items ≡ self.old.steps.items }
+    {
+        if let Some(index) = self.index_of(path) {
+            drop(self.names.swap_remove(index));
+        }
+    }
+
+    fn index_of(&self, path: &str) -> Option<usize>
+        ensures { IfSome result (λ i. i < length self.now.names.items) }
+    {
+        self.names
+            .iter()
+            .position(|name| name.path.as_str() == path)
+    }
+
+    fn file_of(&self, path: &str) -> Option<usize> {
+        let index = self.index_of(path)?;
+        self.names[index].file
+    }
+
+    /// What a look at a file shows.
+    fn look_of(&self, file: Option<usize>) -> Look {
+        let mut names = 0;
+        for name in &self.names {
+            if name.file == file {
+                names = u64::saturating_add(names, 1);
+            }
+        }
+        let index = file.unwrap_or(0);
+        let length = match self.files.get(index) {
+            Some(file) => file.bytes.as_slice().len(),
+            None => 0,
+        };
+        Look {
+            is_plain: file.is_some(),
+            names,
+            stamp: Stamp::of_file(index as u64, length as u64, 0),
+        }
+    }
+
+    fn found(&self, path: &str) -> Option<Look> {
+        let index = self.index_of(path)?;
+        Some(self.look_of(self.names[index].file))
+    }
+
+    fn copy_of(&self, path: &str) -> io::Result<String>
+        ensures { IfOk result (λ copy. string_bytes copy ≡ path.now) }
+    {
+        Ok(String::from_str(self.alloc, path)?)
+    }
+
+    /// Notes a step.
+    fn note(&mut self, step: Step) -> io::Result<()>
+        ensures noted { OnOk result
+            (self.new.steps.items ≡ folder_step_of step ∷ self.old.steps.items) }
+        ensures same { OnErr result (self.new.steps.items ≡ self.old.steps.items) }
+    {
+        self.steps.insert(0, ToldStep { step })?;
+        Ok(())
+    }
+
+    /// The file of a name; `NotFound` if there is none.
+    fn file_there(&self, path: &str) -> io::Result<usize> {
+        match self.file_of(path) {
+            Some(file) => Ok(file),
+            None => Err(io::Error::from(ErrorKind::NotFound)),
+        }
+    }
+
+    /// `AlreadyExists` if something has a name.
+    fn check_free(&self, path: &str) -> io::Result<()> {
+        match self.index_of(path) {
+            None => Ok(()),
+            Some(_) => Err(io::Error::from(ErrorKind::AlreadyExists)),
+        }
+    }
+}
+
+impl Folder for MemoryFiles {
+    ghost use Rattle.std.specs.Prelude.{Some};
+
+    /// The index of a file.
+    type File = usize;
+
+    ghost steps = { λ folder. Some folder.steps.items };
+
+    fn look<'p>(&mut self, path: &'p str) -> io::Result<Standing<'p>> {
+        let found = self.found(path);
+        self.note(Step::Looks(self.copy_of(path)?, found))?;
+        Ok(Standing { path, found })
+    }
+
+    fn follow<'p>(&mut self, path: &'p str) -> io::Result<Standing<'p>> {
+        let found = self.found(path);
+        self.note(Step::Follows(self.copy_of(path)?, found))?;
+        Ok(Standing { path, found })
+    }
+
+    fn look_at(&mut self, file: &usize) -> io::Result<Look> {
+        let look = self.look_of(Some(*file));
+        self.note(Step::LooksAt(look))?;
+        Ok(look)
+    }
+
+    fn open(&mut self, path: &str, opening: Opening) -> io::Result<usize> {
+        let made = match opening {
+            Opening::Read | Opening::Add => None,
+            Opening::Beside if self.index_of(path).is_some() => None,
+            Opening::Beside | Opening::New(_) => {
+                self.check_free(path)?;
+                Some(self.push_file(&[])?)
+            }
+        };
+        let file = match made {
+            Some(file) => file,
+            None => self.file_there(path)?,
+        };
+        let copy = self.copy_of(path)?;
+        if made.is_some() {
+            self.give_name(path, made)?;
+        }
+        self.note(Step::Opens(copy, opening))?;
+        Ok(file)
+    }
+
+    fn lock(&mut self, file: &usize) -> io::Result<Lock> {
+        let lock = match self.files.get(*file) {
+            Some(file) if file.is_locked => Lock::Others,
+            _ => Lock::Own,
+        };
+        self.note(Step::Locks(lock))?;
+        Ok(lock)
+    }
+
+    fn end_of(&mut self, file: &usize, length: u64) -> io::Result<Option<End>> {
+        let end = match self.files.get(*file) {
+            Some(file) => End::of_bytes(&file.bytes, length),
+            None => None,
+        };
+        self.note(Step::Ends(length, end))?;
+        Ok(end)
+    }
+
+    fn ends_in_newline(&mut self, file: &usize, length: u64) -> io::Result<bool> {
+        let is = match self.files.get(*file) {
+            Some(file) => file.bytes.as_slice().last() == Some(&b'\n'),
+            None => false,
+        };
+        self.note(Step::EndsInNewline(length, is))?;
+        Ok(is)
+    }
+
+    fn add_lines(
+        &mut self,
+        _path: &str,
+        log: &mut usize,
+        _left: &LeftLog,
+        lines: &LogLines,
+    ) -> io::Result<()> {
+        let bytes = lines.to_vec()?;
+        if let Some(file) = self.files.get_mut(*log) {
+            file.bytes.extend_from_slice(&bytes)?;
+        }
+        self.note(Step::Adds(bytes))
+    }
+
+    fn sync(&mut self, _file: &usize) -> io::Result<()> {
+        self.note(Step::Syncs)
+    }
+
+    fn read(&mut self, path: &str) -> io::Result<Vec<u8>> {
+        let file = self.file_there(path)?;
+        let bytes = match self.files.get(file) {
+            Some(file) => Vec::from_slice(self.alloc, &file.bytes)?,
+            None => Vec::new(self.alloc),
+        };
+        let copy = Vec::from_slice(self.alloc, &bytes)?;
+        self.note(Step::Reads(self.copy_of(path)?, copy))?;
+        Ok(bytes)
+    }
+
+    fn link(&mut self, path: &str, name: &str) -> io::Result<()> {
+        let file = self.file_there(path)?;
+        self.check_free(name)?;
+        let step = Step::Links(self.copy_of(path)?, self.copy_of(name)?);
+        self.give_name(name, Some(file))?;
+        self.note(step)
+    }
+
+    fn make(&mut self, name: &str, bytes: &[u8]) -> io::Result<()> {
+        self.check_free(name)?;
+        let step = Step::Makes(self.copy_of(name)?, Vec::from_slice(self.alloc, bytes)?);
+        self.put(name, bytes)?;
+        self.note(step)
+    }
+
+    fn remove(&mut self, spare: Spare<'_>) -> io::Result<()> {
+        let step = Step::Removes(self.copy_of(spare.path())?);
+        self.take_name(spare.path());
+        self.note(step)
+    }
+
+    fn rename(&mut self, path: &str, spare: Spare<'_>) -> io::Result<()> {
+        let file = self.file_there(path)?;
+        let step = Step::Renames(self.copy_of(path)?, self.copy_of(spare.path())?);
+        self.take_name(path);
+        self.give_name(spare.path(), Some(file))?;
+        self.note(step)
+    }
+
+    fn overwrite(&mut self, spare: Spare<'_>) -> io::Result<usize> {
+        let file = self.file_there(spare.path())?;
+        let step = Step::Overwrites(self.copy_of(spare.path())?);
+        if let Some(file) = self.files.get_mut(file) {
+            file.bytes.clear();
+        }
+        self.note(step)?;
+        Ok(file)
+    }
+}
