@@ -32,6 +32,7 @@ MOST = {"README.md": 1000, "docs": 24_000}
 # What is said in plainer words, by what takes its place.
 PHRASES = {
     r"behind": "after",
+    r"(as|only|but|except|even) where": "if",
     r"(in|for) want of": "without",
     r"want of memory": "out of memory",
     r"tells": "says, reports",
