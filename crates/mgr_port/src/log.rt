@@ -4,10 +4,12 @@ ghost use Rattle.mgr_port.specs.Growth.{IsAdded, ShowsGrowth};
 ghost use Rattle.mgr_port.specs.Verdicts.{MayGrow};
 
 use crate::folder::Folder;
-use crate::keeping::remove_second_name;
+use crate::keeping::{make_way, remove_second_name};
+use crate::locking::stands_for;
 use crate::staged::Date;
 use crate::stamp::{LATER, Stamp};
 use mg_files::LogLines;
+use std::alloc::Global;
 use std::fs::File;
 use std::io;
 use std::io::{ErrorKind, Read};
@@ -68,6 +70,21 @@ impl<T: Drop> Log<T> {
     /// log its name may have left it both.
     pub(crate) fn give_up<F: Folder<File = T>>(&self, folder: &mut F, path: &str) {
         let _ = remove_second_name(folder, path, &self.file);
+    }
+
+    /// Takes a path from it, at which the next log is to stand: another name of it goes, and if it is
+    /// its only one what it has is kept first.
+    pub(crate) fn make_room<F: Folder<File = T>>(
+        &self,
+        folder: &mut F,
+        alloc: Global,
+        path: &str,
+    ) -> io::Result<()> {
+        remove_second_name(folder, path, &self.file)?;
+        if stands_for(folder, path, &self.file)? {
+            make_way(folder, alloc, path)?;
+        }
+        Ok(())
     }
 
     /// Adds lines at the end, and waits until they are on the device. Nothing is written if the path

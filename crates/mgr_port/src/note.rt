@@ -138,7 +138,7 @@ impl Note {
     ) -> io::Result<()> {
         let path = self.paths.next_log.as_str();
         if let Some(log) = &self.log {
-            log.give_up(&mut System { rt }, path);
+            log.make_room(&mut System { rt }, rt.alloc(), path)?;
         }
         let mut next = take_next(&mut System { rt }, rt.alloc(), path, &mut self.next)?;
         match name_next(rt, &self.paths, &mut next, lines, standing) {
