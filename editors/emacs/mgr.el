@@ -55,8 +55,9 @@
   "The colours of others, by their numbers."
   :type '(repeat color))
 
-(defcustom mgr-show-names t
-  "Whether the names of others stand where they are."
+(defcustom mgr-show-names nil
+  "Whether the names of others stand where they are, in front of what stands there.
+The cursor goes up and down by columns of the screen, which these names shift."
   :type 'boolean)
 
 (defcustom mgr-seconds 30
@@ -522,12 +523,17 @@ Return nil if that is not known, or if it has less than MADE changes."
   (pcase-let* ((`(,number . ,name) (overlay-get overlay 'mgr-person))
                (colour (nth (mod number (length mgr-colours)) mgr-colours))
                (face `(:background ,colour :foreground "black")))
-    (save-restriction
-      (widen)
-      (move-overlay overlay place place))
-    (overlay-put overlay 'help-echo name)
-    (overlay-put overlay 'before-string
-                 (propertize (if mgr-show-names name "|") 'face face 'cursor nil))))
+    (save-excursion
+      (save-restriction
+        (widen)
+        (goto-char place)
+        (move-overlay overlay place (if (eolp) place (1+ place)))
+        (overlay-put overlay 'face face)
+        (overlay-put overlay 'help-echo name)
+        (overlay-put overlay 'before-string (when mgr-show-names (propertize name 'face face)))
+        ;; At the end of a line there is no character to colour.
+        (overlay-put overlay 'after-string
+                     (when (eolp) (propertize " " 'face face 'help-echo name 'cursor t)))))))
 
 (defun mgr--lighter ()
   "Return the part of the mode line about the note."
