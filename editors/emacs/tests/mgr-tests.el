@@ -192,6 +192,35 @@
      (mgr-tests-undo)
      (should (equal (buffer-string) "one two ")))))
 
+(defconst mgr-tests-keys
+  "C-n C-n C-k C-k C-y C-n M-f M-f M-d M-d C-a C-y M-> RET some SPC words SPC of SPC a SPC new SPC user, SPC which
+   SPC are SPC long SPC enough SPC for SPC two SPC lines SPC of SPC seventy SPC columns M-q RET C-u 8 * RET M-< C-s Emacs RET M-DEL M-u
+   M-x replace-string RET window RET pane RET M-< 3*C-n C-f C-f C-t M-f M-t C-n C-x C-t M-< M-% Meta RET MMM RET !
+   M-< C-n C-n C-f C-SPC 3*C-n 3*C-f C-x r k C-n C-n C-x r y C-SPC C-n C-n C-x r t > RET
+   M-< C-SPC 20*C-n C-x n n M-< C-n C-k M-> end C-x n w C-SPC C-p C-p C-w C-y C-y
+   M-< C-x C-o M-^ C-j C-o M-m TAB (a SPC (b) SPC c) 4*C-/"
+  "What a new user tries.")
+
+(defun mgr-tests-play ()
+  "Play these keys in this buffer, and return its text."
+  (let ((last-command nil) (line-move-visual nil) (kill-ring nil) (disabled-command-function nil))
+    (goto-char (point-min))
+    (execute-kbd-macro (kbd mgr-tests-keys))
+    (buffer-string)))
+
+(ert-deftest mgr-tests-as-ever ()
+  "Keys do in a note what they do in a file: in Emacs's tutorial, as a new user does."
+  (mgr-tests-in-folder
+   (lambda ()
+     (dolist (name '("file" "note"))
+       (copy-file (expand-file-name "tutorials/TUTORIAL" data-directory) (mgr-tests-file name)))
+     (find-file (mgr-tests-file "file"))
+     (let ((text (mgr-tests-play)))
+       (mgr-open (mgr-tests-file "note"))
+       (should (equal (mgr-tests-play) text))
+       (mgr-tests-rest (current-buffer))
+       (should (equal (mgr-tests-text "note") text))))))
+
 (ert-deftest mgr-tests-least ()
   "Only what differs is sent, and nothing if the text stays."
   (mgr-tests-in-folder
