@@ -88,7 +88,7 @@ class Emacs:
     def answer(self):
         line = self.answers.readline()
         if not line:
-            raise Fault(f"Emacs {self.number} ended: {self.said()}")
+            raise Fault(f"Emacs {self.number} ended with {self.process.wait(PATIENCE)}: {self.said()}")
         told = json.loads(line)
         if isinstance(told, dict) and "error" in told:
             raise Fault(f"Emacs {self.number}: {told['error']}")
@@ -168,6 +168,8 @@ class Typist:
         time.sleep(0.3)
         for _ in range(200):
             if os.waitpid(self.pid, os.WNOHANG)[0]:
+                # Another program may have this number soon.
+                self.pid = None
                 return
             try:
                 os.write(self.master, b"s")
@@ -189,7 +191,7 @@ class Game:
         (folder / "hub").mkdir()
         text = "".join(self.chance.choice("abc de\n") for _ in range(self.chance.choice((0, 100, 1000))))
         (folder / "hub" / "note").write_text(text)
-        self.hub = Hub(mgr, folder / "hub", port)
+        self.hub, self.typist = Hub(mgr, folder / "hub", port), None
         self.writers = [Emacs(mgr, folder, number, port) for number in (1, 2)]
         for writer in self.writers:
             writer.begin(self.chance)
@@ -274,11 +276,9 @@ class Game:
             if process.poll() is None:
                 os.killpg(process.pid, signal.SIGKILL)
                 process.wait()
-        try:
-            os.kill(self.typist.pid, signal.SIGKILL)
-            os.waitpid(self.typist.pid, 0)
-        except (ProcessLookupError, ChildProcessError, AttributeError):
-            pass
+        if pid := self.typist and self.typist.pid:
+            os.kill(pid, signal.SIGKILL)
+            os.waitpid(pid, 0)
 
 
 def differences(texts):
