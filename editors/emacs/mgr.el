@@ -190,7 +190,6 @@ What comes meanwhile waits, unless it reads in the minibuffer.")
 
 (defun mgr--no-answer (session)
   "Say that mgr was asked in vain in SESSION."
-  (setq buffer-save-without-query nil)
   (if (process-live-p (mgr--session-process session))
       (user-error "%s: mgr has not answered for %s seconds; what it took it will do"
                   (mgr--session-path session) mgr-seconds)
@@ -451,8 +450,6 @@ COUNT says how many steps it is."
 (defun mgr--note-fault (session why)
   "Take note in SESSION of WHY the log was not written; if WHY is empty it was."
   (setf (mgr--session-fault session) why)
-  ;; Whoever ends Emacs has to be able to say no to what fails.
-  (setq buffer-save-without-query (string-empty-p why))
   (unless (string-empty-p why)
     (message "%s: %s" (buffer-name) why))
   (force-mode-line-update))
@@ -462,11 +459,15 @@ COUNT says how many steps it is."
   (interactive)
   (let ((session (mgr--live-session)))
     (setf (mgr--session-saved session) nil)
+    ;; Whoever ends Emacs has to be able to say no to what fails, or takes long.
+    (setq buffer-save-without-query nil)
     (message "Saving file %s..." (mgr--session-path session))
     (mgr--send session '(op . "save"))
     (let ((why (mgr--await session (lambda () (mgr--saved session (mgr--session-made session))))))
       (cond ((not why) (mgr--no-answer session))
-            ((string-empty-p why) (message "Wrote %s" (mgr--session-path session)))
+            ((string-empty-p why)
+             (setq buffer-save-without-query t)
+             (message "Wrote %s" (mgr--session-path session)))
             (t (error "%s" why))))))
 
 (defun mgr--saved (session made)
@@ -791,14 +792,19 @@ output for ever once there is none."
 
 (defun mgr--may-be-killed ()
   "Have mgr put the text, so that nobody is asked whether it may go."
-  (when (and (mgr--is-note) (buffer-modified-p))
-    (ignore-errors (mgr-save)))
+  (when (and (mgr--is-note) (buffer-modified-p) (not (mgr--session-is-left mgr--session)))
+    ;; Else it is asked whether it may go.
+    (condition-case nil
+        (mgr-save)
+      ((error quit) nil)))
   t)
 
 (defun mgr--leave-killed ()
   "Leave the note whose buffer is killed."
   (when (mgr--is-note)
-    (mgr--leave mgr--session)))
+    (mgr--leave mgr--session)
+    ;; It may go on alone.
+    (mgr--watch (remq mgr--session mgr--sessions))))
 
 (defun mgr--leave-renamed ()
   "Leave the note, as the buffer is of another file by now."
