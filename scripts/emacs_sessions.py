@@ -86,7 +86,10 @@ class Emacs:
         self.link.sendall(expression.replace("\n", " ").encode() + b"\n")
 
     def answer(self):
-        line = self.answers.readline()
+        try:
+            line = self.answers.readline()
+        except TimeoutError:
+            raise Fault(f"Emacs {self.number} does not answer: {self.said()}") from None
         if not line:
             raise Fault(f"Emacs {self.number} ended with {self.process.wait(PATIENCE)}: {self.said()}")
         told = json.loads(line)
