@@ -1,6 +1,5 @@
 //! Paths that may go, or be given to another file, and why nothing is lost then of what stands there.
 ghost use Rattle.std.specs.Prelude.{◌≡◌, ◌≢◌, ◌↔◌, None, Some, IfSome, IsSome, true, nat_eq, if◌then◌else◌};
-ghost use Rattle.std.specs.Option.{option_map};
 ghost use Rattle.mgr_port.specs.declared.spare.Loss.TheVariants as Loss;
 ghost use Rattle.mgr_port.specs.declared.spare.Reason.TheVariants as Reason;
 ghost use Rattle.mgr_port.specs.Spares.{IsFor, IsNoFile, IsNothing, IsOfFile, IsOneOfMore, path_of};
@@ -78,13 +77,6 @@ impl<'p> Spare<'p> {
 }
 
 impl<'p> Standing<'p> {
-    /// The stamp of what stands there, if anything does.
-    pub(crate) fn stamp(self) -> Option<Stamp>
-        ensures { result ≡ option_map (λ look. look.stamp) self.entry.found }
-    {
-        self.found.map(|look| look.stamp)
-    }
-
     /// The path, if nothing stands there, or nothing with bytes.
     pub(crate) fn if_nothing(self) -> Option<Spare<'p>>
         ensures exact { IsSome result ↔ IsNothing self.entry.found }
