@@ -173,9 +173,16 @@ What comes meanwhile waits, unless it reads in the minibuffer.")
       ("refused" (setf (mgr--session-why session) (format "a change was refused: %s" .why)))
       ("say" (message "%s: %s" (buffer-name) .text))
       ("over" (when (mgr--session-begun session)
-                (set-process-filter (mgr--session-process session) t)
-                (mgr--end session (or (mgr--session-why session)
-                                      (mgr--told (mgr--session-process session)))))))))
+                (set-process-filter (mgr--session-process session) #'ignore)
+                (if (mgr--session-is-left session)
+                    (setf (mgr--session-is-over session) t)
+                  (run-with-timer 0 nil #'mgr--end-over session)))))))
+
+(defun mgr--end-over (session)
+  "End SESSION, as nothing more comes.
+Not within a filter: an Emacs that waits for this process may crash if what it
+said last is read meanwhile."
+  (mgr--end session (or (mgr--session-why session) (mgr--told (mgr--session-process session)))))
 
 (defun mgr--await (session done)
   "Wait for DONE to return non-nil while SESSION lives, not too long; return that."
