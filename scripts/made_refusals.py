@@ -19,9 +19,7 @@ ROOT = pathlib.Path(__file__).resolve().parent.parent
 TESTS = re.compile(r"test_|bench_|\w+_test$")
 # How often sources make one, since what was answered is kept by nobody, or since they hide what can't happen.
 STILL = {
-    "crates/mg_buffer/src/buffer.rt": 1,  # a buffer that is not listed
     "crates/mg_files/src/fault.rt": 1,  # a read of bytes in memory that fails
-    "crates/mg_live/src/reports.rt": 1,  # what a report made was not noted
     "crates/mg_workspace/src/fault.rt": 1,  # a buffer that refuses what no command asks of it
     "crates/mgr_args/src/job.rt": 1,  # clap says that it found no memory
     "crates/mgr_show/src/join.rt": 1,  # a read of bytes in memory that fails

@@ -240,7 +240,7 @@ fn do_each<S: TextStore>(
     memo: &mut Memo,
     steps: &[Step],
 ) -> Result<(), BufferFault> {
-    buffer.list()?;
+    buffer.list();
     for step in steps {
         go(alloc, buffer, memo, *step)?;
     }
@@ -256,7 +256,7 @@ fn go<S: TextStore>(
     match step {
         Step::Run(kind) => run(alloc, buffer, memo, kind),
         Step::Undo => buffer.undo(memo),
-        Step::Look => look(buffer, memo),
+        Step::Look => look(buffer),
         Step::Idle => {
             buffer.idle(memo);
             Ok(())
@@ -276,9 +276,9 @@ fn run<S: TextStore>(
     }
 }
 
-fn look<S: TextStore>(buffer: &mut Buffer<S>, memo: &Memo) -> Result<(), BufferFault> {
-    buffer.list()?;
-    let _view = buffer.view(memo);
+fn look<S: TextStore>(buffer: &mut Buffer<S>) -> Result<(), BufferFault> {
+    buffer.list();
+    let _sight = buffer.sight()?;
     Ok(())
 }
 

@@ -14,6 +14,7 @@ use mg_buffer::line_of;
 use mg_screen::{Pane, Screen, WindowFault, Windows, cursor, first_line, frame};
 use rga_ops::OutOfMemory;
 use std::alloc::{AllocError, Global};
+use std::borrow::CowSlice;
 
 const ROWS: usize = 24;
 
@@ -147,7 +148,7 @@ fn screen_over<'a>(
     ensures { IfOk result (λ s. screen_rows s ≡ 24) }
 {
     let pane = Pane {
-        text,
+        text: CowSlice::Borrowed(text),
         point: text.len(),
         line,
         first,

@@ -1,7 +1,10 @@
 -- A place is within the text, so that point and mark are where a command can look.
-use Rattle.mg_buffer.proofs.Prelude.{◌≡◌, ℕ, ◌≤◌, Bool, true, false, cond, List, [], ◌∷◌, is_some, filter, length, refl, ap, subst, arith, Option, Some, None, option_map, unwrap_or, IfSome, cond_both, same_Some, option_map_or, Identifier, is_id, is_root, Content, order, text, is_visible, visible, up_to, is_complete, Marker, stands, place, State, Notes, place_of, situation_of}
+use Rattle.mg_buffer.proofs.Prelude.{◌≡◌, ℕ, ◌≤◌, Bool, true, false, cond, List, [], ◌∷◌, is_some, filter, length, refl, sym, ap, ◌∙◌, subst, arith, Option, Some, None, option_map, unwrap_or, IfSome, cond_both, same_Some, option_map_or, Identifier, is_id, is_root, Content, order, text, is_visible, visible, up_to, is_complete, Marker, stands, place, State, Notes, place_of, situation_of}
+use Rattle.std.specs.Cow.{cow_slice_items}
 use Rattle.rga_ops.proofs.VisibleLaws.{text_long}
 use Rattle.mg_plain.specs.Situation.{IsView}
+use Rattle.mg_buffer.specs.Sight.{IsSight}
+use Rattle.mg_buffer.specs.declared.sight.Sight.{Sight}
 
 kept_more : (p : Identifier → Bool) (x : Identifier) (ys xs : List Identifier) → length (filter p ys) ≤ length (filter p xs) → length (filter p (x ∷ ys)) ≤ length (filter p (x ∷ xs))
 kept_more p x ys xs h = elim (p x) as (λ t. length (cond t (x ∷ filter p ys) (filter p ys)) ≤ length (cond t (x ∷ filter p xs) (filter p xs))) [ true ↦ omega (arith, h) | false ↦ h ]
@@ -41,6 +44,17 @@ placed_within c s chars is at =
 pub mark_placed_within : (c : Content) (mark : Option Marker) (chars : List ℕ) → chars ≡ text c → IfSome mark (λ s. place c s.element ≡ Some s.place) → (x : ℕ) → option_map (λ (s : Marker). s.place) mark ≡ Some x → x ≤ length chars
 mark_placed_within c None chars is at x h = let clash : None ≡ Some x = h in cc
 mark_placed_within c (Some s) chars is at x h = subst (λ n. n ≤ length chars) (same_Some s.place x h) (placed_within c s chars is at)
+
+-- what is seen are places of the text that is seen
+pub seen_point_within : (b : State) (s : Sight) (chars : List ℕ) → IsSight b s → chars ≡ cow_slice_items s.text → s.point ≤ length chars
+seen_point_within b s chars seen is =
+    let long : length chars ≡ length (text b.content) = ap length (is ∙ seen.characters) in
+    omega (arith, place_within b.content b.point, seen.point, long)
+
+pub seen_mark_within : (b : State) (s : Sight) (chars : List ℕ) → IsSight b s → chars ≡ cow_slice_items s.text → (x : ℕ) → s.mark ≡ Some x → x ≤ length chars
+seen_mark_within b s chars seen is x at =
+    let long : length chars ≡ length (text b.content) = ap length (is ∙ seen.characters) in
+    omega (arith, mark_within b.content b.mark x (sym seen.mark ∙ at), long)
 
 -- what has a place at hand has a place
 pub mark_stands_if : (c : Content) (mark : Option Marker) → IfSome mark (λ s. place c s.element ≡ Some s.place) → option_map_or (stands c) mark true ≡ true

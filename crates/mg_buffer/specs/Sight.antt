@@ -1,5 +1,6 @@
 -- What the editor keeps between commands, and what a command sees of a buffer.
-use Rattle.std.specs.Prelude.{ℕ, List, Result}
+use Rattle.std.specs.Prelude.{◌≡◌, ℕ, List, Result}
+use Rattle.std.specs.Cow.{cow_slice_items}
 use Rattle.std.specs.Option.{option_map, unwrap_or}
 use Rattle.rga_ops.specs.Identifier.{Identifier}
 use Rattle.rga_ops.specs.Content.{Content}
@@ -12,7 +13,9 @@ use Rattle.mg_plain.specs.Commands.{effect}
 use Rattle.mg_plain.specs.Effect.{Effect}
 use Rattle.mg_plain.specs.Kills.{kill_after}
 use Rattle.mg_plain.specs.Situation.{Situation}
+use Rattle.mg_buffer.specs.LineNumbers.{line_of}
 use Rattle.mg_buffer.specs.State.{State}
+use Rattle.mg_buffer.specs.declared.sight.Sight.{Sight}
 
 -- the kill buffer, of which kind the last command was, and the goal of motions over lines
 pub record Notes : Type 0 where
@@ -38,6 +41,13 @@ situation_of b notes = record {
   goal = notes.goal;
   last = notes.kind;
 }
+
+-- these are seen of a buffer: its text, the places of point and mark in it, and the line of point
+pub record IsSight (b : State) (s : Sight) : Type 0 where
+  pub characters : cow_slice_items s.text ≡ text b.content
+  pub point : s.point ≡ place_of b.content b.point
+  pub mark : s.mark ≡ option_map (place_of b.content) b.mark
+  pub line : s.line ≡ line_of (text b.content) (place_of b.content b.point)
 
 -- a command with its argument and the fill column
 pub record CommandCall : Type 0 where

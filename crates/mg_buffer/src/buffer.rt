@@ -1,11 +1,10 @@
 //! Buffers: a document with a name, point, mark, undo groups and unsaved operations.
-ghost use Rattle.std.specs.Prelude.{◌≡◌, ◌≤◌, [], true, false, Some, None, length, encode_utf8_all, IfOk, IfErr, IfSome};
+ghost use Rattle.std.specs.Prelude.{◌≡◌, ◌≤◌, [], true, false, Some, None, length, encode_utf8_all, IfOk};
 ghost use Rattle.std.specs.Option.{option_map};
 ghost use Rattle.std.specs.String.{string_bytes};
 ghost use Rattle.rga_ops.specs.Prelude.{place, text};
 ghost use Rattle.mg_plain.specs.declared.view.Kind.TheVariants.{Plain};
-ghost use Rattle.mg_buffer.specs.LineNumbers as lines;
-ghost use Rattle.mg_buffer.specs.Sight.{place_of, situation_of};
+ghost use Rattle.mg_buffer.specs.Sight.{IsSight};
 ghost use Rattle.mg_buffer.specs.State.{new_state};
 
 use crate::characters::string_of;
@@ -13,11 +12,13 @@ use crate::history::History;
 use crate::line_numbers::KnownLine;
 use crate::marker::{Marker, find, find_mark};
 use crate::memo::Memo;
-use mg_plain::{Kind, View};
+use crate::sight::Sight;
+use mg_plain::Kind;
 use rga_doc::Doc;
 use rga_ops::{Id, Op, OutOfMemory};
 use rga_store::TextStore;
-use std::alloc::{AllocError, Global};
+use std::alloc::Global;
+use std::borrow::CowSlice;
 use std::marker::Model;
 
 /// A document that commands run on, over any store.
@@ -65,11 +66,6 @@ impl<S: TextStore> Model for Buffer<S> {
     } };
 
     ghost invariant = { λ b. IsKeptBuffer b.doc b.point b.line b.mark b.history b.listed };
-}
-
-/// What stands for the list of a buffer that is not listed: it was refused, or not asked for.
-fn unlisted() -> OutOfMemory {
-    OutOfMemory::from(AllocError)
 }
 
 impl<S: TextStore> Buffer<S> {
@@ -125,21 +121,19 @@ impl<S: TextStore> Buffer<S> {
         self.unsaved.clear();
     }
 
-    /// Lists the text, the places of point and mark and the line of point, so that `view` and
-    /// `line` find them. A command does so too. `Memory` alone.
+    /// Lists the text, the places of point and mark and the line of point, if there is memory, so
+    /// that `sight` finds them. A command does so too.
     #[tactic(auto, using(crate::proofs::PlaceLaws::placed_within))]
-    pub fn list(&mut self) -> Result<(), OutOfMemory>
+    pub fn list(&mut self)
         ensures same { self.new ≡ self.old }
     {
-        if self.listed {
-            return Ok(());
+        if self.listed || self.doc.list().is_err() {
+            return;
         }
-        self.doc.list()?;
         self.point = find(&self.doc, self.point);
         self.mark = find_mark(&self.doc, self.mark);
         self.line = self.line.moved(self.doc.characters(), self.point.place);
         self.listed = true;
-        Ok(())
     }
 
     /// The text in UTF-8. Where it is at hand the store is not walked. `Memory` alone.
@@ -153,36 +147,28 @@ impl<S: TextStore> Buffer<S> {
         Ok(string_of(self.alloc, self.doc.characters())?)
     }
 
-    /// What a command sees: the text, lent, the places of point and mark, and what the memo keeps.
-    /// Out of memory if the buffer is not listed. Takes no memory.
-    #[tactic(auto, using(crate::proofs::PlaceLaws::placed_within, crate::proofs::PlaceLaws::mark_placed_within))]
-    pub fn view<'a>(&'a self, memo: &'a Memo) -> Result<View<'a>, OutOfMemory>
-        ensures { IfOk result (λ view. view ≡ situation_of self.now memo.now) }
-    {
-        if !self.listed {
-            return Err(unlisted());
-        }
-        Ok(View {
-            text: self.doc.characters(),
-            point: self.point.place,
-            mark: self.mark.map(|marker| marker.place),
-            kill: &memo.kill,
-            goal: memo.goal,
-            last: memo.kind,
-        })
-    }
-
-    /// The line of point, from 0. Out of memory if the buffer is not listed. Takes no memory, and
-    /// counts nothing.
-    pub fn line(&self) -> Result<usize, OutOfMemory>
-        ensures { let b = self.now in IfOk result
-            (λ line. line ≡ lines.line_of (text b.content) (place_of b.content b.point)) }
+    /// What is seen of it. If it is listed the text is lent, nothing is looked for and no memory is
+    /// taken. Out of memory alone.
+    #[tactic(auto, using(crate::proofs::PlaceLaws::placed_within))]
+    pub fn sight(&self) -> Result<Sight<'_>, OutOfMemory>
+        ensures { IfOk result (IsSight self.now) }
     {
         if self.listed {
-            Ok(self.line.number)
-        } else {
-            Err(unlisted())
+            return Ok(Sight {
+                text: CowSlice::Borrowed(self.doc.characters()),
+                point: self.point.place,
+                mark: self.mark.map(|marker| marker.place),
+                line: self.line.number,
+            });
         }
+        let text = self.doc.text()?;
+        let point = find(&self.doc, self.point).place;
+        Ok(Sight {
+            line: self.line.moved(&text, point).number,
+            text: CowSlice::Owned(text),
+            point,
+            mark: find_mark(&self.doc, self.mark).map(|marker| marker.place),
+        })
     }
 
     /// The element that point stands after. Takes no memory.
@@ -190,32 +176,6 @@ impl<S: TextStore> Buffer<S> {
         ensures { result ≡ self.now.point }
     {
         self.point.element
-    }
-
-    /// The text, lent. Out of memory if the buffer is not listed. Takes no memory.
-    pub fn text(&self) -> Result<&[char], OutOfMemory>
-        ensures { IfOk result (λ characters. characters.now ≡ text self.now.content) }
-    {
-        if self.listed {
-            Ok(self.doc.characters())
-        } else {
-            Err(unlisted())
-        }
-    }
-
-    /// How many characters stand before point. Out of memory if the buffer is not listed. Takes no
-    /// memory.
-    #[tactic(auto, using(crate::proofs::PlaceLaws::placed_within))]
-    pub fn place(&self) -> Result<usize, OutOfMemory>
-        ensures exact { let b = self.now in
-            IfOk result (λ place. place ≡ place_of b.content b.point) }
-        ensures within { IfOk result (λ place. place ≤ length (text self.now.content)) }
-    {
-        if self.listed {
-            Ok(self.point.place)
-        } else {
-            Err(unlisted())
-        }
     }
 
     /// Does nothing, as a key that is no command on the text: ends a run of undos, and the kind

@@ -22,7 +22,7 @@ use crate::line_numbers::{KnownLine, least_begin};
 use crate::marker::{mark_at, marker_at};
 use crate::memo::Memo;
 use crate::room::{add_all, prepare};
-use mg_plain::{Command, Plan, plan};
+use mg_plain::{Command, Plan, View, plan};
 use rga_doc::Doc;
 use rga_ops::{Op, Refusal, Splice};
 use rga_store::TextStore;
@@ -69,6 +69,7 @@ impl<S: TextStore> Buffer<S> {
     }
 
     /// What a command does at what it sees. Faults: the notice that it has; `Memory`.
+    #[tactic(auto, using(crate::proofs::PlaceLaws::seen_point_within, crate::proofs::PlaceLaws::seen_mark_within))]
     fn planned(
         &mut self,
         command: &Command,
@@ -82,8 +83,16 @@ impl<S: TextStore> Buffer<S> {
             ⊎ (Err e ≡ run_answer (command_call command.now arg fill) self.old memo.now)) }
         ensures same { self.new ≡ self.old }
     {
-        self.list()?;
-        let view = self.view(memo)?;
+        self.list();
+        let sight = self.sight()?;
+        let view = View {
+            text: sight.text.as_slice(),
+            point: sight.point,
+            mark: sight.mark,
+            kill: &memo.kill,
+            goal: memo.goal,
+            last: memo.kind,
+        };
         Ok(plan(self.alloc, command, arg, &view, fill)?)
     }
 

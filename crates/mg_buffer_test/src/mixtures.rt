@@ -5,7 +5,7 @@ use mg_plain::{Command, Notice, View, plan};
 use rga_ops::{Refusal, Splice};
 use rga_store::{Taker, TextStore};
 use rga_tree::TreeStore;
-use std::alloc::{AllocError, Global};
+use std::alloc::Global;
 use test_fixtures::Random;
 
 /// A text with two places, which the plans of commands edit.
@@ -16,17 +16,25 @@ struct Plain {
     mark: Option<usize>,
 }
 
-/// What a buffer shows.
-fn shown<S: TextStore>(s: &mut Session<S>) -> Result<Plain, Refusal> {
-    s.buffer.list()?;
-    let Ok(view) = s.buffer.view(&s.memo) else {
-        return Err(Refusal::from(AllocError));
-    };
+fn seen<S: TextStore>(s: &Session<S>) -> Result<Plain, Refusal> {
+    let sight = s.buffer.sight()?;
     Ok(Plain {
-        text: Vec::from_slice(s.alloc, view.text)?,
-        point: view.point,
-        mark: view.mark,
+        text: Vec::from_slice(s.alloc, sight.text.as_slice())?,
+        point: sight.point,
+        mark: sight.mark,
     })
+}
+
+/// What a buffer shows, if it shows the same before it is listed.
+fn shown<S: TextStore>(s: &mut Session<S>) -> Result<Plain, Refusal> {
+    let made = seen(s)?;
+    s.buffer.list();
+    let lent = seen(s)?;
+    if made == lent {
+        Ok(lent)
+    } else {
+        Err(Refusal::Range)
+    }
 }
 
 /// The text with one part replaced.

@@ -79,7 +79,7 @@ impl<S: TextStore> Editor<S> {
         ensures cursor { IfOk result (λ frame. spec.editor_cursor self.new ≡ Some frame.cursor) }
         ensures same { OnErr result (self.new ≡ self.old) }
     {
-        self.work.list_all()?;
+        self.work.list_all();
         let placed = self.work.placed_viewports(self.alloc)?;
         let frame = self.placed_frame()?;
         self.work.place_windows(&placed);

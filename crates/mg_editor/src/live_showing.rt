@@ -88,7 +88,7 @@ impl<S: TextStore> Editor<S> {
             (λ frame. frame.places.items ≡ spec.place_cells live places.now self.new) }
         ensures same { OnErr result (self.new ≡ self.old) }
     {
-        self.work.list_all()?;
+        self.work.list_all();
         let placed = self.work.placed_viewports(self.alloc)?;
         let frame = self.placed_live_frame(live, places)?;
         self.work.place_windows(&placed);

@@ -1,6 +1,7 @@
 //! What a status of a live session says: of the dialogue, of buffers and of windows.
 ghost use Rattle.std.specs.Prelude.{◌≡◌, ◌<◌, Some, length, map, position, slice_get};
 ghost use Rattle.std.specs.Prelude.{IfOk, IfSome, string_bytes};
+ghost use Rattle.std.specs.Cow.{cow_slice_items};
 ghost use Rattle.rga_ops.specs.Content.{clock_of};
 ghost use Rattle.rga_ops.specs.Identifier.{is_id};
 ghost use Rattle.rga_ops.specs.Order.{text};
@@ -19,6 +20,7 @@ use mg_workspace::Workspace;
 use rga_ops::{Id, OutOfMemory};
 use rga_store::{TextStore, position_of};
 use std::alloc::{AllocError, Global};
+use std::borrow::CowSlice;
 
 /// The window at an index from the top.
 fn window_status<'a, S: TextStore>(work: &'a Workspace<S>, window: usize) -> WindowStatus<'a>
@@ -46,20 +48,12 @@ fn window_statuses<'a, S: TextStore>(
 }
 
 impl<S: TextStore> Editor<S> {
-    /// Lists all buffers: their texts, and the places of their points and marks, are then at hand.
-    /// Out of memory alone.
-    pub fn list(&mut self) -> Result<(), OutOfMemory>
+    /// Lists all buffers, as far as there is memory: their texts, and the places of their points and
+    /// marks, are then at hand.
+    pub fn list(&mut self)
         ensures same { self.new ≡ self.old }
     {
-        self.work.list_all()
-    }
-
-    /// Lists the buffer at an index. Out of memory alone.
-    pub fn list_at(&mut self, index: usize) -> Result<(), OutOfMemory>
-        requires { index < length self.old.work.buffers.all }
-        ensures same { self.new ≡ self.old }
-    {
-        self.work.list_at(index)
+        self.work.list_all();
     }
 
     /// What is asked. Takes no memory.
@@ -115,19 +109,17 @@ impl<S: TextStore> Editor<S> {
         })
     }
 
-    /// Where point stands in the current buffer. Out of memory if that is not listed. Takes no
-    /// memory.
+    /// Where point stands in the current buffer. Takes no memory if that is listed. Out of memory
+    /// alone.
     pub fn point_status(&self) -> Result<PointStatus, OutOfMemory>
         ensures { let buffer = (workspace_buffer self.now.work).buffer in
             IfOk result (λ status. spec.IsPointStatus buffer status) }
     {
         let buffer = &self.work.current().buffer;
-        let line = buffer.line()?;
-        let text = buffer.text()?;
-        let place = buffer.place()?;
+        let sight = buffer.sight()?;
         Ok(PointStatus {
-            line,
-            column: column_of(text, place),
+            line: sight.line,
+            column: column_of(sight.text.as_slice(), sight.point),
             element: buffer.point(),
         })
     }
@@ -161,13 +153,14 @@ impl<S: TextStore> Editor<S> {
         position_of(self.work.at(index).buffer.store(), id)
     }
 
-    /// The text of the buffer at an index, lent. Out of memory if it is not listed. Takes no
-    /// memory.
-    pub fn text_at(&self, index: usize) -> Result<&[char], OutOfMemory>
+    /// The text of the buffer at an index, lent, with no memory taken, if that is listed. Out of
+    /// memory alone.
+    pub fn text_at(&self, index: usize) -> Result<CowSlice<'_, char>, OutOfMemory>
         requires { index < length self.now.work.buffers.all }
         ensures { let content = (state_at index self.now.work).content in
-            IfOk result (λ characters. characters.now ≡ text content) }
+            IfOk result (λ characters. cow_slice_items characters ≡ text content) }
     {
-        self.work.at(index).buffer.text()
+        let sight = self.work.at(index).buffer.sight()?;
+        Ok(sight.text)
     }
 }

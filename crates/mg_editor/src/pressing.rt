@@ -26,15 +26,20 @@ impl<S: TextStore> Editor<S> {
             (spec.Ended (plain.plain_step step (scene_of self.old.work)) self.old self.new) }
         ensures refused { OnErr result (self.new ≡ spec.ran_out self.old) }
     {
-        if let Err(memory) = self.work.list() {
-            return self.run_out(memory);
+        self.work.list();
+        match self.plain_ending(step) {
+            Ok(ending) => self.end(ending),
+            Err(memory) => self.run_out(memory),
         }
-        let scene = match self.work.scene() {
-            Ok(scene) => scene,
-            Err(memory) => return self.run_out(memory),
-        };
-        let ending = plain_step(self.alloc, step, &scene);
-        self.end(ending)
+    }
+
+    /// What a step leads to where no prompt is open.
+    fn plain_ending(&self, step: Step) -> Result<Ending, OutOfMemory>
+        ensures { let due = plain.plain_step step (scene_of self.now.work) in
+            IfOk result (λ ending. ending ≡ due) }
+    {
+        let scene = self.work.scene()?;
+        Ok(plain_step(self.alloc, step, &scene))
     }
 
     /// Want of memory: the key sequence begun is forgotten.
@@ -102,17 +107,20 @@ impl<S: TextStore> Editor<S> {
             (spec.FollowsReaction (spec.editor_reaction step.now self.old) self.old self.new) }
         ensures refused { OnErr result (self.new ≡ spec.ran_out self.old) }
     {
-        if let Err(memory) = self.work.list() {
-            return self.run_out(memory);
-        }
-        let scene = match self.work.scene() {
-            Ok(scene) => scene,
-            Err(memory) => return self.run_out(memory),
-        };
-        match self.talk.react(self.alloc, step, &scene) {
+        self.work.list();
+        match self.reaction(step) {
             Ok(reaction) => self.follow(reaction),
-            Err(memory) => self.run_out(OutOfMemory::from(memory)),
+            Err(memory) => self.run_out(memory),
         }
+    }
+
+    /// What a step leads to at an open prompt.
+    fn reaction(&self, step: &Step) -> Result<Reaction, OutOfMemory>
+        ensures { is_some self.now.talk.prompt ≡ true → IfOk result
+            (λ reaction. reaction ≡ spec.editor_reaction step.now self.now) }
+    {
+        let scene = self.work.scene()?;
+        Ok(self.talk.react(self.alloc, step, &scene)?)
     }
 
     /// What a reaction asks for.
@@ -190,17 +198,26 @@ impl<S: TextStore> Editor<S> {
             self.old self.new) }
         ensures refused { OnErr result (self.new ≡ spec.ran_out self.old) }
     {
-        if let Err(memory) = self.work.list() {
-            return self.run_out(memory);
-        }
-        let scene = match self.work.scene() {
-            Ok(scene) => scene,
-            Err(memory) => return self.run_out(memory),
-        };
-        match next_match(self.alloc, pattern, put, count, &scene) {
+        self.work.list();
+        match self.next_ending(pattern, put, count) {
             Ok(ending) => self.end(ending),
-            Err(memory) => self.run_out(OutOfMemory::from(memory)),
+            Err(memory) => self.run_out(memory),
         }
+    }
+
+    /// What the next match leads to, or that there is none.
+    fn next_ending(
+        &self,
+        pattern: &[char],
+        put: &[char],
+        count: usize,
+    ) -> Result<Ending, OutOfMemory>
+        ensures { let scene = scene_of self.now.work in
+            let due = queries.asks_at_next_match pattern.now put.now count scene in
+            IfOk result (λ ending. ending ≡ due) }
+    {
+        let scene = self.work.scene()?;
+        Ok(next_match(self.alloc, pattern, put, count, &scene)?)
     }
 
     /// A step that does not wait for more bytes.

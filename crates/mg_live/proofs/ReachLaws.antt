@@ -1,5 +1,5 @@
 -- How far an event reaches in the live buffer's text, and what of the text it leaves.
-use Rattle.std.proofs.Common.{◌≡◌, inl, inr, ◌∙◌, ◌<◌, ◌≤◌, ◌-◌, ◌&&◌, ◌++◌, arith, ℕ, suc, Bool, true, false, List, [], ◌∷◌, length, take, drop, Option, Some, None, Result, Ok, Err, MatchResult, refl, sym, ap, subst, nat_eq}
+use Rattle.std.proofs.Common.{◌≡◌, inl, inr, ◌∙◌, ◌<◌, ◌≤◌, ◌-◌, ◌&&◌, ◌++◌, arith, ℕ, suc, Bool, true, false, List, [], ◌∷◌, length, take, drop, Option, Some, None, Result, Ok, Err, MatchResult, is_ok, refl, sym, ap, subst, nat_eq}
 use Rattle.std.specs.Prelude.{if◌then◌else◌, nat_le}
 use Rattle.std.specs.Bool.{MatchBool}
 use Rattle.std.specs.List.{list_any, slice_get}
@@ -16,6 +16,7 @@ use Rattle.rga_ops.specs.Places.{visible}
 use Rattle.rga_ops.specs.Splice.{Splice, spliced, text_after}
 use Rattle.rga_ops.specs.declared.op.Op.{Op}
 use Rattle.rga_ops.specs.declared.op.Op.TheVariants.{Insert}
+use Rattle.rga_ops.specs.declared.out_of_memory.OutOfMemory.{OutOfMemory}
 use Rattle.rga_ops.specs.declared.refusal.Refusal.{Refusal}
 use Rattle.rga_ops.specs.declared.refusal.Taken.{Taken}
 use Rattle.rga_ops.specs.declared.refusal.Taken.TheVariants.{New, Known}
@@ -180,7 +181,7 @@ still reach told now is = grind arith
 module _ {C : Type 0} (e : Editor) (live : Live) (f : Editor) (next : Live) (verdict : Verdict) (same : f ≡ e → next ≡ live → C) where
   module _ {A : Type 0} (ops : List Op) (Each : ℕ → Editor → Result A Refusal → Editor → Type 0) (each : (i : ℕ) (r : Result A Refusal) → live_index live.name e ≡ Some i → Each i e r f → MatchResult r (λ _. next ≡ with_taken live) (λ why. next ≡ live) → C) where
     abbrev AnsweredSo : Result A Refusal → Type 0
-    AnsweredSo r = MatchResult r (λ _. (verdict ≡ Ok true) × (next ≡ with_taken live)) (λ why. (verdict ≡ Err (Refused why)) × (next ≡ live))
+    AnsweredSo r = MatchResult r (λ _. (verdict ≡ Ok (Ok tt)) × (next ≡ with_taken live)) (λ why. (verdict ≡ Err (Refused why)) × (next ≡ live))
 
     abbrev OthersAt : Option ℕ → Type 0
     OthersAt None = (verdict ≡ Err Closed) × (f ≡ e) × (next ≡ live)
@@ -207,7 +208,7 @@ module _ {C : Type 0} (e : Editor) (live : Live) (f : Editor) (next : Live) (ver
   module _ (base lo hi : ℕ) (put : List ℕ) (made : (i : ℕ) (noted : Bool) → live_index live.name e ≡ Some i → RunsAt i (ReplaceRange lo hi put) 1 e.work (f.work, Ok tt) → next ≡ with_made true noted (made_at i e f) live → C) where
     abbrev SplicedSo : ℕ → ActionVerdict → Type 0
     SplicedSo i r = MatchResult r
-        (λ _. (noted : Bool) × (f ≡ with_changed i f.work e) × (verdict ≡ Ok noted) × (next ≡ with_made true noted (made_at i e f) live))
+        (λ _. (noted : Result (Unit {0}) OutOfMemory) × (f ≡ with_changed i f.work e) × (verdict ≡ Ok noted) × (next ≡ with_made true (is_ok noted) (made_at i e f) live))
         (λ fault. (f ≡ e) × (verdict ≡ Err (splice_fault fault)) × (next ≡ live))
 
     abbrev SplicesAt : Option ℕ → Type 0
@@ -220,7 +221,7 @@ module _ {C : Type 0} (e : Editor) (live : Live) (f : Editor) (next : Live) (ver
     splices_case takes = by (live_index live.name e) refl takes
       where
         spliced : (i : ℕ) (r : ActionVerdict) → live_index live.name e ≡ Some i → RunsAt i (ReplaceRange lo hi put) 1 e.work (f.work, r) → SplicedSo i r → C
-        spliced i (Ok u) at did (noted, changed, says, is) = made i noted at did is
+        spliced i (Ok u) at did (noted, changed, says, is) = made i (is_ok noted) at did is
         spliced i (Err fault) at did (stays, says, is) = same stays is
 
         by_base : (i : ℕ) (current : Bool) → live_index live.name e ≡ Some i

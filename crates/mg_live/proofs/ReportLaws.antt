@@ -1,11 +1,12 @@
 -- A session stands after a report.
-use Rattle.std.proofs.Common.{◌≡◌, inl, inr, ◌∙◌, ◌<◌, ℕ, Bool, true, List, [], ◌∷◌, length, Some, Result, Ok, Err, MatchResult, refl, sym, ap, subst}
+use Rattle.std.proofs.Common.{◌≡◌, inl, inr, ◌∙◌, ◌<◌, ℕ, Bool, true, List, [], ◌∷◌, length, Some, Result, Ok, Err, MatchResult, is_ok, refl, sym, ap, subst}
 use Rattle.std.specs.Prelude.{encode_utf8_all}
 use Rattle.std.specs.List.{Contains}
 use Rattle.std.specs.Str.{all_scalars}
 use Rattle.rga_ops.specs.Answer.{answer}
 use Rattle.rga_ops.specs.ListAnswer.{list_answer}
 use Rattle.rga_ops.specs.declared.op.Op.{Op}
+use Rattle.rga_ops.specs.declared.out_of_memory.OutOfMemory.{OutOfMemory}
 use Rattle.rga_ops.specs.declared.refusal.Refusal.{Refusal}
 use Rattle.rga_ops.specs.declared.refusal.Taken.{Taken}
 use Rattle.rga_lines.specs.Runs.{stretch_operations, run_deletions}
@@ -42,7 +43,7 @@ use Rattle.mg_live.proofs.ReachLaws.{SameTold, follows_told, others_case, refuse
 
 abbrev PastedSo : Editor → Live → Editor → Live → Verdict → Result (Unit {0}) PasteFault → Type 0
 PastedSo e live f next verdict a = MatchResult a
-    (λ _. (noted : Bool) × (verdict ≡ Ok noted) × (next ≡ with_made (is_live live.name e.work.buffers.current e) noted (made_at e.work.buffers.current e f) live))
+    (λ _. (noted : Result (Unit {0}) OutOfMemory) × (verdict ≡ Ok noted) × (next ≡ with_made (is_live live.name e.work.buffers.current e) (is_ok noted) (made_at e.work.buffers.current e f) live))
     (λ fault. (verdict ≡ Err (of_paste fault)) × (next ≡ live))
 
 -- ---- what stands of a session then, and how each open buffer came to be
@@ -143,7 +144,7 @@ module _ (name : List ℕ) (right : all_scalars name ≡ true) (s : Held) (e : E
               own = so.own;
               logged = so.logged;
               safe = subst (λ (l : Live). AreSafe (encode_utf8_all name) l.telling.untold f.work.buffers s) (sym is)
-                  (made_safe name s f so.own later.named so.logged (is_live live.name current e) noted e current live stands.kept.named
+                  (made_safe name s f so.own later.named so.logged (is_live live.name current e) (is_ok noted) e current live stands.kept.named
                   (λ there. live_there name current e (subst (λ n. is_live n current e ≡ true) named there)) (λ count. paste_same put e f r pasted) so.safe);
             })
             (ap (λ (l : Live). l.name) is)

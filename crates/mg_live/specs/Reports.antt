@@ -1,5 +1,5 @@
 -- What a report of a live session leads to.
-use Rattle.std.specs.Prelude.{◌≡◌, ◌≢◌, ◌⊎◌, ℕ, ◌+◌, Bool, true, List, [], ◌∷◌, Some, None, Result, Ok, Err, MatchResult, min, max, nat_lt, nat_eq}
+use Rattle.std.specs.Prelude.{◌≡◌, ◌≢◌, ◌⊎◌, ℕ, ◌+◌, Bool, true, List, [], ◌∷◌, Some, None, Result, Ok, Err, MatchResult, is_ok, min, max, nat_lt, nat_eq}
 use Rattle.std.specs.Bool.{MatchBool}
 use Rattle.std.specs.List.{list_any}
 use Rattle.rga_ops.specs.Content.{clock_of}
@@ -8,6 +8,7 @@ use Rattle.rga_ops.specs.Answer.{answer}
 use Rattle.rga_ops.specs.ListAnswer.{list_answer}
 use Rattle.rga_ops.specs.declared.op.Op.{Op}
 use Rattle.rga_ops.specs.declared.op.Op.TheVariants.{Insert, Delete}
+use Rattle.rga_ops.specs.declared.out_of_memory.OutOfMemory.{OutOfMemory}
 use Rattle.rga_ops.specs.declared.refusal.Refusal.{Refusal}
 use Rattle.rga_ops.specs.Memory.{Memory}
 use Rattle.rga_ops.specs.declared.refusal.Refusal.TheVariants as refusal
@@ -57,7 +58,7 @@ is_far clock op = nat_lt (clock + 4294967296) (counter_of op)
 
 -- what the session says of a report is that it was taken, whether there was memory to note what it made, or why not
 abbrev pub Verdict : Type 0
-Verdict = Result Bool ReportFault
+Verdict = Result (Result (Unit {0}) OutOfMemory) ReportFault
 
 abbrev pub clock_at : ℕ → Editor → ℕ
 clock_at i e = clock_of (state_at i e.work).content
@@ -84,7 +85,7 @@ TakesOthers {A} ops Takes e live verdict f next = elim (live_index live.name e) 
   | Some i ↦ MatchBool (list_any (is_far (clock_at i e)) ops)
       ((verdict ≡ Err Far) × (f ≡ e) × (next ≡ live))
       ((r : Result A Refusal) × Takes i e r f × MatchResult r
-      (λ _. (verdict ≡ Ok true) × (next ≡ with_taken live)) (λ why. (verdict ≡ Err (Refused why)) × (next ≡ live)))
+      (λ _. (verdict ≡ Ok (Ok tt)) × (next ≡ with_taken live)) (λ why. (verdict ≡ Err (Refused why)) × (next ≡ live)))
 ]
 
 -- there is no memory for the operations of a run
@@ -102,7 +103,8 @@ abbrev pub Pastes : List ℕ → Editor → Live → Verdict → Editor → Live
 Pastes put e live verdict f next =
     let i = e.work.buffers.current in
     (r : Result (Unit {0}) PasteFault) × Pasted put e f r × MatchResult r
-    (λ _. (noted : Bool) × (verdict ≡ Ok noted) × (next ≡ with_made (is_live live.name i e) noted (made_at i e f) live))
+    (λ _. (noted : Result (Unit {0}) OutOfMemory) × (verdict ≡ Ok noted)
+    × (next ≡ with_made (is_live live.name i e) (is_ok noted) (made_at i e f) live))
     (λ fault. (verdict ≡ Err (of_paste fault)) × (next ≡ live))
 
 abbrev pub splice_fault : ActionFault → ReportFault
@@ -118,14 +120,15 @@ Splices base lo hi put e live verdict f next = elim (live_index live.name e) [
   | None ↦ (verdict ≡ Err Closed) × (f ≡ e) × (next ≡ live)
   | Some i ↦ MatchBool (nat_eq base (change_count live.changes))
       ((r : Result (Unit {0}) ActionFault) × RunsAt i (ReplaceRange lo hi put) 1 e.work (f.work, r) × MatchResult r
-      (λ _. (noted : Bool) × (f ≡ with_changed i f.work e) × (verdict ≡ Ok noted) × (next ≡ with_made true noted (made_at i e f) live))
+      (λ _. (noted : Result (Unit {0}) OutOfMemory) × (f ≡ with_changed i f.work e) × (verdict ≡ Ok noted)
+      × (next ≡ with_made true (is_ok noted) (made_at i e f) live))
       (λ fault. (f ≡ e) × (verdict ≡ Err (splice_fault fault)) × (next ≡ live)))
       ((verdict ≡ Err Stale) × (f ≡ e) × (next ≡ live))
 ]
 
 -- What becomes of a piece of text: it is held, or dropped for that, or the whole text is taken so.
 abbrev pub TakesPiece : Piece → (List ℕ → Editor → Live → Verdict → Editor → Live → Type 0) → Editor → Live → Verdict → Editor → Live → Type 0
-TakesPiece Held Takes e live verdict f next = (verdict ≡ Ok true) × (f ≡ e) × (next ≡ live)
+TakesPiece Held Takes e live verdict f next = (verdict ≡ Ok (Ok tt)) × (f ≡ e) × (next ≡ live)
 TakesPiece (Dropped fault) Takes e live verdict f next = (verdict ≡ Err (Line fault)) × (f ≡ e) × (next ≡ live)
 TakesPiece (Whole put) Takes e live verdict f next = Takes put e live verdict f next
 
@@ -156,9 +159,9 @@ Takes (report.Deletions run) e live verdict f next =
     ⊎ TakesOthers (run_deletions run) (TakesList (run_deletions run)) e live verdict f next
 Takes (report.Paste text more) e live verdict f next = TakesPaste text more e live verdict f next
 Takes (report.Splice base lo hi text more) e live verdict f next = TakesSplice base lo hi text more e live verdict f next
-Takes (report.Size rows columns) e live verdict f next = (verdict ≡ Ok true) × (f ≡ resized rows columns e) × (next ≡ live)
-Takes (report.Places places) e live verdict f next = (verdict ≡ Ok true) × (f ≡ e) × (next ≡ record live { places = places })
-Takes report.Rest e live verdict f next = (verdict ≡ Ok true) × (f ≡ e) × (next ≡ record live { telling = record live.telling { resting = true } })
+Takes (report.Size rows columns) e live verdict f next = (verdict ≡ Ok (Ok tt)) × (f ≡ resized rows columns e) × (next ≡ live)
+Takes (report.Places places) e live verdict f next = (verdict ≡ Ok (Ok tt)) × (f ≡ e) × (next ≡ record live { places = places })
+Takes report.Rest e live verdict f next = (verdict ≡ Ok (Ok tt)) × (f ≡ e) × (next ≡ record live { telling = record live.telling { resting = true } })
 
 -- ---- a report of a session
 
@@ -169,7 +172,7 @@ RefusesReport fault before live next after =
 
 -- it was done, and the session goes on if there was memory to note what it made; or it is refused
 abbrev pub Follows : Verdict → Live → Live → Course → Type 0
-Follows (Ok noted) live next after = (next ≡ live) × (after ≡ if_memory noted On)
+Follows (Ok noted) live next after = (next ≡ live) × (after ≡ if_memory (is_ok noted) On)
 Follows (Err fault) live next after = RefusesReport fault On live next after
 
 -- What a report says is done, or it is refused.

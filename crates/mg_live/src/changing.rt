@@ -42,14 +42,12 @@ pub(crate) fn note_changes<S: TextStore>(
     let Some(index) = editor.live_index(live.name.as_slice()) else {
         return course;
     };
-    if let Err(memory) = editor.list_at(index) {
-        return Course::NoMemory(memory);
-    }
+    editor.list();
     let text = match editor.text_at(index) {
         Ok(text) => text,
         Err(memory) => return Course::NoMemory(memory),
     };
-    match note(live, text, kept(live, editor, index, reach)) {
+    match note(live, text.as_slice(), kept(live, editor, index, reach)) {
         Ok(()) => course,
         Err(memory) => Course::NoMemory(memory),
     }
@@ -104,6 +102,7 @@ fn kept_beside<S: TextStore>(changes: &Changes, editor: &Editor<S>, index: usize
     let Ok(text) = editor.text_at(index) else {
         return Kept::NOTHING;
     };
+    let text = text.as_slice();
     let count = changes.text_len();
     if text.len() == count {
         return Kept {

@@ -6,7 +6,7 @@ ghost use Rattle.mg_live.specs.Reports as spec;
 use crate::fault::ReportFault;
 use crate::live::Live;
 use mg_editor::Editor;
-use rga_ops::Op;
+use rga_ops::{Op, OutOfMemory};
 use rga_store::TextStore;
 
 /// How far above the clock a counter may be: 2^32.
@@ -36,7 +36,7 @@ pub(crate) fn take_one<S: TextStore>(
     live: &mut Live,
     editor: &mut Editor<S>,
     op: Op,
-) -> Result<bool, ReportFault>
+) -> Result<Result<(), OutOfMemory>, ReportFault>
     ensures { spec.TakesOthers (op ∷ []) (spec.TakesOperation op)
         editor.old live.old result editor.new live.new }
 {
@@ -49,7 +49,7 @@ pub(crate) fn take_one<S: TextStore>(
     match editor.take_operation(index, op) {
         Ok(_) => {
             live.telling.took = true;
-            Ok(true)
+            Ok(Ok(()))
         }
         Err(refusal) => Err(ReportFault::Refused(refusal)),
     }
@@ -60,7 +60,7 @@ pub(crate) fn take_list<S: TextStore>(
     live: &mut Live,
     editor: &mut Editor<S>,
     ops: &[Op],
-) -> Result<bool, ReportFault>
+) -> Result<Result<(), OutOfMemory>, ReportFault>
     ensures { spec.TakesOthers ops.now (spec.TakesList ops.now)
         editor.old live.old result editor.new live.new }
 {
@@ -73,7 +73,7 @@ pub(crate) fn take_list<S: TextStore>(
     match editor.take_operations(index, ops) {
         Ok(()) => {
             live.telling.took = true;
-            Ok(true)
+            Ok(Ok(()))
         }
         Err(refusal) => Err(ReportFault::Refused(refusal)),
     }

@@ -135,7 +135,7 @@ fn ready<S: TextStore>(
     if fresh && live.changes.is_none() {
         return draw(live, editor);
     }
-    editor.list()?;
+    editor.list();
     Ok(false)
 }
 

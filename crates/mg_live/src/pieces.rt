@@ -10,7 +10,7 @@ use crate::made::{mark_at, mark_current, note_made};
 use mg_editor::Editor;
 use mg_workspace::{ActionFault, Cause};
 use rga_lines::LineFault;
-use rga_ops::Refusal;
+use rga_ops::{OutOfMemory, Refusal};
 use rga_store::TextStore;
 
 /// The whole of a pasted text. Answers whether there was memory to note what it made.
@@ -18,12 +18,12 @@ fn paste_whole<S: TextStore>(
     live: &mut Live,
     editor: &mut Editor<S>,
     put: &[char],
-) -> Result<bool, ReportFault>
+) -> Result<Result<(), OutOfMemory>, ReportFault>
     ensures { spec.Pastes put.now editor.old live.old result editor.new live.new }
 {
     let mark = mark_current(live, editor);
     match editor.paste(put) {
-        Ok(()) => Ok(note_made(live, editor, mark).is_ok()),
+        Ok(()) => Ok(note_made(live, editor, mark)),
         Err(fault) => Err(ReportFault::from(fault)),
     }
 }
@@ -34,11 +34,11 @@ pub(crate) fn paste<S: TextStore>(
     editor: &mut Editor<S>,
     text: &[char],
     more: bool,
-) -> Result<bool, ReportFault>
+) -> Result<Result<(), OutOfMemory>, ReportFault>
     ensures { spec.TakesPaste text.now more editor.old live.old result editor.new live.new }
 {
     match live.paste.gather(text, more) {
-        Piece::Held => Ok(true),
+        Piece::Held => Ok(Ok(())),
         Piece::Dropped(fault) => Err(ReportFault::Line(fault)),
         Piece::Whole(put) => paste_whole(live, editor, put.as_slice()),
     }
@@ -66,7 +66,7 @@ fn splice_whole<S: TextStore>(
     lo: u64,
     hi: u64,
     put: &[char],
-) -> Result<bool, ReportFault>
+) -> Result<Result<(), OutOfMemory>, ReportFault>
     ensures { spec.Splices base lo hi put.now editor.old live.old result editor.new live.new }
 {
     let Some(index) = editor.live_index(live.name.as_slice()) else {
@@ -77,7 +77,7 @@ fn splice_whole<S: TextStore>(
     }
     let mark = mark_at(live, editor, index);
     match editor.splice(index, lo as usize, hi as usize, put) {
-        Ok(()) => Ok(note_made(live, editor, mark).is_ok()),
+        Ok(()) => Ok(note_made(live, editor, mark)),
         Err(fault) => Err(splice_fault(fault)),
     }
 }
@@ -91,12 +91,12 @@ pub(crate) fn splice<S: TextStore>(
     hi: u64,
     text: &[char],
     more: bool,
-) -> Result<bool, ReportFault>
+) -> Result<Result<(), OutOfMemory>, ReportFault>
     ensures { spec.TakesSplice base lo hi text.now more
         editor.old live.old result editor.new live.new }
 {
     match live.splice.gather(text, more) {
-        Piece::Held => Ok(true),
+        Piece::Held => Ok(Ok(())),
         Piece::Dropped(fault) => Err(ReportFault::Line(fault)),
         Piece::Whole(put) => splice_whole(live, editor, base, lo, hi, put.as_slice()),
     }

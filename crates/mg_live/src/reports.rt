@@ -15,7 +15,6 @@ use mg_screen::{MAX_COLUMNS, MAX_ROWS, MIN_COLUMNS, MIN_ROWS};
 use mg_session::Course;
 use rga_ops::{Op, OutOfMemory};
 use rga_store::TextStore;
-use std::alloc::AllocError;
 
 /// The report that was counted last is refused. The session ends where there is no memory to note
 /// it.
@@ -51,7 +50,7 @@ fn take<S: TextStore>(
     live: &mut Live,
     editor: &mut Editor<S>,
     report: Report,
-) -> Result<bool, ReportFault>
+) -> Result<Result<(), OutOfMemory>, ReportFault>
     requires { HasSoundRun report }
     ensures { spec.Takes report editor.old live.old result editor.new live.new }
 {
@@ -75,15 +74,15 @@ fn take<S: TextStore>(
         } => splice(live, editor, base, lo, hi, text.as_slice(), more),
         Report::Size { rows, columns } => {
             resize(editor, rows, columns);
-            Ok(true)
+            Ok(Ok(()))
         }
         Report::Places(places) => {
             live.places = places.all;
-            Ok(true)
+            Ok(Ok(()))
         }
         Report::Rest => {
             live.telling.resting = true;
-            Ok(true)
+            Ok(Ok(()))
         }
     }
 }
@@ -94,8 +93,8 @@ fn follow<S: TextStore>(live: &mut Live, editor: &mut Editor<S>, report: Report)
     ensures { spec.TakesReport report editor.old live.old editor.new live.new result }
 {
     match take(live, editor, report) {
-        Ok(true) => Course::On,
-        Ok(false) => Course::NoMemory(OutOfMemory::from(AllocError)),
+        Ok(Ok(())) => Course::On,
+        Ok(Err(memory)) => Course::NoMemory(memory),
         Err(fault) => refuse(live, fault, Course::On),
     }
 }

@@ -33,7 +33,12 @@ fn asks_or_ends(
     ensures { let due = spec.asks_or_ends pattern.now put.now count scene.now otherwise in
         IfOk result (λ ending. ending ≡ due) }
 {
-    match find(Direction::Forward, scene.text, pattern, scene.point) {
+    match find(
+        Direction::Forward,
+        scene.text.as_slice(),
+        pattern,
+        scene.point,
+    ) {
         Some(_) => Ok(ending_of(
             Action::Run(search(alloc, pattern, scene.point)?, 1),
             Next::Open(Prompt::Replacing {
@@ -109,7 +114,7 @@ fn replaces_all(
     ensures { let due = spec.replaces_all pattern.now put.now count scene.now in
         IfOk result (λ reaction. reaction ≡ due) }
 {
-    let followers = count_matches(scene.text, pattern, scene.point);
+    let followers = count_matches(scene.text.as_slice(), pattern, scene.point);
     let count = count.saturating_add(1).saturating_add(followers);
     let command = Command::ReplaceAll {
         pattern: Chars::from_slice(alloc, pattern)?,

@@ -32,7 +32,9 @@ pub fn prompt_step(
         Prompt::Replacement { pattern, answer } => {
             replacement_step(alloc, pattern.as_slice(), answer.as_slice(), step, scene)
         }
-        Prompt::Searching(search) => search_step(alloc, search, step, scene.text, last),
+        Prompt::Searching(search) => {
+            search_step(alloc, search, step, scene.text.as_slice(), last)
+        }
         Prompt::Replacing {
             pattern,
             put,

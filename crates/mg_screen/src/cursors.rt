@@ -55,7 +55,7 @@ pub(crate) fn pane_cursor(columns: usize, above: usize, pane: &Pane) -> Option<P
     }
     Some(Position {
         row: above + (line - pane.first),
-        column: place_column(columns, pane.text, pane.point),
+        column: place_column(columns, pane.text.as_slice(), pane.point),
     })
 }
 

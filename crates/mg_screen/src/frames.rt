@@ -30,8 +30,9 @@ pub(crate) fn column_beyond(columns: usize, pane: &Pane) -> Option<usize>
     if line < pane.first || line - pane.first >= pane.height {
         return None;
     }
-    let count = column_of(pane.text, pane.point);
-    line_beyond(columns, line_at(pane.text, pane.point, count), count)
+    let text = pane.text.as_slice();
+    let count = column_of(text, pane.point);
+    line_beyond(columns, line_at(text, pane.point, count), count)
 }
 
 /// Another row in the place of one.
@@ -54,8 +55,9 @@ fn push_pane(
     ensures { OnOk result
         (AddsRows (pane_rows columns pane.now) rows.old.items rows.new.items) }
 {
-    let begin = line_start(pane.text, pane.point, pane.line, pane.first);
-    push_text_rows(alloc, columns, pane.height, pane.text, begin, rows)?;
+    let text = pane.text.as_slice();
+    let begin = line_start(text, pane.point, pane.line, pane.first);
+    push_text_rows(alloc, columns, pane.height, text, begin, rows)?;
     push_row(rows, mode_row(alloc, columns, pane)?)
 }
 
@@ -80,7 +82,8 @@ fn push_pane_by(
     let Some(column) = column_beyond(columns, pane) else {
         return Ok(());
     };
-    let line = line_at(pane.text, pane.point, column_of(pane.text, pane.point));
+    let text = pane.text.as_slice();
+    let line = line_at(text, pane.point, column_of(text, pane.point));
     let row = sideways_row(alloc, columns, line, column)?;
     put_row(rows, above + (pane.line - pane.first), row);
     Ok(())

@@ -33,8 +33,8 @@ fn mode_text(alloc: Global, pane: &Pane) -> Result<String, AllocError>
     ensures { IfOk result (λ text. string_bytes text ≡ spec.mode_text pane.now) }
 {
     let mark = changed_mark(pane.changed);
+    let column = column_of(pane.text.as_slice(), pane.point);
     let number = pane.line + 1;
-    let column = column_of(pane.text, pane.point);
     mode_line(
         alloc,
         mark,

@@ -1,12 +1,13 @@
 //! What a frame is made of: the windows with their texts, and the echo line.
+use std::borrow::CowSlice;
 use std::marker::Model;
 
-/// A window: the text that it shows from a line on, and what its mode line says. Point is a place
+/// A window: the text that it shows from a line on, lent or its own, and what its mode line says. Point is a place
 /// of the text, with its line beside it, so that a frame reads no more than it shows; there are 1
 /// to `MAX_ROWS` text rows.
 #[derive(Drop)]
 pub struct Pane<'a> {
-    pub text: &'a [char],
+    pub text: CowSlice<'a, char>,
     /// How many characters stand before point.
     pub point: usize,
     /// The line of point, from 0: how many newlines stand before it.
@@ -25,6 +26,7 @@ pub struct Pane<'a> {
 
 impl<'a> Model for Pane<'a> {
     ghost use Rattle.std.specs.Prelude.{◌≡◌, ◌≤◌, length, string_bytes};
+    ghost use Rattle.std.specs.Cow.{cow_slice_items};
     ghost use Rattle.mg_screen.specs.Screen as spec;
     ghost use Rattle.mg_screen.specs.Lines.{line_index};
     ghost use Rattle.mg_screen.specs.Size.{most_rows};
@@ -32,7 +34,7 @@ impl<'a> Model for Pane<'a> {
     ghost Value = { spec.Pane };
 
     ghost view = { λ p. record {
-      text = p.text.now;
+      text = cow_slice_items p.text;
       point = p.point;
       first = p.first;
       height = p.height;
@@ -42,8 +44,8 @@ impl<'a> Model for Pane<'a> {
     } };
 
     ghost invariant = { λ p.
-        (p.point ≤ length p.text.now) × (1 ≤ p.height) × (p.height ≤ most_rows)
-        × (p.line ≡ line_index p.text.now p.point) };
+        (p.point ≤ length (cow_slice_items p.text)) × (1 ≤ p.height) × (p.height ≤ most_rows)
+        × (p.line ≡ line_index (cow_slice_items p.text) p.point) };
 }
 
 /// The windows from the top on, and what the echo line says.

@@ -44,10 +44,11 @@ fn line_of_place(pane: &Pane, place: usize) -> usize
     requires { place ≤ length pane.now.text }
     ensures { result ≡ line_index pane.now.text place }
 {
+    let text = pane.text.as_slice();
     if place <= pane.point {
-        return pane.line - newlines_of(&pane.text[place..pane.point]);
+        return pane.line - newlines_of(&text[place..pane.point]);
     }
-    pane.line + newlines_of(&pane.text[pane.point..place])
+    pane.line + newlines_of(&text[pane.point..place])
 }
 
 /// A column, where it is before an end.
@@ -101,8 +102,8 @@ fn place_shown(columns: usize, pane: &Pane, place: usize, line: usize) -> Option
     requires line { line ≡ line_index pane.now.text place }
     ensures { result ≡ spec.place_shown columns pane.now place }
 {
-    let count = column_of(pane.text, place);
-    let text = line_at(pane.text, place, count);
+    let count = column_of(pane.text.as_slice(), place);
+    let text = line_at(pane.text.as_slice(), place, count);
     let column = line_width(&text[..count]);
     shown_column(
         columns,

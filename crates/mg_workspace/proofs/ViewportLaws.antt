@@ -5,7 +5,7 @@ use Rattle.std.specs.Option.{option_map}
 use Rattle.std.proofs.lemmas.List.{length-map, length-set}
 use Rattle.std.proofs.lemmas.Option.{same_Some, get_or_from_slice_get, slice_get-get_or, slice_get-map, slice_get_within}
 use Rattle.std.proofs.lemmas.List.Edits.{length-remove, map_over_more}
-use Rattle.mg_screen.specs.Layout.{Window, window, Layout, layout, heights, all_shown, shows_at, shown_layout, split_at, remove_at, only_at, windows_of, shared, staying, resized_layout, of_height, rows_of}
+use Rattle.mg_screen.specs.Layout.{Window, window, Layout, layout, heights, all_shown, shows_at, shown_layout, split_at, remove_at, windows_of, shared, staying, resized_layout}
 use Rattle.mg_workspace.specs.Buffers.{Buffers, without_buffer}
 use Rattle.mg_workspace.specs.Names.{moved}
 use Rattle.mg_workspace.proofs.Moves.{moved_first, moved_within}

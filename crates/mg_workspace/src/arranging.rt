@@ -43,7 +43,7 @@ pub(crate) fn current_viewport(windows: &Windows<Viewport>) -> Viewport
 }
 
 /// The current window shows its buffer, which is this, with point's line in its middle. Out of
-/// memory if that is not listed, and nothing changes then.
+/// memory alone, and nothing changes then.
 fn recenter<S: TextStore>(
     windows: &mut Windows<Viewport>,
     opened: &VisitedBuffer<S>,
@@ -53,11 +53,11 @@ fn recenter<S: TextStore>(
     ensures same { OnErr result (windows.new ≡ windows.old) }
     ensures shown { (n : ℕ) → ShowThese n windows.old.windows → ShowThese n windows.new.windows }
 {
-    let line = opened.buffer.line()?;
+    let sight = opened.buffer.sight()?;
     let index = windows.current();
     let height = windows.heights()[index];
     let buffer = current_viewport(windows).buffer;
-    let first = centred_line(line, height);
+    let first = centred_line(sight.line, height);
     windows.show(index, Viewport { buffer, first });
     Ok(())
 }
@@ -102,7 +102,7 @@ impl<S: TextStore> Workspace<S> {
         ensures arranged { spec.Done (Arrange arrangement) self.old (self.new, result) }
         ensures kept { result ≡ Err Memory → self.new ≡ self.old }
     {
-        self.list()?;
+        self.list();
         let opened = self.buffers.current();
         let answer = change_windows(&mut self.windows, arrangement, opened);
         if let Err(ActionFault::Memory(_)) = answer {

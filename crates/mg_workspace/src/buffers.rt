@@ -6,7 +6,6 @@ ghost use Rattle.mg_workspace.specs.Buffers as spec;
 ghost use Rattle.mg_workspace.specs.Names as names;
 
 use mg_buffer::{Memo, VisitedBuffer};
-use rga_ops::OutOfMemory;
 use rga_store::TextStore;
 use std::alloc::{AllocError, Global};
 use std::marker::Model;
@@ -155,22 +154,21 @@ impl<S: TextStore> Buffers<S> {
         self.all.remove(index);
     }
 
-    /// Lists the buffer at an index. `Memory` alone.
-    pub fn list_at(&mut self, index: usize) -> Result<(), OutOfMemory>
+    /// Lists the buffer at an index, if there is memory.
+    pub fn list_at(&mut self, index: usize)
         requires { index < length self.old.all }
         ensures same { self.new ≡ self.old }
     {
-        self.all[index].buffer.list()
+        self.all[index].buffer.list();
     }
 
-    /// Lists all buffers. `Memory` alone.
-    pub fn list_all(&mut self) -> Result<(), OutOfMemory>
+    /// Lists all buffers, as far as there is memory.
+    pub fn list_all(&mut self)
         ensures same { self.new ≡ self.old }
     {
         for index in 0..self.all.as_slice().len() {
-            self.list_at(index)?;
+            self.list_at(index);
         }
-        Ok(())
     }
 
     /// Whether any buffer is changed. Takes no memory.

@@ -1,5 +1,5 @@
 //! What is read of the buffers and the windows, to be told.
-ghost use Rattle.std.specs.Prelude.{◌≡◌, ◌<◌, ℕ, Some, length, slice_get, IfErr};
+ghost use Rattle.std.specs.Prelude.{◌≡◌, ◌<◌, ℕ, Some, length, slice_get};
 ghost use Rattle.mg_screen.specs.Layout.{heights};
 ghost use Rattle.mg_workspace.specs.Viewports.{shown_buffers, ShowThese};
 
@@ -7,7 +7,6 @@ use crate::arranging::viewport_at;
 use crate::viewport::Viewport;
 use crate::workspace::Workspace;
 use mg_screen::Windows;
-use rga_ops::OutOfMemory;
 use rga_store::TextStore;
 
 /// The index of the buffer that the window at an index shows.
@@ -20,15 +19,6 @@ fn buffer_at(windows: &Windows<Viewport>, window: usize) -> usize
 }
 
 impl<S: TextStore> Workspace<S> {
-    /// Lists the buffer at an index: its text and the places of its point and mark are then at hand.
-    /// `Memory` alone.
-    pub fn list_at(&mut self, index: usize) -> Result<(), OutOfMemory>
-        requires { index < length self.old.buffers.all }
-        ensures same { self.new ≡ self.old }
-    {
-        self.buffers.list_at(index)
-    }
-
     /// The text rows of each window, from the top. Takes no memory.
     pub fn heights(&self) -> &[usize]
         ensures { result.now ≡ heights self.now.windows.windows }

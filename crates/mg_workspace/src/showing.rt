@@ -11,14 +11,14 @@ use crate::arranging::{height_at, viewport_at};
 use crate::buffers::Buffers;
 use crate::viewport::Viewport;
 use crate::workspace::Workspace;
-use mg_buffer::{Memo, VisitedBuffer};
+use mg_buffer::VisitedBuffer;
 use mg_screen::{Pane, Windows, first_line};
 use rga_ops::OutOfMemory;
 use rga_store::TextStore;
 use std::alloc::{AllocError, Global};
 
 /// What the window at an index shows once it is placed: its buffer, with the line of point. Out of
-/// memory if that buffer is not listed.
+/// memory alone.
 fn placed_viewport<S: TextStore>(
     windows: &Windows<Viewport>,
     index: usize,
@@ -32,10 +32,10 @@ fn placed_viewport<S: TextStore>(
 {
     let shown = viewport_at(windows, index);
     let height = height_at(windows, index);
-    let line = buffers.at(shown.buffer).buffer.line()?;
+    let sight = buffers.at(shown.buffer).buffer.sight()?;
     Ok(Viewport {
         buffer: shown.buffer,
-        first: first_line(line, shown.first, height),
+        first: first_line(sight.line, shown.first, height),
     })
 }
 
@@ -72,7 +72,6 @@ fn place_windows(windows: &mut Windows<Viewport>, placed: &[Viewport])
 fn pane<'a, S: TextStore>(
     alloc: Global,
     opened: &'a VisitedBuffer<S>,
-    memo: &'a Memo,
     shown: Viewport,
     height: usize,
 ) -> Result<Pane<'a>, OutOfMemory>
@@ -80,13 +79,12 @@ fn pane<'a, S: TextStore>(
     requires height_to { height ≤ most_rows }
     ensures { IfOk result (λ p. p ≡ spec.pane_over (Some opened.now) (window height shown)) }
 {
-    let view = opened.buffer.view(memo)?;
-    let line = opened.buffer.line()?;
+    let sight = opened.buffer.sight()?;
     let waiting = opened.buffer.store().waiting_count()?;
     Ok(Pane {
-        text: view.text,
-        point: view.point,
-        line,
+        text: sight.text,
+        point: sight.point,
+        line: sight.line,
         first: shown.first,
         height,
         name: String::from_str(alloc, opened.buffer.name())?,
@@ -101,7 +99,6 @@ fn placed_pane<'a, S: TextStore>(
     windows: &Windows<Viewport>,
     index: usize,
     buffers: &'a Buffers<S>,
-    memo: &'a Memo,
 ) -> Result<Pane<'a>, OutOfMemory>
     requires shown { ShowThese (length buffers.now.all) windows.now.windows }
     requires within { index < length windows.now.windows }
@@ -112,7 +109,7 @@ fn placed_pane<'a, S: TextStore>(
 {
     let placed = placed_viewport(windows, index, buffers)?;
     let height = height_at(windows, index);
-    pane(alloc, buffers.at(placed.buffer), memo, placed, height)
+    pane(alloc, buffers.at(placed.buffer), placed, height)
 }
 
 fn push_pane<'a>(panes: &mut Vec<Pane<'a>>, pane: Pane<'a>) -> Result<(), AllocError>
@@ -126,7 +123,6 @@ fn placed_panes<'a, S: TextStore>(
     alloc: Global,
     windows: &Windows<Viewport>,
     buffers: &'a Buffers<S>,
-    memo: &'a Memo,
 ) -> Result<Vec<Pane<'a>>, OutOfMemory>
     requires shown { ShowThese (length buffers.now.all) windows.now.windows }
     requires on_screen { (rows : ℕ) × FillsRows rows windows.now × (rows ≤ most_rows) }
@@ -136,7 +132,7 @@ fn placed_panes<'a, S: TextStore>(
 {
     let mut panes = Vec::new(alloc);
     for index in 0..windows.heights().len() {
-        let pane = placed_pane(alloc, windows, index, buffers, memo)?;
+        let pane = placed_pane(alloc, windows, index, buffers)?;
         push_pane(&mut panes, pane)?;
     }
     Ok(panes)
@@ -159,7 +155,7 @@ impl<S: TextStore> Workspace<S> {
     }
 
     /// What each window shows once it is placed, from the top: its buffer, with the line of point.
-    /// Out of memory, also if one of the buffers is not listed.
+    /// Out of memory alone.
     pub fn placed_viewports(&self, alloc: Global) -> Result<Vec<Viewport>, OutOfMemory>
         ensures { IfOk result
             (λ viewports. viewports.items ≡ all_shown (spec.placed_work self.now).windows.windows) }
@@ -175,12 +171,11 @@ impl<S: TextStore> Workspace<S> {
         place_windows(&mut self.windows, placed);
     }
 
-    /// The windows as they are shown once they are placed. Out of memory, also if one of the
-    /// buffers is not listed.
+    /// The windows as they are shown once they are placed. Out of memory alone.
     pub fn panes<'a>(&'a self, alloc: Global) -> Result<Vec<Pane<'a>>, OutOfMemory>
         requires on_screen { (rows : ℕ) × FillsRows rows self.now.windows × (rows ≤ most_rows) }
         ensures { IfOk result (λ ps. ps.items ≡ spec.work_panes (spec.placed_work self.now)) }
     {
-        placed_panes(alloc, &self.windows, &self.buffers, &self.memo)
+        placed_panes(alloc, &self.windows, &self.buffers)
     }
 }

@@ -180,20 +180,20 @@ impl<S: TextStore> Workspace<S> {
         self.windows.current()
     }
 
-    /// Lists the current buffer: its text and the places of point and mark are then at hand.
-    /// `Memory` alone.
-    pub fn list(&mut self) -> Result<(), OutOfMemory>
+    /// Lists the current buffer, if there is memory: its text and the places of point and mark are
+    /// then at hand.
+    pub fn list(&mut self)
         ensures same { self.new ≡ self.old }
     {
         let index = self.buffers.current_index();
-        self.buffers.list_at(index)
+        self.buffers.list_at(index);
     }
 
-    /// Lists all buffers. `Memory` alone.
-    pub fn list_all(&mut self) -> Result<(), OutOfMemory>
+    /// Lists all buffers, as far as there is memory.
+    pub fn list_all(&mut self)
         ensures same { self.new ≡ self.old }
     {
-        self.buffers.list_all()
+        self.buffers.list_all();
     }
 
     /// The columns of the screen.
@@ -219,16 +219,15 @@ impl<S: TextStore> Workspace<S> {
         self.limit
     }
 
-    /// What a step is decided from. Out of memory if the current buffer is not listed. Takes
-    /// no memory.
+    /// What a step is decided from. Takes no memory if the current buffer is listed. Out of memory
+    /// alone.
     pub fn scene<'a>(&'a self) -> Result<Scene<'a>, OutOfMemory>
         ensures { IfOk result (λ scene. scene ≡ spec.scene_of self.now) }
     {
-        let current = self.buffers.current();
-        let view = current.buffer.view(&self.memo)?;
+        let sight = self.buffers.current().buffer.sight()?;
         Ok(Scene {
-            text: view.text,
-            point: view.point,
+            text: sight.text,
+            point: sight.point,
             rows: self.windows.heights()[self.windows.current()],
             changed: self.buffers.are_changed(),
         })

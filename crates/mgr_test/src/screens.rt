@@ -7,6 +7,7 @@ use mg_buffer::line_of;
 use mg_screen::{Pane, Position, Screen, cursor};
 use rga_ops::OutOfMemory;
 use std::alloc::{AllocError, Global};
+use std::borrow::CowSlice;
 
 /// A window of two text rows.
 fn pane_over<'a>(
@@ -19,7 +20,7 @@ fn pane_over<'a>(
     ensures { IfOk result (λ p. p.height ≡ 2) }
 {
     Ok(Pane {
-        text,
+        text: CowSlice::Borrowed(text),
         point,
         line: line_of(text, point),
         first,

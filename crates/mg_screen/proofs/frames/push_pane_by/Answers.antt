@@ -17,7 +17,8 @@ pub returns : goal.returns
 returns c =
     let row : c.pane.inside.line - c.pane.inside.first ≡ point_row c.args.pane.now =
     ap (λ k. k - c.pane.inside.first) c.pane.invariant.3 ∙ ap (λ (q : Pane). point_row q) c.pane.view_is in
-    let line = c.line_at-line.ensures.exact ∙ ap (λ (q : Pane). place_line q.text q.point) c.pane.view_is in
+    let seen = ap (λ xs. place_line xs c.pane.inside.point) c.as_slice-text.ensures.value in
+    let line = c.line_at-line.ensures.exact ∙ seen ∙ ap (λ (q : Pane). place_line q.text q.point) c.pane.view_is in
     subst (λ b. AddsRows (pane_rows_by b c.args.columns c.args.pane.now) c.args.rows.now.items c.put_row.new.rows.items) (sym c.if-not-at_point.false)
     (rows_moved c.args.rows.now.items c.push_pane.new.rows.items c.put_row.new.rows.items c.args.columns _ _ _ c.args.pane.now (string_bytes c.in_ok-row.row) _
     c.in-Some.ensures.exact c.in_ok-push_pane.ensures (ap length c.as_slice-above.ensures.value) (ap (λ k. length c.as_slice-above.result.now + k) row) line

@@ -21,7 +21,7 @@ returns-clause-exact g c =
     let w : Window Viewport = window height shown in
     let there = window_there c.args.windows.now.windows c.args.index height shown c.height_at-height.ensures c.viewport_at-shown.ensures in
     let b = c.behind-buffers.inside.buffer in
-    let first = c.first_line.ensures (text b.content) (place_of b.content b.point) c.in_ok-line.ensures
+    let first = c.first_line.ensures (text b.content) (place_of b.content b.point) c.in_ok-sight.ensures.line
     ∙ ap (λ (o : OpenState). first_line (text o.buffer.content) (place_of o.buffer.content o.buffer.point) shown.first height) c.behind-buffers.view_is
     ∙ ap (λ o. first_over o w) (sym c.at.ensures) in
     viewport_placed c.args.buffers.now.all c.args.windows.now.windows c.args.index w there ∙ ap (λ n. Some (viewport shown.buffer n)) (sym first)
