@@ -1,5 +1,5 @@
 //! Theorems about mended logs. Each function does nothing: its contract is the theorem.
-ghost use Rattle.std.specs.Prelude.{◌≡◌, ◌↔◌, ◌⊎◌, ℕ, List, [], true, Option, Some, Contains};
+ghost use Rattle.std.specs.Prelude.{◌≡◌, ◌↔◌, ◌⊎◌, ℕ, List, [], Option, Some, Contains};
 ghost use Rattle.rga_ops.specs.Content.{IsAgreed, HasSameOperations, content_of};
 ghost use Rattle.rga_ops.specs.declared.op.Op.{Op};
 ghost use Rattle.rga_lines.specs.Log.{log_operations, HasOnlyOperations};
@@ -64,7 +64,7 @@ pub fn each_line_stays_or_is_left_out()
 /// its name, or behind those that it gave up, the old log stands under the name or the mended one.
 pub fn a_note_is_the_old_or_the_mended_one_whenever_the_machine_stops()
     ensures { (bytes : List ℕ) (found : Option (List ℕ)) (p : Place) (made : List DiskStep)
-        → IsUntouched p → MayBeMade true (mended bytes) made
+        → IsUntouched p → MayBeMade (mended bytes) made
         → MayBeFound (Some bytes) (behind_steps p made) found
         → (found ≡ Some bytes) ⊎ (found ≡ Some (mended bytes)) }
 {}

@@ -1,7 +1,6 @@
 -- What stands under a name behind each beginning of the steps that give it a file.
-use Rattle.std.proofs.Common.{◌≡◌, ◌⊎◌, inl, inr, ℕ, List, [], ◌∷◌, ◌++◌, Bool, true, false, Option, Some, None, Result, OnErr, refl, sym, ap, ◌∙◌, subst, append_assoc}
-use Rattle.std.proofs.lemmas.Result.{on_err_weaker}
-use Rattle.mgr_port.specs.Disk.{DiskStep, Empties, Writes, Syncs, Removes, BeginsSteps, AreGivenUp, Place, behind_step, behind_steps, MayBeFound, IsUntouched, keeping_steps, unnamed_steps, whole_steps, TellsSteps, TellsWrittenFront, StopsBefore}
+use Rattle.std.proofs.Common.{◌≡◌, ◌⊎◌, inl, inr, ℕ, List, [], ◌∷◌, ◌++◌, Bool, true, false, Option, Some, refl, sym, ap, ◌∙◌, subst}
+use Rattle.mgr_port.specs.Disk.{DiskStep, Writes, Removes, BeginsSteps, AreGivenUp, Place, behind_step, behind_steps, MayBeFound, IsUntouched, unnamed_steps, whole_steps}
 
 -- It holds of a place, of it behind a part of the first step where that is a write, and so on behind that step.
 abbrev Always : (Place → Type 0) → Place → List DiskStep → Type 0
@@ -38,12 +37,11 @@ module _ (old found : Option (List ℕ)) (bytes : List ℕ) where
   late (inl is) = inl is
   late (inr beside) = inr (beside refl)
 
-  stand : (keeps : Bool) (beside : List ℕ) (synced : Bool) → Always IsOneOf (untouched beside synced) (whole_steps keeps bytes)
-  stand false beside synced = (inl, λ _ _ _. inl, (inl, λ _ _ _. inl, (inl, λ _ _ _. inl, (inl, λ _ _ _. inl, (late, λ part more same. absurd cc, λ may. inr (may refl))))))
-  stand true beside synced = (inl, λ _ _ _. inl, (inl, λ _ _ _. inl, (inl, λ _ _ _. inl, (inl, λ _ _ _. inl, (inl, λ _ _ _. inl, (late, λ part more same. absurd cc, λ may. inr (may refl)))))))
+  stand : (beside : List ℕ) (synced : Bool) → Always IsOneOf (untouched beside synced) (whole_steps bytes)
+  stand beside synced = (inl, λ _ _ _. inl, (inl, λ _ _ _. inl, (inl, λ _ _ _. inl, (inl, λ _ _ _. inl, (inl, λ _ _ _. inl, (late, λ part more same. absurd cc, λ may. inr (may refl)))))))
 
-  pub one_of_them : (p : Place) (keeps : Bool) (made : List DiskStep) → IsUntouched p → BeginsSteps made (whole_steps keeps bytes) → IsOneOf (behind_steps p made)
-  one_of_them p keeps made u begins = from_untouched IsOneOf p (whole_steps keeps bytes) made u (stand keeps) begins
+  pub one_of_them : (p : Place) (made : List DiskStep) → IsUntouched p → BeginsSteps made (whole_steps bytes) → IsOneOf (behind_steps p made)
+  one_of_them p made u begins = from_untouched IsOneOf p (whole_steps bytes) made u stand begins
 
 -- ---- a file beside that was given up
 
@@ -55,13 +53,12 @@ module _ (old found : Option (List ℕ)) where
   abbrev IsOld : Place → Type 0
   IsOld p = MayBeFound old (behind_step p Removes) found → found ≡ old
 
-  stay : (keeps : Bool) (bytes beside : List ℕ) (synced : Bool) → Always IsOld (untouched beside synced) (unnamed_steps keeps bytes)
-  stay false bytes beside synced = (λ m. m, λ _ _ _ m. m, (λ m. m, λ _ _ _ m. m, (λ m. m, λ _ _ _ m. m, λ m. m)))
-  stay true bytes beside synced = (λ m. m, λ _ _ _ m. m, (λ m. m, λ _ _ _ m. m, (λ m. m, λ _ _ _ m. m, (λ m. m, λ _ _ _ m. m, λ m. m))))
+  stay : (bytes beside : List ℕ) (synced : Bool) → Always IsOld (untouched beside synced) (unnamed_steps bytes)
+  stay bytes beside synced = (λ m. m, λ _ _ _ m. m, (λ m. m, λ _ _ _ m. m, (λ m. m, λ _ _ _ m. m, (λ m. m, λ _ _ _ m. m, λ m. m))))
 
-  pub old_stands : (p : Place) (keeps : Bool) (bytes : List ℕ) (made : List DiskStep) → IsUntouched p → AreGivenUp keeps bytes made → MayBeFound old (behind_steps p made) found → found ≡ old
-  old_stands p keeps bytes made u given may =
-      from_untouched IsOld p (unnamed_steps keeps bytes) given.begun u (stay keeps bytes) given.begins
+  pub old_stands : (p : Place) (bytes : List ℕ) (made : List DiskStep) → IsUntouched p → AreGivenUp bytes made → MayBeFound old (behind_steps p made) found → found ≡ old
+  old_stands p bytes made u given may =
+      from_untouched IsOld p (unnamed_steps bytes) given.begun u (stay bytes) given.begins
       (subst (λ (q : Place). MayBeFound old q found) (ap (behind_steps p) given.is ∙ then_removed p given.begun) may)
 
 -- ---- what stood there
@@ -70,52 +67,6 @@ module _ (old found : Option (List ℕ)) where
 abbrev IsKept : Place → Type 0
 IsKept p = p.is_named ≡ true → p.is_kept ≡ true
 
-pub kept_before : (p : Place) (bytes : List ℕ) (made : List DiskStep) → IsUntouched p → BeginsSteps made (whole_steps true bytes) → IsKept (behind_steps p made)
-kept_before p bytes made u begins = from_untouched IsKept p (whole_steps true bytes) made u
+pub kept_before : (p : Place) (bytes : List ℕ) (made : List DiskStep) → IsUntouched p → BeginsSteps made (whole_steps bytes) → IsKept (behind_steps p made)
+kept_before p bytes made u begins = from_untouched IsKept p (whole_steps bytes) made u
     (λ beside synced. (λ e. e, λ _ _ _ e. e, (λ e. e, λ _ _ _ e. e, (λ e. e, λ _ _ _ e. e, (λ e. e, λ _ _ _ e. e, (λ _. refl, λ _ _ _ _. refl, (λ _. refl, λ _ _ _ _. refl, λ _. refl))))))) begins
-
--- ---- the steps that were told
-
-tells_more : (a b c : Option (List DiskStep)) (xs ys : List DiskStep) → TellsSteps a b xs → TellsSteps b c ys → TellsSteps a c (xs ++ ys)
-tells_more None b c xs ys one two = tt
-tells_more (Some steps) b c xs ys one two =
-    subst (λ o. TellsSteps o c ys) one two ∙ ap (λ (l : List DiskStep). Some l) (append_assoc steps xs ys)
-
-begins_none : (wanted : List DiskStep) → BeginsSteps [] wanted
-begins_none [] = refl
-begins_none (step ∷ later) = inl refl
-
--- the step that comes next failed
-pub stops_here : (a b : Option (List DiskStep)) (wanted : List DiskStep) → TellsSteps a b [] → StopsBefore a b wanted
-stops_here a b wanted none = record { made = []; begins = begins_none wanted; tells = none }
-
--- of its bytes none were written, or a beginning
-pub stops_in_write : (a b : Option (List DiskStep)) (bytes : List ℕ) (later : List DiskStep) → TellsSteps a b [] ⊎ TellsWrittenFront a b bytes → StopsBefore a b (Writes bytes ∷ later)
-stops_in_write a b bytes later (inl none) = stops_here a b (Writes bytes ∷ later) none
-stops_in_write a b bytes later (inr w) = record {
-  made = Writes w.front ∷ [];
-  begins = inr (inl (w.front, w.rest, ap (λ (l : List ℕ). Writes l) w.parts, refl));
-  tells = w.tells;
-}
-
--- it was done, and a later one failed
-pub stops_behind : (a b c : Option (List DiskStep)) (step : DiskStep) (later : List DiskStep) → TellsSteps a b (step ∷ []) → StopsBefore b c later → StopsBefore a c (step ∷ later)
-stops_behind a b c step later one s = record {
-  made = step ∷ s.made;
-  begins = inr (inr (s.made, refl, s.begins));
-  tells = tells_more a b c (step ∷ []) s.made one s.tells;
-}
-
--- ---- a whole file, as far as it came
-
--- of its bytes not all were written
-pub stops_unwritten : (a b c : Option (List DiskStep)) (keeps : Bool) (bytes : List ℕ) → TellsSteps a b (Empties ∷ []) → TellsSteps b c [] ⊎ TellsWrittenFront b c bytes → StopsBefore a c (unnamed_steps keeps bytes)
-stops_unwritten a b c keeps bytes emptied begun =
-    let later = Syncs ∷ keeping_steps keeps in stops_behind a b c Empties (Writes bytes ∷ later) emptied (stops_in_write b c bytes later begun)
-
--- all of them were
-pub stops_unnamed : {A E : Type 0} (answer : Result A E) (a b c d : Option (List DiskStep)) (keeps : Bool) (bytes : List ℕ) → TellsSteps a b (Empties ∷ []) → TellsSteps b c (Writes bytes ∷ [])
-    → OnErr answer (StopsBefore c d (Syncs ∷ keeping_steps keeps)) → OnErr answer (StopsBefore a d (unnamed_steps keeps bytes))
-stops_unnamed answer a b c d keeps bytes emptied written =
-    let later = Syncs ∷ keeping_steps keeps in
-    on_err_weaker answer (λ s. stops_behind a b d Empties (Writes bytes ∷ later) emptied (stops_behind b c d (Writes bytes) later written s))

@@ -1,4 +1,8 @@
 pub mod DiskLaws
-pub mod RaisedLaws
+pub mod FolderLaws
 pub mod LogsLaws
+pub mod NotesLaws
+pub mod RaisedLaws
+pub mod RewritingLaws
+pub mod StagingLaws
 pub mod WorldLaws

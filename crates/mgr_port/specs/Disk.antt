@@ -1,7 +1,7 @@
 -- The steps by which a file gets new bytes, and what stands under its name if the machine stops behind one of them.
-use Rattle.std.specs.Prelude.{◌≡◌, ◌⊎◌, ℕ, List, [], ◌∷◌, ◌++◌, Bool, true, false, Option, Some, IfSome, Result, Ok, Err}
-use Rattle.mgr_port.specs.declared.disk.Named.{Named}
-use Rattle.mgr_port.specs.declared.disk.Named.TheVariants.{Settled, Unsettled}
+use Rattle.std.specs.Prelude.{◌≡◌, ◌⊎◌, ℕ, List, [], ◌∷◌, ◌++◌, Bool, true, false, Option, Some}
+use Rattle.mgr_port.specs.declared.staged.Named.{Named}
+use Rattle.mgr_port.specs.declared.staged.Named.TheVariants.{Settled, Unsettled}
 
 -- The file beside is emptied; gets these bytes at its end; is brought to the device; what stands under the name is kept
 -- beside it; the file beside gets the name; the names of the folder are brought to the device; and a file beside that got
@@ -15,58 +15,27 @@ pub data DiskStep : Type 0 where
   SyncsFolder : DiskStep
   Removes : DiskStep
 
--- a disk that tells its steps tells these more
-abbrev pub TellsSteps : Option (List DiskStep) → Option (List DiskStep) → List DiskStep → Type 0
-TellsSteps old new more = IfSome old (λ steps. new ≡ Some (steps ++ more))
-
--- a step was done, or failed and was not done
-abbrev pub Does : {A E : Type 0} → Result A E → DiskStep → Option (List DiskStep) → Option (List DiskStep) → Type 0
-Does (Ok a) step old new = TellsSteps old new (step ∷ [])
-Does (Err e) step old new = TellsSteps old new []
-
--- a beginning of bytes was written
-pub record TellsWrittenFront (old new : Option (List DiskStep)) (bytes : List ℕ) : Type 0 where
-  pub front : List ℕ
-  pub rest : List ℕ
-  pub parts : bytes ≡ front ++ rest
-  pub tells : TellsSteps old new (Writes front ∷ [])
-
--- all bytes were written; or else none, or a beginning of them
-abbrev pub DoesWrite : {A E : Type 0} → Result A E → List ℕ → Option (List DiskStep) → Option (List DiskStep) → Type 0
-DoesWrite (Ok a) bytes old new = TellsSteps old new (Writes bytes ∷ [])
-DoesWrite (Err e) bytes old new = TellsSteps old new [] ⊎ TellsWrittenFront old new bytes
-
 -- ---- a whole file
 
 -- before it gets the name, all of its bytes are on the device, and what stands there is kept where it is to be
-abbrev pub keeping_steps : Bool → List DiskStep
-keeping_steps true = Keeps ∷ []
-keeping_steps false = []
-
-abbrev pub unnamed_steps : Bool → List ℕ → List DiskStep
-unnamed_steps keeps bytes = Empties ∷ Writes bytes ∷ Syncs ∷ keeping_steps keeps
+abbrev pub unnamed_steps : List ℕ → List DiskStep
+unnamed_steps bytes = Empties ∷ Writes bytes ∷ Syncs ∷ Keeps ∷ []
 
 -- then it has it
-abbrev pub naming_steps : Bool → List DiskStep
-naming_steps keeps = keeping_steps keeps ++ TakesName ∷ []
-
-abbrev pub synced_steps : Bool → List DiskStep
-synced_steps keeps = Syncs ∷ naming_steps keeps
-
-abbrev pub named_steps : Bool → List ℕ → List DiskStep
-named_steps keeps bytes = Empties ∷ Writes bytes ∷ synced_steps keeps
+abbrev pub named_steps : List ℕ → List DiskStep
+named_steps bytes = Empties ∷ Writes bytes ∷ Syncs ∷ Keeps ∷ TakesName ∷ []
 
 -- and then the name is on the device
-abbrev pub whole_steps : Bool → List ℕ → List DiskStep
-whole_steps keeps bytes = named_steps keeps bytes ++ SyncsFolder ∷ []
+abbrev pub whole_steps : List ℕ → List DiskStep
+whole_steps bytes = Empties ∷ Writes bytes ∷ Syncs ∷ Keeps ∷ TakesName ∷ SyncsFolder ∷ []
 
 -- the steps behind the last write, and all of them
-abbrev pub last_steps : Named → Bool → List DiskStep
-last_steps Settled keeps = synced_steps keeps ++ SyncsFolder ∷ []
-last_steps (Unsettled error) keeps = synced_steps keeps
+abbrev pub last_steps : Named → List DiskStep
+last_steps Settled = Syncs ∷ Keeps ∷ TakesName ∷ SyncsFolder ∷ []
+last_steps (Unsettled error) = Syncs ∷ Keeps ∷ TakesName ∷ []
 
-abbrev pub steps_to : Named → Bool → List ℕ → List DiskStep
-steps_to named keeps bytes = Empties ∷ Writes bytes ∷ last_steps named keeps
+abbrev pub steps_to : Named → List ℕ → List DiskStep
+steps_to named bytes = Empties ∷ Writes bytes ∷ last_steps named
 
 -- a write was done in part
 abbrev pub WritesPart : DiskStep → List DiskStep → Type 0
@@ -77,21 +46,15 @@ abbrev pub BeginsSteps : List DiskStep → List DiskStep → Type 0
 BeginsSteps made [] = made ≡ []
 BeginsSteps made (step ∷ later) = (made ≡ []) ⊎ WritesPart step made ⊎ ((others : List DiskStep) × (made ≡ step ∷ others) × BeginsSteps others later)
 
--- so far it went, of steps that all come before the file beside has the name
-pub record StopsBefore (old new : Option (List DiskStep)) (wanted : List DiskStep) : Type 0 where
-  pub made : List DiskStep
-  pub begins : BeginsSteps made wanted
-  pub tells : TellsSteps old new made
-
 -- some of the steps before it gets the name were made, and then it was removed
-pub record AreGivenUp (keeps : Bool) (bytes : List ℕ) (made : List DiskStep) : Type 0 where
+pub record AreGivenUp (bytes : List ℕ) (made : List DiskStep) : Type 0 where
   pub begun : List DiskStep
-  pub begins : BeginsSteps begun (unnamed_steps keeps bytes)
+  pub begins : BeginsSteps begun (unnamed_steps bytes)
   pub is : made ≡ begun ++ Removes ∷ []
 
 -- what was made when the machine stops: a beginning of all steps, or what was given up
-abbrev pub MayBeMade : Bool → List ℕ → List DiskStep → Type 0
-MayBeMade keeps bytes made = BeginsSteps made (whole_steps keeps bytes) ⊎ AreGivenUp keeps bytes made
+abbrev pub MayBeMade : List ℕ → List DiskStep → Type 0
+MayBeMade bytes made = BeginsSteps made (whole_steps bytes) ⊎ AreGivenUp bytes made
 
 -- ---- a machine that stops
 

@@ -1,16 +1,18 @@
 -- What is asked of a folder, and what it answers.
-use Rattle.std.specs.Prelude.{◌≡◌, ℕ, List, ◌∷◌, Bool, Option, Result, Ok, Err}
+use Rattle.std.specs.Prelude.{◌≡◌, ◌⊎◌, ℕ, List, [], ◌∷◌, ◌++◌, Bool, Option, Result, Ok, Err}
 use Rattle.std.specs.Option.{option_map}
 use Rattle.mgr_port.specs.declared.folder.Lock.{Lock}
 use Rattle.mgr_port.specs.declared.folder.Opening.{Opening}
 use Rattle.mgr_port.specs.declared.log.End.{End}
 use Rattle.mgr_port.specs.declared.spare.Look.{Look}
+use Rattle.mgr_port.specs.declared.spare.Owner.{Owner}
 
 -- A look at what stands under a path itself, and at what it leads to; at an open file. The file of a path is opened, and an
--- open file was tried to be locked. An open file ends so at a length, and whether in a newline; it gets lines at its end, and
--- is brought to the device. The bytes of a file are read. A file gets another name, which nothing had. These bytes get a
--- name, which nothing had, and are on the device under it. A path goes. The file of a path takes another name. A file is
--- written over.
+-- open file was tried to be locked. An open file ends so at a length, and whether in a newline; it gets bytes at its end, is
+-- emptied, gets a mode, an owner and group, and a date, so much later than that of another file, and is brought to the
+-- device. The names of a path's folder are. What was not read of an open file is, and the bytes of the file of a path. A
+-- file gets another name, which nothing had. These bytes get a name, which nothing had, and are on the device under it. A
+-- path goes. The file of a path takes another name. A file is written over.
 pub data FolderStep : Type 0 where
   Looks : List ℕ → Option Look → FolderStep
   Follows : List ℕ → Option Look → FolderStep
@@ -20,7 +22,13 @@ pub data FolderStep : Type 0 where
   Ends : ℕ → Option End → FolderStep
   EndsInNewline : ℕ → Bool → FolderStep
   Adds : List ℕ → FolderStep
+  Empties : FolderStep
+  SetsMode : ℕ → FolderStep
+  GivesTo : Owner → FolderStep
+  Dates : ℕ → FolderStep
   Syncs : FolderStep
+  SyncsFolder : List ℕ → FolderStep
+  ReadsAll : List ℕ → FolderStep
   Reads : List ℕ → List ℕ → FolderStep
   Links : List ℕ → List ℕ → FolderStep
   Makes : List ℕ → List ℕ → FolderStep
@@ -40,3 +48,28 @@ after step = option_map (λ steps. step ∷ steps)
 abbrev pub Steps : {A E : Type 0} → Result A E → (A → FolderStep) → History → History → Type 0
 Steps (Ok a) step old new = new ≡ after (step a) old
 Steps (Err e) step old new = new ≡ old
+
+-- all bytes were written; or else none, or a beginning of them
+abbrev pub Writes : {A E : Type 0} → Result A E → List ℕ → History → History → Type 0
+Writes (Ok a) bytes old new = new ≡ after (Adds bytes) old
+Writes (Err e) bytes old new = (new ≡ old) ⊎ ((front : List ℕ) × (rest : List ℕ) × (bytes ≡ front ++ rest) × (new ≡ after (Adds front) old))
+
+-- ---- steps that change no name and no bytes
+
+abbrev pub IsIdleStep : FolderStep → Type 0
+IsIdleStep (Looks path found) = Unit {0}
+IsIdleStep (Follows path found) = Unit {0}
+IsIdleStep (LooksAt look) = Unit {0}
+IsIdleStep (Dates later) = Unit {0}
+IsIdleStep (Reads path bytes) = Unit {0}
+IsIdleStep other = ⊥
+
+abbrev pub AreIdle : List FolderStep → Type 0
+AreIdle [] = Unit {0}
+AreIdle (step ∷ steps) = IsIdleStep step × AreIdle steps
+
+-- there were only such steps
+pub record IsIdle (old now : History) : Type 0 where
+  pub seen : List FolderStep
+  pub idle : AreIdle seen
+  pub is : now ≡ option_map (λ steps. seen ++ steps) old

@@ -3,6 +3,10 @@ pub mod Folder
 pub mod Growth
 pub mod Locks
 pub mod Logs
+pub mod Notes
+pub mod Rewriting
 pub mod Spares
+pub mod Staging
+pub mod Texts
 pub mod Verdicts
 pub mod Worlds

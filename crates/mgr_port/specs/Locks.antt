@@ -16,6 +16,17 @@ StandsFor path old now =
     (found : Look) × (opened : Look) × (followed : History)
     × (followed ≡ after (Follows path (Some found)) old) × (now ≡ after (LooksAt opened) followed) × AreOfOneFile found.stamp opened.stamp
 
+-- it stands for nothing, or for another file
+abbrev pub StandsForAnother : List ℕ → History → History → Type 0
+StandsForAnother path old now =
+    (now ≡ after (Follows path None) old) ⊎ ((found : Look) × (opened : Look) × (followed : History)
+    × (followed ≡ after (Follows path (Some found)) old) × (now ≡ after (LooksAt opened) followed) × (AreOfOneFile found.stamp opened.stamp → ⊥))
+
+-- whether it does
+abbrev pub ShowsStanding : List ℕ → History → History → Bool → Type 0
+ShowsStanding path old now true = StandsFor path old now
+ShowsStanding path old now false = StandsForAnother path old now
+
 -- the same, of a file that is so long
 abbrev pub StandsAsRead : List ℕ → ℕ → History → History → Type 0
 StandsAsRead path length old now =
@@ -49,15 +60,15 @@ unfoldable pub HoldsEmpty : List ℕ → History → History → Type 0
 HoldsEmpty path old now = (look : Look) × (held : History) × Holds path old held × (now ≡ after (LooksAt look) held) × (look.stamp.length ≡ 0)
 
 -- What stood there was a plain file or nothing, or is gone: so nothing is written through a link.
-abbrev pub OpensBeside : List ℕ → History → Type 0
-OpensBeside path now =
-    (found : Option Look) × (old : History) × (looked : History) × (cleared : History)
+abbrev pub OpensBeside : List ℕ → History → History → Type 0
+OpensBeside path old now =
+    (found : Option Look) × (looked : History) × (cleared : History)
     × (looked ≡ after (Looks path found) old) × (((IsNoFile found → ⊥) × (cleared ≡ looked)) ⊎ (cleared ≡ after (Removes path) looked))
     × (now ≡ after (Opens path opening.Beside) cleared)
 
 -- such a file was opened, and is held, and empty
 abbrev pub IsHeldEmpty : List ℕ → History → Type 0
-IsHeldEmpty path now = (opened : History) × OpensBeside path opened × HoldsEmpty path opened now
+IsHeldEmpty path now = (old : History) × (opened : History) × OpensBeside path old opened × HoldsEmpty path opened now
 
 -- What stood there has made way, and a new file is there.
 abbrev pub MakesBeside : List ℕ → ℕ → History → History → Type 0
@@ -66,6 +77,10 @@ MakesBeside path mode old now = (cleared : History) × MakesWay path old cleared
 -- The next log is held, and empty, and after that no log is there.
 abbrev pub HoldsInItsPlace : List ℕ → List ℕ → History → History → Type 0
 HoldsInItsPlace path log old now = (held : History) × HoldsEmpty path old held × (now ≡ after (Follows log None) held)
+
+-- the same, whatever came before
+abbrev pub HoldsNext : List ℕ → List ℕ → History → Type 0
+HoldsNext path log now = (old : History) × HoldsInItsPlace path log old now
 
 -- the path stands for the file that was open, or for one that was opened, and is held, and empty
 abbrev pub IsTaken : List ℕ → History → History → Type 0

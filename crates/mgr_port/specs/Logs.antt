@@ -1,5 +1,5 @@
 -- What is told of logs that are written anew.
-use Rattle.std.specs.Prelude.{◌≡◌, ◌≢◌, ◌⊎◌, ℕ, zero, suc, List, [], ◌∷◌, ◌++◌, Bool, true, Option, Some, Result, Ok, Err}
+use Rattle.std.specs.Prelude.{◌≡◌, ◌≢◌, ◌⊎◌, ℕ, zero, suc, List, [], ◌∷◌, ◌++◌, Option, Some, Result, Ok, Err}
 use Rattle.std.specs.Io.KnownBytes.{Appends}
 use Rattle.rga_exchange.specs.Counting.{one_more}
 use Rattle.mg_files.specs.declared.port.PortFault.{PortFault}
@@ -23,12 +23,12 @@ abbrev pub StaysSame : Standing → Option Standing → Type 0
 StaysSame s found = (found ≡ Some s) ⊎ (found ≡ Some (left s))
 
 -- the file beside has the name, after these steps
-abbrev pub renamed : (Bool → List ℕ → List DiskStep) → List ℕ → Standing
-renamed steps bytes = record { log = bytes; steps = steps true bytes }
+abbrev pub renamed : (List ℕ → List DiskStep) → List ℕ → Standing
+renamed steps bytes = record { log = bytes; steps = steps bytes }
 
 -- the old log has the name
 abbrev pub GivesUp : List ℕ → Standing → Option Standing → Type 0
-GivesUp bytes s found = (made : List DiskStep) × AreGivenUp true bytes made × (found ≡ Some (record s { steps = made }))
+GivesUp bytes s found = (made : List DiskStep) × AreGivenUp bytes made × (found ≡ Some (record s { steps = made }))
 
 -- after an error the old log has the name, or the new one, and only the last step is missing
 abbrev pub StopsEarly : List ℕ → Standing → Option Standing → Type 0

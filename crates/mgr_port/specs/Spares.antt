@@ -1,6 +1,6 @@
 -- Why nothing is lost of what stands under a path if that goes.
 use Rattle.std.specs.Prelude.{◌≡◌, ◌⊎◌, ◌<◌, ℕ, List, ◌++◌, ◌∷◌, [], false, Option, Some, None}
-use Rattle.mgr_port.specs.Folder.{History, Looks, Follows, LooksAt, Reads, Links, Makes, Removes, Renames, after}
+use Rattle.mgr_port.specs.Folder.{History, IsIdle, Looks, Follows, LooksAt, Reads, Links, Makes, Removes, Renames, after}
 use Rattle.mgr_port.specs.Verdicts.{AreOfOneFile}
 use Rattle.mgr_port.specs.declared.spare.Look.{Look}
 use Rattle.mgr_port.specs.declared.spare.Reason.{Reason}
@@ -53,35 +53,47 @@ IsOneOfMore stamp (Some look) = (1 < look.names) × AreOfOneFile look.stamp stam
 abbrev pub EndsInTilde : List ℕ → Type 0
 EndsInTilde name = (front : List ℕ) × (name ≡ front ++ 126 ∷ [])
 
--- What stood there has another name, which ends in `~`; or its bytes were read, and stand under such a name.
-abbrev pub IsKept : Reason → List ℕ → History → Type 0
-IsKept reason.Linked path now = (name : List ℕ) × (old : History) × EndsInTilde name × (now ≡ after (Links path name) old)
-IsKept reason.Copied path now =
-    (name : List ℕ) × (bytes : List ℕ) × (old : History) × (read : History) × EndsInTilde name × (read ≡ after (Reads path bytes) old) × (now ≡ after (Makes name bytes) read)
-IsKept other path now = ⊥
+-- What stood there has got another name, which ends in `~`; or its bytes were read, and stand under such a name.
+abbrev pub IsKept : Reason → List ℕ → History → History → Type 0
+IsKept reason.Linked path old now =
+    (name : List ℕ) × (seen : History) × EndsInTilde name × IsIdle old seen × (now ≡ after (Links path name) seen)
+IsKept reason.Copied path old now =
+    (name : List ℕ) × (bytes : List ℕ) × (seen : History) × (read : History)
+    × EndsInTilde name × IsIdle old seen × (read ≡ after (Reads path bytes) seen) × (now ≡ after (Makes name bytes) read)
+IsKept other path old now = ⊥
 
 -- Nothing stood there; or it was as this port had left it; or it had these bytes.
-abbrev pub IsShown : Reason → List ℕ → Option Stamp → List ℕ → History → Type 0
-IsShown reason.Nothing path own bytes now = (old : History) × (now ≡ after (Follows path None) old)
-IsShown reason.Known path own bytes now = (look : Look) × (old : History) × (own ≡ Some look.stamp) × (now ≡ after (Follows path (Some look)) old)
-IsShown reason.Same path own bytes now = (old : History) × (now ≡ after (Reads path bytes) old)
-IsShown other path own bytes now = ⊥
+abbrev pub IsShown : Reason → List ℕ → Option Stamp → List ℕ → History → History → Type 0
+IsShown reason.Nothing path own bytes old now = now ≡ after (Follows path None) old
+IsShown reason.Known path own bytes old now = (look : Look) × (own ≡ Some look.stamp) × (now ≡ after (Follows path (Some look)) old)
+IsShown reason.Same path own bytes old now =
+    (look : Look) × (followed : History) × (followed ≡ after (Follows path (Some look)) old) × (now ≡ after (Reads path bytes) followed)
+IsShown other path own bytes old now = ⊥
+
+-- nothing is lost of a path if these bytes take its place; or something is, and nothing changed
+abbrev pub IsSpareFor : List ℕ → Option Stamp → List ℕ → History → History → Option Spare → Type 0
+IsSpareFor path own bytes old now None = IsIdle old now
+IsSpareFor path own bytes old now (Some spare) = (path_of spare ≡ path) × IsShown spare.reason path own bytes old now
+
+-- nothing of it is lost if these bytes take its place, or it is kept
+abbrev pub SparesText : List ℕ → Option Stamp → List ℕ → History → History → Type 0
+SparesText path own bytes old now = (why : Reason) × (IsShown why path own bytes old now ⊎ IsKept why path old now)
 
 -- ---- what becomes of a path
 
 -- nothing with bytes stood there, or that is kept
-unfoldable pub IsSpare : List ℕ → History → Type 0
-IsSpare path now =
-    ((found : Option Look) × (old : History) × IsNothing found × (now ≡ after (Looks path found) old)) ⊎ ((why : Reason) × IsKept why path now)
+unfoldable pub IsSpare : List ℕ → History → History → Type 0
+IsSpare path old now =
+    ((found : Option Look) × IsNothing found × (now ≡ after (Looks path found) old)) ⊎ ((why : Reason) × IsKept why path old now)
 
 -- nothing stood there; or the path is given, and nothing is lost of it
 abbrev pub IsVacated : List ℕ → History → History → Option Spare → Type 0
 IsVacated path old now None = now ≡ after (Looks path None) old
-IsVacated path old now (Some spare) = (path_of spare ≡ path) × IsSpare path now
+IsVacated path old now (Some spare) = (path_of spare ≡ path) × IsSpare path old now
 
 -- Nothing stood there; or it is gone, and nothing is lost of it.
 abbrev pub MakesWay : List ℕ → History → History → Type 0
-MakesWay path old now = (now ≡ after (Looks path None) old) ⊎ ((spare : History) × IsSpare path spare × (now ≡ after (Removes path) spare))
+MakesWay path old now = (now ≡ after (Looks path None) old) ⊎ ((spare : History) × IsSpare path old spare × (now ≡ after (Removes path) spare))
 
 -- The path is gone, if it stood for such a file that is open; and else it stays.
 abbrev pub RemovesIf : (Stamp → Option Look → Type 0) → List ℕ → History → History → Type 0
@@ -89,6 +101,13 @@ RemovesIf P path old now =
     (opened : Look) × (found : Option Look) × (looked : History) × (followed : History)
     × (looked ≡ after (LooksAt opened) old) × (followed ≡ after (Follows path found) looked)
     × ((P opened.stamp found × (now ≡ after (Removes path) followed)) ⊎ ((P opened.stamp found → ⊥) × (now ≡ followed)))
+
+-- The same was tried, and may have failed.
+abbrev pub MayRemove : (Stamp → Option Look → Type 0) → List ℕ → History → History → Type 0
+MayRemove P path old now =
+    (now ≡ old) ⊎ ((opened : Look) × (looked : History) × (looked ≡ after (LooksAt opened) old)
+    × ((now ≡ looked) ⊎ ((found : Option Look) × (followed : History) × (followed ≡ after (Follows path found) looked)
+    × ((now ≡ followed) ⊎ (P opened.stamp found × (now ≡ after (Removes path) followed))))))
 
 -- It has got the name too, and may have lost its own; or it has the name in place of its own, and nothing stood there.
 abbrev pub GivesFreeName : List ℕ → List ℕ → History → History → Type 0

@@ -1,5 +1,6 @@
 -- What becomes of files, by what was looked at.
-use Rattle.std.specs.Prelude.{◌≡◌, ◌≢◌, ◌⊎◌, ℕ, ◌≤◌, pos, Bool, true, Some, bit_and, bit_or, if◌then◌else◌}
+use Rattle.std.specs.Prelude.{◌≡◌, ◌≢◌, ◌⊎◌, ℕ, ◌≤◌, pos, ◌+ℤ◌, ◌-ℤ◌, ◌<ℤ◌, ◌≤ℤ◌, Bool, true, Some, bit_and, bit_or, if◌then◌else◌}
+use Rattle.mgr_port.specs.declared.spare.Look.{Look}
 use Rattle.mgr_port.specs.declared.stamp.Stamp.{Stamp}
 use Rattle.mgr_port.specs.declared.stamp.Time.{Time}
 use Rattle.mgr_port.specs.declared.log.FoundLog.{FoundLog}
@@ -28,3 +29,13 @@ pub record WasGiven (changed touched log : Time) : Type 0 where
   pub same : changed ≡ log
   pub has_parts : changed.nanos ≢ pos 0
   pub set_after : touched ≢ changed
+
+-- What a text is dated that is put beside a log: a tick later.
+abbrev pub IsLater : Time → Time → Type 0
+IsLater log put =
+    ((log.nanos <ℤ pos 999999900) × (put.seconds ≡ log.seconds) × (put.nanos ≡ log.nanos +ℤ pos 100))
+    ⊎ ((pos 999999900 ≤ℤ log.nanos) × (put.nanos ≡ log.nanos -ℤ pos 999999900))
+
+-- it is dated so, or was given the time of the log
+abbrev pub IsDatedBy : Look → Time → Type 0
+IsDatedBy text log = (put : Time) × IsLater log put × ((text.stamp.changed ≡ put) ⊎ WasGiven text.stamp.changed text.touched log)

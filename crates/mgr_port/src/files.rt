@@ -1,54 +1,35 @@
 //! What files are, and who may do what with them.
-ghost use Rattle.std.specs.Prelude.{◌≡◌};
+ghost use Rattle.std.specs.Prelude.{◌≡◌, IfOk, OnOk, ℕ};
+ghost use Rattle.mgr_port.specs.Texts.{FollowsPlain, TakesMode, TakesOwner};
 ghost use Rattle.mgr_port.specs.Verdicts.{mode_like};
 
-use crate::patient::Patient;
-use mg_files::LogLines;
-use rga_exchange::{Counted, SendFault};
-use std::fs::{File, Metadata, OpenOptions, Permissions};
+use crate::folder::Folder;
+use crate::spare::{Look, Owner};
+use std::io;
 use std::io::ErrorKind;
-use std::os::unix::fs::{MetadataExt, PermissionsExt, fchown};
-use std::rt::Files;
-use std::{fs, io};
 
 /// A file that only its owner may read and write.
 pub(crate) const OWN: u32 = 0o600;
 
-/// What a file is; none where it is not there, or its folder is not.
-pub(crate) fn metadata_if_there<R: Files>(rt: &R, path: &str) -> io::Result<Option<Metadata>> {
-    match fs::metadata(rt, path) {
-        Ok(metadata) => Ok(Some(metadata)),
-        Err(error) if error.kind() == ErrorKind::NotFound => Ok(None),
-        Err(error) => Err(error),
+/// The plain file that a path leads to; none where it is not there. `InvalidInput` where something else
+/// is: a pipe may never have an end, and a device may have none.
+pub(crate) fn plain_if_there<F: Folder>(folder: &mut F, path: &str) -> io::Result<Option<Look>>
+    ensures { IfOk result (FollowsPlain path.now (F.steps folder.old) (F.steps folder.new)) }
+{
+    match folder.follow(path)?.found {
+        None => Ok(None),
+        Some(look) if look.is_plain => Ok(Some(look)),
+        Some(_) => Err(io::Error::from(ErrorKind::InvalidInput)),
     }
-}
-
-/// What a plain file is; none where it is not there. `InvalidInput` where something else is: a pipe
-/// may never have an end, and a device may have none.
-pub(crate) fn plain_if_there<R: Files>(rt: &R, path: &str) -> io::Result<Option<Metadata>> {
-    let there = metadata_if_there(rt, path)?;
-    match &there {
-        Some(standing) if !standing.is_file() => Err(io::Error::from(ErrorKind::InvalidInput)),
-        _ => Ok(there),
-    }
-}
-
-/// Whether a file may be written. Nothing of it changes.
-pub(crate) fn check_writable<R: Files<File = File>>(rt: &R, path: &str) -> io::Result<()> {
-    let _file = OpenOptions::new().write(true).open(rt, path)?;
-    Ok(())
-}
-
-/// Gives a file these permissions, without those of its kind.
-pub(crate) fn set_mode(file: &File, mode: u32) -> io::Result<()> {
-    file.set_permissions(Permissions::from_mode(mode & 0o7777))
 }
 
 /// Gives a new log the owner and the group of another file, where that is allowed, and its mode, but
 /// that nobody runs it and its owner can add to it.
-pub(crate) fn take_mode(log: &File, standing: &Metadata) -> io::Result<()> {
-    let is_owned = take_owner(log, standing)?;
-    set_mode(log, mode_like(standing.mode(), is_owned))
+pub(crate) fn take_mode<F: Folder>(folder: &mut F, log: &F::File, like: Look) -> io::Result<()>
+    ensures { OnOk result (TakesMode like (F.steps folder.old) (F.steps folder.new)) }
+{
+    let is_owned = take_owner(folder, log, like.owner)?;
+    folder.set_mode(log, mode_like(like.mode, is_owned))
 }
 
 /// The mode of a new file that stands for another, by the mode of that one and by whether it has its
@@ -60,33 +41,19 @@ fn mode_like(mode: u32, is_owned: bool) -> u32
     (mode & allowed) | OWN
 }
 
-/// Gives a new file the owner and the group of another, and tells whether it has them.
-pub(crate) fn take_owner(file: &File, standing: &Metadata) -> io::Result<bool> {
-    let made = file.metadata()?;
-    if made.uid() == standing.uid() && made.gid() == standing.gid() {
+/// Gives a new file an owner and a group, and tells whether it has them.
+pub(crate) fn take_owner<F: Folder>(
+    folder: &mut F,
+    file: &F::File,
+    owner: Owner,
+) -> io::Result<bool>
+    ensures { IfOk result (TakesOwner owner (F.steps folder.old) (F.steps folder.new)) }
+{
+    if folder.look_at(file)?.owner == owner {
         return Ok(true);
     }
-    Ok(fchown(file, Some(standing.uid()), Some(standing.gid())).is_ok())
-}
-
-/// Writes lines at the end of a file. Where memory is wanting, nothing is written.
-pub(crate) fn write_lines(file: &mut File, lines: &LogLines) -> io::Result<()> {
-    let mut writer = Counted::new(Patient::new(file));
-    let written = lines.write_to(&mut writer);
-    let failed = writer.into_inner().failed;
-    match written {
-        Ok(()) => Ok(()),
-        Err(SendFault::Write) => Err(io::Error::from(failed.unwrap_or(ErrorKind::Other))),
-        Err(SendFault::Memory(memory)) => Err(io::Error::from(memory)),
+    match folder.give_to(file, owner) {
+        Ok(()) => Ok(true),
+        Err(_) => Ok(false),
     }
-}
-
-/// Waits until the names in a file's folder are on the device.
-pub(crate) fn sync_folder<R: Files<File = File>>(rt: &R, path: &str) -> io::Result<()> {
-    let folder = match path.rsplit_once('/') {
-        Some(("", _)) => "/",
-        Some((folder, _)) => folder,
-        None => ".",
-    };
-    fs::open(rt, folder)?.sync_all()
 }

@@ -1,11 +1,13 @@
 //! The steps by which a folder is looked at and changed.
 ghost use Rattle.std.specs.Prelude.{◌≡◌, IfOk, OnOk};
-ghost use Rattle.mgr_port.specs.Folder.{History, Looks, Follows, LooksAt, Opens, Locks, Ends, EndsInNewline, Adds, Syncs, Reads, Links, Makes, Removes, Renames, Overwrites, Steps, after};
+ghost use Rattle.mgr_port.specs.Folder.{History, Looks, Follows, LooksAt, Opens, Locks, Ends, EndsInNewline};
+ghost use Rattle.mgr_port.specs.Folder.{Adds, Empties, SetsMode, GivesTo, Dates, Syncs, SyncsFolder, ReadsAll, Reads, Links};
+ghost use Rattle.mgr_port.specs.Folder.{Makes, Removes, Renames, Overwrites, Steps, Writes, after};
 ghost use Rattle.mgr_port.specs.Growth.{MayAdd};
 ghost use Rattle.mgr_port.specs.Spares.{MayBeOverwritten, path_of};
 
 use crate::log::{End, LeftLog};
-use crate::spare::{Look, Spare, Standing};
+use crate::spare::{Look, Owner, Spare, Standing};
 use mg_files::LogLines;
 use std::io;
 
@@ -14,6 +16,8 @@ use std::io;
 pub enum Opening {
     /// To be read.
     Read,
+    /// To be written. Nothing of it changes by that.
+    Write,
     /// To be read, and to be added to at its end.
     Add,
     /// The same. If it is not there it is made, and only its owner may read it.
@@ -88,9 +92,42 @@ pub trait Folder {
         requires { MayAdd path.now left.now (steps self.old) }
         ensures step { OnOk result (steps self.new ≡ after (Adds lines.now) (steps self.old)) };
 
+    /// Leaves nothing in an open file.
+    fn empty(&mut self, file: &Self::File) -> io::Result<()>
+        ensures step { Steps result (λ _. Empties) (steps self.old) (steps self.new) };
+
+    /// Puts bytes at the end of an open file. If it fails, a beginning of them may be there.
+    fn write(&mut self, file: &mut Self::File, bytes: &[u8]) -> io::Result<()>
+        ensures step { Writes result bytes.now (steps self.old) (steps self.new) };
+
+    /// The same of lines.
+    fn write_lines(&mut self, file: &mut Self::File, lines: &LogLines) -> io::Result<()>
+        ensures step { Writes result lines.now (steps self.old) (steps self.new) };
+
+    /// Gives an open file these permissions, without those of its kind.
+    fn set_mode(&mut self, file: &Self::File, mode: u32) -> io::Result<()>
+        ensures step { Steps result (λ _. SetsMode mode) (steps self.old) (steps self.new) };
+
+    /// Gives an open file this owner and group.
+    fn give_to(&mut self, file: &Self::File, owner: Owner) -> io::Result<()>
+        ensures step { Steps result (λ _. GivesTo owner) (steps self.old) (steps self.new) };
+
+    /// Dates an open file by when another one was changed, and so many nanoseconds later.
+    fn date(&mut self, file: &Self::File, of: &Self::File, later: u64) -> io::Result<()>
+        ensures step { Steps result (λ _. Dates later) (steps self.old) (steps self.new) };
+
     /// Waits until an open file is on the device.
     fn sync(&mut self, file: &Self::File) -> io::Result<()>
         ensures step { Steps result (λ _. Syncs) (steps self.old) (steps self.new) };
+
+    /// Waits until the names in the folder of a path are on the device.
+    fn sync_folder(&mut self, path: &str) -> io::Result<()>
+        ensures step { Steps result (λ _. SyncsFolder path.now) (steps self.old) (steps self.new) };
+
+    /// The bytes of an open file that were not read yet.
+    fn read_all(&mut self, file: &mut Self::File) -> io::Result<Vec<u8>>
+        ensures step { Steps result (λ bytes. ReadsAll bytes.items)
+            (steps self.old) (steps self.new) };
 
     /// The bytes of the file that a path leads to.
     fn read(&mut self, path: &str) -> io::Result<Vec<u8>>
@@ -110,7 +147,8 @@ pub trait Folder {
 
     /// Removes a path.
     fn remove(&mut self, spare: Spare<'_>) -> io::Result<()>
-        ensures step { Steps result (λ _. Removes (path_of spare.entry)) (steps self.old) (steps self.new) };
+        ensures step { Steps result (λ _. Removes (path_of spare.entry))
+            (steps self.old) (steps self.new) };
 
     /// Gives a path to the file of another path, which has that no more.
     fn rename(&mut self, path: &str, spare: Spare<'_>) -> io::Result<()>

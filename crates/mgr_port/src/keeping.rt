@@ -1,8 +1,9 @@
 //! What stands under a path is kept before that goes.
-ghost use Rattle.std.specs.Prelude.{◌≡◌, IfOk, IfSome, OnOk, string_bytes};
+ghost use Rattle.std.specs.Prelude.{◌≡◌, IfOk, IfSome, OnErr, OnOk, string_bytes};
+ghost use Rattle.mgr_port.specs.Folder.{IsIdle};
 ghost use Rattle.mgr_port.specs.declared.keeping.Keeping.TheVariants as Keeping;
 ghost use Rattle.mgr_port.specs.declared.spare.Reason.TheVariants as Reason;
-ghost use Rattle.mgr_port.specs.Spares.{EndsInTilde, GivesFreeName, IsKept, IsOfFile, IsOneOfMore, IsShown, IsVacated, MakesWay, MayBeOverwritten, RemovesIf, path_of};
+ghost use Rattle.mgr_port.specs.Spares.{EndsInTilde, IsKept, IsSpareFor, MayBeOverwritten, path_of};
 
 use crate::folder::Folder;
 use crate::spare::{Loss, Reason, Spare, loss_of};
@@ -25,6 +26,7 @@ pub enum Keeping {
 
 /// Keeps what stands under a path beside it, under the path with `~` after it; if that is taken with
 /// `.~1~`, `.~2~` and so on. Nothing is overwritten.
+#[tactic(auto, using(crate::proofs::FolderLaws::idle_none, crate::proofs::FolderLaws::kept_later))]
 pub fn keep<'p, F: Folder>(
     folder: &mut F,
     alloc: Global,
@@ -32,8 +34,10 @@ pub fn keep<'p, F: Folder>(
     keeping: Keeping,
 ) -> io::Result<Spare<'p>>
     ensures path { IfOk result (λ spare. path_of spare ≡ path.now) }
-    ensures kept { IfOk result (λ spare. IsKept spare.reason path.now (F.steps folder.new)) }
+    ensures kept { IfOk result (λ spare.
+        IsKept spare.reason path.now (F.steps folder.old) (F.steps folder.new)) }
     ensures copied { keeping ≡ Keeping.ByCopy → IfOk result MayBeOverwritten }
+    ensures idle { OnErr result (IsIdle (F.steps folder.old) (F.steps folder.new)) }
 {
     for number in 0..MAX_KEPT {
         let kept = kept_path(alloc, path, number)?;
@@ -59,6 +63,7 @@ fn kept_path(alloc: Global, path: &str, number: u32) -> io::Result<String>
 }
 
 /// The same under a name; `AlreadyExists` if that is taken.
+#[tactic(auto, using(crate::proofs::FolderLaws::idle_none))]
 fn keep_as<'p, F: Folder>(
     folder: &mut F,
     path: &'p str,
@@ -67,17 +72,32 @@ fn keep_as<'p, F: Folder>(
 ) -> io::Result<Spare<'p>>
     requires { EndsInTilde name.now }
     ensures path { IfOk result (λ spare. path_of spare ≡ path.now) }
-    ensures kept { IfOk result (λ spare. IsKept spare.reason path.now (F.steps folder.new)) }
+    ensures kept { IfOk result (λ spare.
+        IsKept spare.reason path.now (F.steps folder.old) (F.steps folder.new)) }
     ensures copied { keeping ≡ Keeping.ByCopy → IfOk result MayBeOverwritten }
+    ensures idle { OnErr result (IsIdle (F.steps folder.old) (F.steps folder.new)) }
 {
-    if keeping == Keeping::ByName {
-        match folder.link(path, name) {
-            Ok(()) => return Ok(Spare::new(path, Reason::Linked)),
-            Err(error) if error.kind() == ErrorKind::AlreadyExists => return Err(error),
-            // A file system may give no second name.
-            Err(_) => {}
-        }
+    if keeping == Keeping::ByCopy {
+        return copy(folder, path, name);
     }
+    match folder.link(path, name) {
+        Ok(()) => Ok(Spare::new(path, Reason::Linked)),
+        Err(error) if error.kind() == ErrorKind::AlreadyExists => Err(error),
+        // A file system may give no second name.
+        Err(_) => copy(folder, path, name),
+    }
+}
+
+/// Keeps the bytes of a path under a name; `AlreadyExists` if that is taken.
+#[tactic(auto, using(crate::proofs::FolderLaws::idle_none, crate::proofs::FolderLaws::idle_read))]
+fn copy<'p, F: Folder>(folder: &mut F, path: &'p str, name: &str) -> io::Result<Spare<'p>>
+    requires { EndsInTilde name.now }
+    ensures path { IfOk result (λ spare. path_of spare ≡ path.now) }
+    ensures kept { IfOk result (λ spare.
+        IsKept spare.reason path.now (F.steps folder.old) (F.steps folder.new)) }
+    ensures written { IfOk result MayBeOverwritten }
+    ensures idle { OnErr result (IsIdle (F.steps folder.old) (F.steps folder.new)) }
+{
     let bytes = folder.read(path)?;
     folder.make(name, &bytes)?;
     Ok(Spare::new(path, Reason::Copied))
@@ -86,16 +106,17 @@ fn keep_as<'p, F: Folder>(
 /// The path, if nothing is lost of the plain file that it leads to if these bytes take its place:
 /// there is none, or it is as this port left it, or has the same bytes. `InvalidInput` if it leads to
 /// something else.
+#[tactic(auto, using(crate::proofs::FolderLaws::idle_none, crate::proofs::FolderLaws::idle_follow, crate::proofs::FolderLaws::idle_follow_read))]
 pub fn spare_for<'p, F: Folder>(
     folder: &mut F,
     path: &'p str,
     own: Option<Stamp>,
     bytes: &[u8],
 ) -> io::Result<Option<Spare<'p>>>
-    ensures path { IfOk result (λ o. IfSome o (λ spare. path_of spare ≡ path.now)) }
-    ensures shown { IfOk result (λ o. IfSome o (λ spare.
-        IsShown spare.reason path.now own bytes.now (F.steps folder.new))) }
+    ensures shown { IfOk result
+        (IsSpareFor path.now own bytes.now (F.steps folder.old) (F.steps folder.new)) }
     ensures written { IfOk result (λ o. IfSome o MayBeOverwritten) }
+    ensures idle { OnErr result (IsIdle (F.steps folder.old) (F.steps folder.new)) }
 {
     let standing = folder.follow(path)?;
     let Some(look) = standing.found else {
@@ -113,83 +134,5 @@ pub fn spare_for<'p, F: Folder>(
             }
             Ok(None)
         }
-    }
-}
-
-/// The path, once nothing is lost of what stands there itself: bytes of a plain file are kept. None
-/// if nothing stands there.
-#[tactic(auto, unfolding(crate::specs::Spares::IsSpare))]
-fn spare_name<'p, F: Folder>(
-    folder: &mut F,
-    alloc: Global,
-    path: &'p str,
-) -> io::Result<Option<Spare<'p>>>
-    ensures { IfOk result
-        (IsVacated path.now (F.steps folder.old) (F.steps folder.new)) }
-{
-    let standing = folder.look(path)?;
-    if standing.found.is_none() {
-        return Ok(None);
-    }
-    match standing.if_nothing() {
-        Some(spare) => Ok(Some(spare)),
-        None => Ok(Some(keep(folder, alloc, path, Keeping::ByName)?)),
-    }
-}
-
-/// Has what stands under a path let go of it. Bytes of a plain file are kept.
-pub fn make_way<F: Folder>(folder: &mut F, alloc: Global, path: &str) -> io::Result<()>
-    ensures { OnOk result (MakesWay path.now (F.steps folder.old) (F.steps folder.new)) }
-{
-    match spare_name(folder, alloc, path)? {
-        Some(spare) => folder.remove(spare),
-        None => Ok(()),
-    }
-}
-
-/// Removes a path, if it stands for a file that is open.
-pub fn remove_open<F: Folder>(folder: &mut F, path: &str, file: &F::File) -> io::Result<()>
-    ensures { OnOk result (RemovesIf IsOfFile path.now (F.steps folder.old) (F.steps folder.new)) }
-{
-    let open = folder.look_at(file)?;
-    match folder.follow(path)?.if_open(open) {
-        Some(spare) => folder.remove(spare),
-        None => Ok(()),
-    }
-}
-
-/// Removes a path, if it stands for a file that is open and has another name.
-pub(crate) fn remove_second_name<F: Folder>(
-    folder: &mut F,
-    path: &str,
-    file: &F::File,
-) -> io::Result<()>
-    ensures { OnOk result
-        (RemovesIf IsOneOfMore path.now (F.steps folder.old) (F.steps folder.new)) }
-{
-    let open = folder.look_at(file)?;
-    match folder.follow(path)?.if_second_name(open) {
-        Some(spare) => folder.remove(spare),
-        None => Ok(()),
-    }
-}
-
-/// Gives a file a name that nothing has, in place of its own, which it may keep if that cannot be
-/// taken. `AlreadyExists` if something has got the name meanwhile; if the file system gives no
-/// second name, that is looked at right before.
-pub fn give_free_name<F: Folder>(folder: &mut F, path: &str, name: &str) -> io::Result<()>
-    ensures { OnOk result (GivesFreeName path.now name.now (F.steps folder.old) (F.steps folder.new)) }
-{
-    match folder.link(path, name) {
-        Ok(()) => {
-            let _ = folder.remove(Spare::new(path, Reason::Linked));
-            return Ok(());
-        }
-        Err(error) if error.kind() == ErrorKind::AlreadyExists => return Err(error),
-        Err(_) => {}
-    }
-    match folder.look(name)?.found {
-        None => folder.rename(path, Spare::new(name, Reason::Nothing)),
-        Some(_) => Err(io::Error::from(ErrorKind::AlreadyExists)),
     }
 }

@@ -1,6 +1,6 @@
 //! Theorems about files that are written whole, and about paths that go. Each function does nothing:
 //! its contract is the theorem.
-ghost use Rattle.std.specs.Prelude.{◌≡◌, ◌⊎◌, ℕ, List, Bool, true, Option, Some};
+ghost use Rattle.std.specs.Prelude.{◌≡◌, ◌⊎◌, ℕ, List, true, Option, Some};
 ghost use Rattle.mgr_port.specs.declared.spare.Look.{Look};
 ghost use Rattle.mgr_port.specs.Spares.{IsNothing};
 ghost use Rattle.mgr_port.specs.Worlds.{World, Has, Shows, IsLinked, IsMade, IsLeftAlone, IsBare, StoodUnder, Locks};
@@ -11,17 +11,17 @@ ghost use Rattle.mgr_port.specs.Disk.{DiskStep, Place, BeginsSteps, AreGivenUp, 
 /// given up and the file beside removed, it is the old one. What stood there is kept before it loses
 /// its name, where it is to be.
 pub fn a_file_is_whole_whenever_the_machine_stops()
-    ensures whole { (old found : Option (List ℕ)) (p : Place) (keeps : Bool) (bytes : List ℕ)
-        (made : List DiskStep) → IsUntouched p → BeginsSteps made (whole_steps keeps bytes)
+    ensures whole { (old found : Option (List ℕ)) (p : Place) (bytes : List ℕ)
+        (made : List DiskStep) → IsUntouched p → BeginsSteps made (whole_steps bytes)
         → MayBeFound old (behind_steps p made) found → (found ≡ old) ⊎ (found ≡ Some bytes) }
-    ensures new { (old found : Option (List ℕ)) (p : Place) (keeps : Bool) (bytes : List ℕ)
-        → IsUntouched p → MayBeFound old (behind_steps p (whole_steps keeps bytes)) found
+    ensures new { (old found : Option (List ℕ)) (p : Place) (bytes : List ℕ)
+        → IsUntouched p → MayBeFound old (behind_steps p (whole_steps bytes)) found
         → found ≡ Some bytes }
-    ensures left { (old found : Option (List ℕ)) (p : Place) (keeps : Bool) (bytes : List ℕ)
-        (made : List DiskStep) → IsUntouched p → AreGivenUp keeps bytes made
+    ensures left { (old found : Option (List ℕ)) (p : Place) (bytes : List ℕ)
+        (made : List DiskStep) → IsUntouched p → AreGivenUp bytes made
         → MayBeFound old (behind_steps p made) found → found ≡ old }
     ensures kept { (p : Place) (bytes : List ℕ) (made : List DiskStep) → IsUntouched p
-        → BeginsSteps made (whole_steps true bytes) → (behind_steps p made).is_named ≡ true
+        → BeginsSteps made (whole_steps bytes) → (behind_steps p made).is_named ≡ true
         → (behind_steps p made).is_kept ≡ true }
 {}
 

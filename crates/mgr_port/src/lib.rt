@@ -14,7 +14,6 @@
 //! the built program.
 #![tactic(auto)]
 
-mod disk;
 mod files;
 mod folder;
 mod keeping;
@@ -32,14 +31,16 @@ mod staged;
 mod stamp;
 mod system;
 mod text;
+mod vacating;
 
-pub use disk::{Disk, Named, put_whole};
 pub use folder::{Folder, Lock, Opening};
-pub use keeping::{Keeping, give_free_name, keep, make_way, remove_open, spare_for};
+pub use keeping::{Keeping, keep, spare_for};
 pub use locking::{open_locked, take_beside};
 pub use log::{End, LeftLog};
 pub use logs::Logs;
 pub use port::FilePort;
 pub use rewriting::OpenLog;
-pub use spare::{Look, Reason, Spare, Standing};
-pub use stamp::Stamp;
+pub use spare::{Look, Owner, Reason, Spare, Standing};
+pub use staged::{Named, Old, Staged, put_whole};
+pub use stamp::{Stamp, Time};
+pub use vacating::{give_free_name, make_way, remove_open};

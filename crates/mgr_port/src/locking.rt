@@ -1,21 +1,21 @@
 //! Files that are opened and locked.
-ghost use Rattle.std.specs.Prelude.{◌≡◌, ◌≢◌, IfOk, IfSome, OnOk, true};
+ghost use Rattle.std.specs.Prelude.{◌≡◌, ◌≢◌, IfOk, IfSome, OnOk};
 ghost use Rattle.mgr_port.specs.declared.folder.Lock.TheVariants as Lock;
-ghost use Rattle.mgr_port.specs.Locks.{Holds, HoldsEmpty, IsHeldEmpty, IsOpened, MakesBeside, OpensBeside, OpensLocked, OpensPlain, StandsFor};
+ghost use Rattle.mgr_port.specs.Locks.{Holds, HoldsEmpty, IsHeldEmpty, IsOpened};
+ghost use Rattle.mgr_port.specs.Locks.{OpensBeside, OpensLocked, OpensPlain, ShowsStanding};
 
 use crate::folder::{Folder, Lock, Opening};
-use crate::keeping::make_way;
+use crate::vacating::make_way;
 use std::alloc::Global;
 use std::io;
 use std::io::ErrorKind;
 
 /// How often a file is looked for anew where its name changes meanwhile.
-const TRIES: u32 = 16;
+pub(crate) const TRIES: u32 = 16;
 
 /// Whether a path stands for a file that is open.
 pub(crate) fn stands_for<F: Folder>(folder: &mut F, path: &str, file: &F::File) -> io::Result<bool>
-    ensures { IfOk result (λ is. is ≡ true →
-        StandsFor path.now (F.steps folder.old) (F.steps folder.new)) }
+    ensures { IfOk result (ShowsStanding path.now (F.steps folder.old) (F.steps folder.new)) }
 {
     let Some(found) = folder.follow(path)?.found else {
         return Ok(false);
@@ -110,25 +110,11 @@ pub(crate) fn open_again<F: Folder>(
     Err(io::Error::from(ErrorKind::WouldBlock))
 }
 
-/// Does anew what was `Interrupted`, since a path stood for another file meanwhile. `WouldBlock` where
-/// it always is.
-pub(crate) fn repeat<T: Drop, A: FnMut() -> io::Result<T>>(mut attempt: A) -> io::Result<T>
-    requires { (a : _) → A.pre a }
-{
-    for _ in 0..TRIES {
-        match attempt() {
-            Err(error) if error.kind() == ErrorKind::Interrupted => {}
-            answer => return answer,
-        }
-    }
-    Err(io::Error::from(ErrorKind::WouldBlock))
-}
-
 /// Opens a file that is still to get its name, and makes it if it is not there. Only its owner may
 /// read it. What is written goes to its end. What stands there and is no plain file makes way, so
 /// that nothing is written through a link.
 pub(crate) fn open_beside<F: Folder>(folder: &mut F, path: &str) -> io::Result<F::File>
-    ensures { IfOk result (λ _. OpensBeside path.now (F.steps folder.new)) }
+    ensures { IfOk result (λ _. OpensBeside path.now (F.steps folder.old) (F.steps folder.new)) }
 {
     if let Some(spare) = folder.look(path)?.if_no_file() {
         folder.remove(spare)?;
@@ -181,17 +167,4 @@ pub fn take_beside<F: Folder>(folder: &mut F, alloc: Global, path: &str) -> io::
         }
     }
     Err(io::Error::from(ErrorKind::WouldBlock))
-}
-
-/// Makes a file beside another, new and empty. Bytes that stand there are kept.
-pub(crate) fn make_beside<F: Folder>(
-    folder: &mut F,
-    alloc: Global,
-    path: &str,
-    mode: u32,
-) -> io::Result<F::File>
-    ensures { IfOk result (λ _. MakesBeside path.now mode (F.steps folder.old) (F.steps folder.new)) }
-{
-    make_way(folder, alloc, path)?;
-    folder.open(path, Opening::New(mode))
 }

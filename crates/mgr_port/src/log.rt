@@ -1,27 +1,26 @@
 //! A log that this port has open.
-ghost use Rattle.std.specs.Prelude.{◌≡◌, ◌↔◌, OnErr, OnOk, true};
+ghost use Rattle.std.specs.Prelude.{◌≡◌, ◌↔◌, ◌≤◌, IfOk, IsSome, OnErr, OnOk, length, true};
 ghost use Rattle.mgr_port.specs.Growth.{IsAdded, ShowsGrowth};
+ghost use Rattle.mgr_port.specs.Notes.{IsLeftAt, MakesRoom};
+ghost use Rattle.mgr_port.specs.Spares.{IsOneOfMore, MayRemove};
 ghost use Rattle.mgr_port.specs.Verdicts.{MayGrow};
 
 use crate::folder::Folder;
-use crate::keeping::{make_way, remove_second_name};
 use crate::locking::stands_for;
-use crate::staged::Date;
-use crate::stamp::{LATER, Stamp};
+use crate::stamp::Stamp;
+use crate::vacating::{make_way, remove_second_name};
 use mg_files::LogLines;
 use std::alloc::Global;
-use std::fs::File;
 use std::io;
-use std::io::{ErrorKind, Read};
-use std::os::unix::fs::FileExt;
+use std::io::ErrorKind;
 
 /// How many bytes of a log's end are remembered.
-const END: usize = 256;
+pub(crate) const END: usize = 256;
 
 /// A log as this port read or wrote it last. It is locked for as long as it is open.
 #[derive(Drop)]
 pub(crate) struct Log<T> {
-    file: T,
+    pub(crate) file: T,
     pub(crate) left: LeftLog,
 }
 
@@ -44,8 +43,8 @@ pub(crate) struct FoundLog {
 /// The last bytes of a log.
 #[derive(Clone, Copy, PartialEq, Eq)]
 pub struct End {
-    bytes: [u8; END],
-    length: usize,
+    pub(crate) bytes: [u8; END],
+    pub(crate) length: usize,
 }
 
 impl<T: Drop> Log<T> {
@@ -54,7 +53,10 @@ impl<T: Drop> Log<T> {
         folder: &mut F,
         file: T,
         length: u64,
-    ) -> io::Result<Log<T>> {
+    ) -> io::Result<Log<T>>
+        ensures { IfOk result (λ log. IsLeftAt log.left length
+            (F.steps folder.old) (F.steps folder.new)) }
+    {
         let mut stamp = folder.look_at(&file)?.stamp;
         stamp.length = length;
         match folder.end_of(&file, length)? {
@@ -68,7 +70,9 @@ impl<T: Drop> Log<T> {
 
     /// Takes another name from it, if it has that beside its own: one that was killed when it gave the
     /// log its name may have left it both.
-    pub(crate) fn give_up<F: Folder<File = T>>(&self, folder: &mut F, path: &str) {
+    pub(crate) fn give_up<F: Folder<File = T>>(&self, folder: &mut F, path: &str)
+        ensures { MayRemove IsOneOfMore path.now (F.steps folder.old) (F.steps folder.new) }
+    {
         let _ = remove_second_name(folder, path, &self.file);
     }
 
@@ -79,7 +83,9 @@ impl<T: Drop> Log<T> {
         folder: &mut F,
         alloc: Global,
         path: &str,
-    ) -> io::Result<()> {
+    ) -> io::Result<()>
+        ensures { OnOk result (MakesRoom path.now (F.steps folder.old) (F.steps folder.new)) }
+    {
         remove_second_name(folder, path, &self.file)?;
         if stands_for(folder, path, &self.file)? {
             make_way(folder, alloc, path)?;
@@ -114,23 +120,6 @@ impl<T: Drop> Log<T> {
             _ => Err(io::Error::from(ErrorKind::NotFound)),
         }
     }
-}
-
-impl Log<File> {
-    /// By what a text is dated that is put beside it.
-    pub(crate) fn date(&self) -> Date<'_> {
-        Date {
-            of: &self.file,
-            later: LATER,
-        }
-    }
-}
-
-/// The bytes of a log, from where it is read.
-pub(crate) fn read<R: AllocGlobal, T: Read>(rt: &R, file: &mut T) -> io::Result<Vec<u8>> {
-    let mut bytes = Vec::new(rt.alloc());
-    file.read_to_end(&mut bytes)?;
-    Ok(bytes)
 }
 
 /// `NotFound` unless the path stands for the log, which has what it had, and at most lines behind it.
@@ -174,21 +163,11 @@ fn may_grow(left: &LeftLog, found: &FoundLog) -> bool
 }
 
 impl End {
-    /// The end of a file of such a length.
-    pub(crate) fn of(file: &File, length: u64) -> io::Result<End> {
-        let mut bytes = [0u8; END];
-        let count = length.min(END as u64) as usize;
-        let from = length.saturating_sub(END as u64);
-        file.read_exact_at(&mut bytes[..count], from)?;
-        Ok(End {
-            bytes,
-            length: count,
-        })
-    }
-
     /// The end of a file that begins with so many of these bytes. None if these are fewer.
-    pub fn of_bytes(file: &[u8], length: u64) -> Option<End> {
-        let length = usize::try_from(length).ok()?;
+    pub fn of_bytes(file: &[u8], count: u64) -> Option<End>
+        ensures { IsSome result ↔ (count ≤ length file.now) }
+    {
+        let length = usize::try_from(count).ok()?;
         let front = file.get(..length)?;
         let count = length.min(END);
         let mut bytes = [0u8; END];
@@ -198,11 +177,4 @@ impl End {
             length: count,
         })
     }
-}
-
-/// Whether the last byte of a file of such a length is a newline.
-pub(crate) fn ends_in_a_newline(file: &File, length: u64) -> io::Result<bool> {
-    let mut last = [0u8; 1];
-    file.read_exact_at(&mut last, length.saturating_sub(1))?;
-    Ok(last[0] == b'\n')
 }

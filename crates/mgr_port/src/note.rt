@@ -1,38 +1,44 @@
 //! The files of one note, as this port found and left them.
-ghost use Rattle.std.specs.Prelude.{◌≡◌, IfOk, OnOk};
-ghost use Rattle.mgr_port.specs.Locks.{HoldsInItsPlace, IsTaken};
+ghost use Rattle.std.specs.Prelude.{◌≡◌, Option, None, IfOk, IfSome, OnErr, OnOk, length, string_bytes};
+ghost use Rattle.mgr_port.specs.Disk.{steps_to};
+ghost use Rattle.mgr_port.specs.Growth.{IsAdded};
+ghost use Rattle.mgr_port.specs.Locks.{HoldsInItsPlace, HoldsNext, IsTaken, OpensLocked};
+ghost use Rattle.mgr_port.specs.Notes.{Leaves, MakesLog, MakesRoom, NamesLog, ReadsLog, TakesRights, old_for};
+ghost use Rattle.mgr_port.specs.Spares.{IsOfFile, MayRemove};
+ghost use Rattle.mgr_port.specs.Texts.{PutsText};
+ghost use Rattle.mgr_port.specs.declared.spare.Look.{Look};
 
-use crate::disk::{Named, put_log};
-use crate::files::{OWN, metadata_if_there, set_mode, take_mode};
+use crate::files::{OWN, take_mode};
 use crate::folder::Folder;
-use crate::keeping::remove_open;
-use crate::locking::{hold_empty, open_beside, open_locked, repeat, stands_for, take_beside};
-use crate::log::{Log, read};
+use crate::locking::{TRIES, hold_empty, open_beside, open_locked, stands_for, take_beside};
+use crate::log::Log;
 use crate::names::Paths;
-use crate::staged::{Old, Staged, remove_next};
-use crate::system::System;
+use crate::spare::Look;
+use crate::staged::{Named, Old, Staged, put_log};
 use crate::text::Text;
+use crate::vacating::remove_open;
 use mg_files::{Found, LogLines};
 use std::alloc::Global;
-use std::fs::{File, Metadata};
 use std::io;
 use std::io::ErrorKind;
-use std::rt::Files;
 
 /// A note under its name. What is open of its files is locked.
 #[derive(Drop)]
-pub(crate) struct Note {
+pub(crate) struct Note<T> {
     pub(crate) paths: Paths,
     /// The log, where this port has read or written one.
-    log: Option<Log<File>>,
+    log: Option<Log<T>>,
     /// The next log, where it is open.
-    next: Option<File>,
-    text: Text<File>,
+    next: Option<T>,
+    text: Text<T>,
 }
 
-impl Note {
+impl<T: Drop> Note<T> {
     /// A note of which nothing was read and nothing is locked.
-    pub(crate) fn new(paths: Paths) -> Note {
+    pub(crate) fn new(paths: Paths) -> Note<T>
+        ensures log { result.log ≡ None }
+        ensures next { result.next ≡ None }
+    {
         Note {
             paths,
             log: None,
@@ -43,38 +49,52 @@ impl Note {
 
     /// Closes what was open, locks the files, and reads the log; the text too where there is no log,
     /// and where it is not known as this port's own. Where that fails nothing stays locked.
-    pub(crate) fn load<R: Files<File = File> + AllocGlobal>(
+    pub(crate) fn load<F: Folder<File = T>>(
         &mut self,
-        rt: &R,
-    ) -> io::Result<Found> {
+        folder: &mut F,
+        alloc: Global,
+    ) -> io::Result<Found>
+        ensures read { IfOk result (λ found. IfSome found.log (λ bytes. IfSome self.new.log
+            (λ log. log.left.stamp.length ≡ length bytes))) }
+        ensures log { OnErr result (self.new.log ≡ None) }
+        ensures next { OnErr result (self.new.next ≡ None) }
+    {
         self.close();
-        let found = self.try_load(rt);
-        if found.is_err() {
-            self.leave(rt);
-            self.close();
+        match self.try_load(folder, alloc) {
+            Ok(found) => Ok(found),
+            Err(error) => {
+                self.leave(folder);
+                self.close();
+                Err(error)
+            }
         }
-        found
     }
 
     /// Closes what is open, which is not locked any more.
-    fn close(&mut self) {
+    fn close(&mut self)
+        ensures log { self.new.log ≡ None }
+        ensures next { self.new.next ≡ None }
+        ensures own { self.new.text.own ≡ None }
+    {
         self.log = None;
         self.next = None;
         self.text = Text::new();
     }
 
-    fn try_load<R: Files<File = File> + AllocGlobal>(&mut self, rt: &R) -> io::Result<Found> {
-        let Some(mut file) = repeat(|| self.try_log(rt))? else {
-            let text = self
-                .text
-                .load(&mut System { rt }, self.paths.text.as_str())?;
+    fn try_load<F: Folder<File = T>>(&mut self, folder: &mut F, alloc: Global) -> io::Result<Found>
+        ensures { IfOk result (λ found. IfSome found.log (λ bytes. IfSome self.new.log
+            (λ log. log.left.stamp.length ≡ length bytes))) }
+    {
+        let (log, next) = lock_log(folder, alloc, &self.paths)?;
+        self.next = next;
+        let Some(file) = log else {
+            let text = self.text.load(folder, self.paths.text.as_str())?;
             return Ok(Found { log: None, text });
         };
-        let bytes = read(rt, &mut file)?;
-        let folder = &mut System { rt };
-        let log = Log::read_to(folder, file, bytes.len() as u64)?;
-        log.give_up(folder, self.paths.next_log.as_str());
-        let text = self.text.take_beside(rt, self.paths.text.as_str(), &log)?;
+        let (log, bytes) = read_log(folder, file, self.paths.next_log.as_str())?;
+        let text = self
+            .text
+            .take_beside(folder, self.paths.text.as_str(), log.left)?;
         self.log = Some(log);
         Ok(Found {
             log: Some(bytes),
@@ -82,69 +102,67 @@ impl Note {
         })
     }
 
-    /// The log, locked; where there is none the file that will be it is locked.
-    fn try_log<R: Files<File = File> + AllocGlobal>(&mut self, rt: &R) -> io::Result<Option<File>> {
-        let path = self.paths.log.as_str();
-        if let Some(file) = open_locked(&mut System { rt }, path, true)? {
-            return Ok(Some(file));
-        }
-        let next = self.paths.next_log.as_str();
-        // In a folder that takes no file, a note can be looked at all the same.
-        let Ok(file) = open_beside(&mut System { rt }, next) else {
-            return Ok(None);
-        };
-        match lock_next(&mut System { rt }, rt.alloc(), next, &file, path) {
-            Ok(()) => self.next = Some(file),
-            Err(error) if error.kind() == ErrorKind::PermissionDenied => {}
-            Err(error) => return Err(error),
-        }
-        Ok(None)
-    }
-
     /// Adds lines at the end of the log, which is made where there is none; whenever the machine
     /// stops then, it is there with all of the lines or not at all.
-    pub(crate) fn append<R: Files<File = File> + AllocGlobal>(
+    pub(crate) fn append<F: Folder<File = T>>(
         &mut self,
-        rt: &R,
+        folder: &mut F,
+        alloc: Global,
         lines: &LogLines,
-    ) -> io::Result<()> {
+    ) -> io::Result<()>
+        ensures added { OnOk result (IfSome self.old.log (λ old. IfSome self.new.log (λ log.
+            IsAdded (string_bytes self.old.paths.log) old.left lines.now log.left
+            (F.steps folder.old) (F.steps folder.new)))) }
+        ensures made { self.old.log ≡ None → OnOk result (IfSome self.new.log (λ log.
+            MakesLog (string_bytes self.old.paths.next_log) (string_bytes self.old.paths.log)
+            (string_bytes self.old.paths.text) None lines.now log.left (F.steps folder.new))) }
+    {
         let path = self.paths.log.as_str();
         if let Some(log) = &mut self.log {
-            return log.append(&mut System { rt }, path, lines);
+            return log.append(folder, path, lines);
         }
-        if metadata_if_there(rt, path)?.is_some() {
+        if folder.follow(path)?.found.is_some() {
             return Err(io::Error::from(ErrorKind::AlreadyExists));
         }
-        self.make_log(rt, lines, None)
+        self.make_log(folder, alloc, lines, None)
     }
 
     /// Makes these lines the whole log. What stands there is kept.
-    pub(crate) fn replace<R: Files<File = File> + AllocGlobal>(
+    pub(crate) fn replace<F: Folder<File = T>>(
         &mut self,
-        rt: &R,
+        folder: &mut F,
+        alloc: Global,
         lines: &LogLines,
-    ) -> io::Result<()> {
-        let standing = metadata_if_there(rt, self.paths.log.as_str())?;
-        self.make_log(rt, lines, standing)
+    ) -> io::Result<()>
+        ensures { OnOk result (IfSome self.new.log (λ log. (standing : Option Look) × MakesLog
+            (string_bytes self.old.paths.next_log) (string_bytes self.old.paths.log)
+            (string_bytes self.old.paths.text) standing lines.now log.left (F.steps folder.new))) }
+    {
+        let standing = folder.follow(self.paths.log.as_str())?.found;
+        self.make_log(folder, alloc, lines, standing)
     }
 
     /// Writes lines beside the log, under a name that then becomes the log's. The new log is locked
     /// before, and the one that stands there is kept.
-    fn make_log<R: Files<File = File> + AllocGlobal>(
+    fn make_log<F: Folder<File = T>>(
         &mut self,
-        rt: &R,
+        folder: &mut F,
+        alloc: Global,
         lines: &LogLines,
-        standing: Option<Metadata>,
-    ) -> io::Result<()> {
+        standing: Option<Look>,
+    ) -> io::Result<()>
+        ensures { OnOk result (IfSome self.new.log (λ log.
+            MakesLog (string_bytes self.old.paths.next_log) (string_bytes self.old.paths.log)
+            (string_bytes self.old.paths.text) standing lines.now log.left (F.steps folder.new))) }
+    {
+        self.make_room(folder, alloc)?;
         let path = self.paths.next_log.as_str();
-        if let Some(log) = &self.log {
-            log.make_room(&mut System { rt }, rt.alloc(), path)?;
-        }
-        let mut next = take_next(&mut System { rt }, rt.alloc(), path, &mut self.next)?;
-        match name_next(rt, &self.paths, &mut next, lines, standing) {
+        let mut next = take_next(folder, alloc, path, &mut self.next)?;
+        let log = self.log.as_ref().map(|log| &log.file);
+        match name_next(folder, alloc, &self.paths, &mut next, log, lines, standing) {
             Ok(named) => {
-                let length = next.metadata()?.len();
-                self.log = Some(Log::read_to(&mut System { rt }, next, length)?);
+                let length = folder.look_at(&next)?.stamp.length;
+                self.log = Some(Log::read_to(folder, next, length)?);
                 named.settled()
             }
             Err(error) => {
@@ -154,32 +172,126 @@ impl Note {
         }
     }
 
+    /// Takes the path of the next log from the log, if it has that.
+    fn make_room<F: Folder<File = T>>(&self, folder: &mut F, alloc: Global) -> io::Result<()>
+        ensures { OnOk result (IfSome self.now.log (λ _.
+            MakesRoom (string_bytes self.now.paths.next_log)
+            (F.steps folder.old) (F.steps folder.new))) }
+    {
+        match &self.log {
+            Some(log) => log.make_room(folder, alloc, self.paths.next_log.as_str()),
+            None => Ok(()),
+        }
+    }
+
     /// Makes these bytes the text. What stands there is kept, unless this port read it or put it, or it
     /// is the same.
-    pub(crate) fn put_text<R: Files<File = File> + AllocGlobal>(
+    pub(crate) fn put_text<F: Folder<File = T>>(
         &mut self,
-        rt: &R,
+        folder: &mut F,
+        alloc: Global,
         bytes: &[u8],
-    ) -> io::Result<()> {
-        self.text.put(rt, &self.paths, bytes, &self.log)
+    ) -> io::Result<()>
+        ensures { OnOk result (PutsText (string_bytes self.old.paths.next_text)
+            (string_bytes self.old.paths.text) bytes.now self.old.text.own self.new.text.own
+            (F.steps folder.new)) }
+    {
+        let log = self.log.as_ref().map(|log| &log.file);
+        self.text.put(folder, alloc, &self.paths, bytes, log)
     }
 
     /// Closes the file whose name the text took last, if it is open.
-    pub(crate) fn close_replaced(&mut self) {
+    pub(crate) fn close_replaced(&mut self)
+        ensures { self.new.text.replaced ≡ None }
+    {
         self.text.replaced = None;
     }
 
     /// Removes what was only locked in the place of a log that was never made, and a name that the log
     /// may have kept beside its own.
-    pub(crate) fn leave<R: Files<File = File> + AllocGlobal>(&self, rt: &R) {
-        let path = self.paths.next_log.as_str();
-        if let Some(next) = &self.next {
-            remove_next(rt, path, next);
-        }
+    pub(crate) fn leave<F: Folder<File = T>>(&self, folder: &mut F)
+        ensures { Leaves (string_bytes self.now.paths.next_log)
+            (F.steps folder.old) (F.steps folder.new) }
+    {
+        self.leave_next(folder);
         if let Some(log) = &self.log {
-            log.give_up(&mut System { rt }, path);
+            log.give_up(folder, self.paths.next_log.as_str());
         }
     }
+
+    fn leave_next<F: Folder<File = T>>(&self, folder: &mut F)
+        ensures { MayRemove IsOfFile (string_bytes self.now.paths.next_log)
+            (F.steps folder.old) (F.steps folder.new) }
+    {
+        if let Some(next) = &self.next {
+            let _ = remove_open(folder, self.paths.next_log.as_str(), next);
+        }
+    }
+}
+
+/// The log, locked; where there is none the file that will be it is locked. `WouldBlock` if that is
+/// always `Interrupted`.
+fn lock_log<F: Folder>(
+    folder: &mut F,
+    alloc: Global,
+    paths: &Paths,
+) -> io::Result<(Option<F::File>, Option<F::File>)>
+    ensures log { IfOk result (λ locked. IfSome locked.0 (λ _.
+        OpensLocked (string_bytes paths.now.log) (F.steps folder.new))) }
+    ensures next { IfOk result (λ locked. IfSome locked.1 (λ _.
+        HoldsNext (string_bytes paths.now.next_log) (string_bytes paths.now.log)
+        (F.steps folder.new))) }
+{
+    for _ in 0..TRIES {
+        match try_log(folder, alloc, paths) {
+            Err(error) if error.kind() == ErrorKind::Interrupted => {}
+            answer => return answer,
+        }
+    }
+    Err(io::Error::from(ErrorKind::WouldBlock))
+}
+
+fn try_log<F: Folder>(
+    folder: &mut F,
+    alloc: Global,
+    paths: &Paths,
+) -> io::Result<(Option<F::File>, Option<F::File>)>
+    ensures log { IfOk result (λ locked. IfSome locked.0 (λ _.
+        OpensLocked (string_bytes paths.now.log) (F.steps folder.new))) }
+    ensures next { IfOk result (λ locked. IfSome locked.1 (λ _.
+        HoldsNext (string_bytes paths.now.next_log) (string_bytes paths.now.log)
+        (F.steps folder.new))) }
+{
+    let log = paths.log.as_str();
+    if let Some(file) = open_locked(folder, log, true)? {
+        return Ok((Some(file), None));
+    }
+    let path = paths.next_log.as_str();
+    // In a folder that takes no file, a note can be looked at all the same.
+    let Ok(file) = open_beside(folder, path) else {
+        return Ok((None, None));
+    };
+    match lock_next(folder, alloc, path, &file, log) {
+        Ok(()) => Ok((None, Some(file))),
+        Err(error) if error.kind() == ErrorKind::PermissionDenied => Ok((None, None)),
+        Err(error) => Err(error),
+    }
+}
+
+/// All of a log that is open. Of what was killed when it gave the log its name, it may have kept the
+/// path of the next one too.
+fn read_log<T: Drop, F: Folder<File = T>>(
+    folder: &mut F,
+    mut file: T,
+    path: &str,
+) -> io::Result<(Log<T>, Vec<u8>)>
+    ensures { IfOk result (λ read. ReadsLog path.now read.1.items read.0.left
+        (F.steps folder.old) (F.steps folder.new)) }
+{
+    let bytes = folder.read_all(&mut file)?;
+    let log = Log::read_to(folder, file, bytes.len() as u64)?;
+    log.give_up(folder, path);
+    Ok((log, bytes))
 }
 
 /// Locks the next log, which is empty. `Interrupted` as of `hold_empty`, and if the log is there by
@@ -220,33 +332,56 @@ fn take_next<F: Folder>(
     take_beside(folder, alloc, path)
 }
 
-/// Writes all of the next log, and gives it the log's name. Its owner and rights are those of the log
-/// that stands there, which is kept, or else of the text; with none only its owner may read it.
-fn name_next<'a, R: Files<File = File> + AllocGlobal>(
-    rt: &'a R,
-    paths: &'a Paths,
-    next: &'a mut File,
+/// Writes all of the next log, and gives it the log's name. What stands there is kept.
+fn name_next<F: Folder>(
+    folder: &mut F,
+    alloc: Global,
+    paths: &Paths,
+    next: &mut F::File,
+    log: Option<&F::File>,
     lines: &LogLines,
-    standing: Option<Metadata>,
-) -> io::Result<Named> {
-    let keeps = standing.is_some();
-    let like = match standing {
-        Some(log) => Some(log),
-        None => metadata_if_there(rt, paths.text.as_str())?,
-    };
-    match like {
-        Some(like) => take_mode(next, &like)?,
-        None => set_mode(next, OWN)?,
-    }
-    let old: Old<'a> = if keeps { Old::Log } else { Old::Nothing };
-    let mut staged = Staged {
-        rt,
-        file: next,
+    standing: Option<Look>,
+) -> io::Result<Named>
+    ensures { IfOk result (λ named. NamesLog (string_bytes paths.now.next_log)
+        (string_bytes paths.now.log) (string_bytes paths.now.text) standing
+        (steps_to named lines.now) (F.steps folder.old) (F.steps folder.new)) }
+{
+    take_rights(folder, next, standing, paths.text.as_str())?;
+    let staged = Staged {
         path: paths.next_log.as_str(),
         name: paths.log.as_str(),
-        date: None,
-        old,
-        spare: None,
+        later: None,
+        old: old_for(standing),
     };
-    put_log(&mut staged, lines, keeps)
+    put_log(folder, alloc, next, log, staged, lines)
+}
+
+/// What stands under the name of a log.
+fn old_for(standing: Option<Look>) -> Old<'static>
+    ensures { result ≡ old_for standing }
+{
+    match standing {
+        Some(_) => Old::Log,
+        None => Old::Nothing,
+    }
+}
+
+/// Gives a new log the owner and the rights of the log that stands there, or else of the text; with
+/// none only its owner may read it.
+fn take_rights<F: Folder>(
+    folder: &mut F,
+    log: &F::File,
+    standing: Option<Look>,
+    text: &str,
+) -> io::Result<()>
+    ensures { OnOk result
+        (TakesRights standing text.now (F.steps folder.old) (F.steps folder.new)) }
+{
+    if let Some(like) = standing {
+        return take_mode(folder, log, like);
+    }
+    match folder.follow(text)?.found {
+        Some(like) => take_mode(folder, log, like),
+        None => folder.set_mode(log, OWN),
+    }
 }

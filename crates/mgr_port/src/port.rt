@@ -6,16 +6,18 @@ ghost use Rattle.mg_files.specs.Calls.{failures_after, failures_after_link};
 ghost use Rattle.mg_files.specs.declared.port.LinkFault.TheVariants.{NoPort};
 ghost use Rattle.mgr_port.specs.Logs.{raised};
 
-use crate::log::read;
 use crate::logs::Logs;
 use crate::names::Paths;
 use crate::note::Note;
-use crate::rewriting::{OpenLog, keep_refused, leave_next, make_next, name_next};
+use crate::rewriting::OpenLog;
+use crate::system::System;
+use crate::vacating::remove_open;
 use mg_files::{Found, LinkFault, LogLines, Port, PortFault};
 use rga_exchange::Counted;
 use rga_ops::{OutOfMemory, of_io};
 use std::fs::File;
 use std::io;
+use std::io::Read;
 use std::net::{
     Ipv4Addr, Net, OpenListener, OpenStream, Shutdown, SocketAddrV4, TcpListener, TcpStream,
 };
@@ -34,13 +36,13 @@ pub struct FilePort<R: Files<File = File> + Net + AllocGlobal + Drop> {
     rt: R,
     number: Option<u16>,
     failures: u64,
-    notes: Vec<Note>,
+    notes: Vec<Note<File>>,
 }
 
 impl<R: Files<File = File> + Net + AllocGlobal + Drop> Drop for FilePort<R> {
     fn drop(self) {
         for note in &self.notes {
-            note.leave(&self.rt);
+            note.leave(&mut System { rt: &self.rt });
         }
         let FilePort {
             rt: _,
@@ -106,7 +108,7 @@ fn failures_with(failures: u64, more: u64) -> u64
 /// The index of the note of a name, which need not be loaded.
 fn index_of<R: Files<File = File> + AllocGlobal>(
     rt: &R,
-    notes: &mut Vec<Note>,
+    notes: &mut Vec<Note<File>>,
     name: &str,
 ) -> Result<usize, OutOfMemory>
     ensures { IfOk result (λ i. i < length notes.new.items) }
@@ -125,7 +127,7 @@ fn index_of<R: Files<File = File> + AllocGlobal>(
 
 /// Closes the files whose names texts took. It is done where a peer is awaited, since it may take as
 /// long as a sync.
-fn close_replaced(notes: &mut Vec<Note>) {
+fn close_replaced(notes: &mut Vec<Note<File>>) {
     for note in notes.iter_mut() {
         note.close_replaced();
     }
@@ -142,7 +144,7 @@ fn own_address(number: u16) -> SocketAddrV4
 /// The first peer that connects at a number, and no other. While none is there yet, files are closed.
 fn await_peer<R: Files<File = File> + Net>(
     rt: &R,
-    notes: &mut Vec<Note>,
+    notes: &mut Vec<Note<File>>,
     number: u16,
 ) -> io::Result<R::Stream> {
     let listener = TcpListener::bind(rt, own_address(number))?;
@@ -173,7 +175,8 @@ impl<R: Files<File = File> + Net + AllocGlobal + Drop> Port for FilePort<R> {
         ensures number { self.new.number ≡ self.old.number }
     {
         let index = index_of(&self.rt, &mut self.notes, name)?;
-        let found = self.notes[index].load(&self.rt);
+        let alloc = self.rt.alloc();
+        let found = self.notes[index].load(&mut System { rt: &self.rt }, alloc);
         told(&mut self.failures, found)
     }
 
@@ -184,7 +187,8 @@ impl<R: Files<File = File> + Net + AllocGlobal + Drop> Port for FilePort<R> {
         ensures number { self.new.number ≡ self.old.number }
     {
         let index = index_of(&self.rt, &mut self.notes, name)?;
-        let answer = self.notes[index].append(&self.rt, lines);
+        let alloc = self.rt.alloc();
+        let answer = self.notes[index].append(&mut System { rt: &self.rt }, alloc, lines);
         told(&mut self.failures, answer)
     }
 
@@ -195,7 +199,8 @@ impl<R: Files<File = File> + Net + AllocGlobal + Drop> Port for FilePort<R> {
         ensures number { self.new.number ≡ self.old.number }
     {
         let index = index_of(&self.rt, &mut self.notes, name)?;
-        let answer = self.notes[index].replace(&self.rt, lines);
+        let alloc = self.rt.alloc();
+        let answer = self.notes[index].replace(&mut System { rt: &self.rt }, alloc, lines);
         told(&mut self.failures, answer)
     }
 
@@ -206,7 +211,8 @@ impl<R: Files<File = File> + Net + AllocGlobal + Drop> Port for FilePort<R> {
         ensures number { self.new.number ≡ self.old.number }
     {
         let index = index_of(&self.rt, &mut self.notes, name)?;
-        let answer = self.notes[index].put_text(&self.rt, bytes);
+        let alloc = self.rt.alloc();
+        let answer = self.notes[index].put_text(&mut System { rt: &self.rt }, alloc, bytes);
         told(&mut self.failures, answer)
     }
 
@@ -258,7 +264,7 @@ impl<R: Files<File = File> + Net + AllocGlobal + Drop> Logs for FilePort<R> {
     ghost use Rattle.mg_files.specs.Calls.{failures_after};
     ghost use Rattle.mgr_port.specs.Logs.{raised};
 
-    type Log = OpenLog;
+    type Log = OpenLog<File>;
 
     type Next = File;
 
@@ -269,14 +275,17 @@ impl<R: Files<File = File> + Net + AllocGlobal + Drop> Logs for FilePort<R> {
     ghost failures = { λ p. p.failures };
 
     /// A log that may not be written is refused.
-    fn open_log(&mut self, name: &str) -> Result<OpenLog, PortFault> {
-        let opened = OpenLog::open(&self.rt, name);
+    fn open_log(&mut self, name: &str) -> Result<OpenLog<File>, PortFault> {
+        let paths = Paths::new(&self.rt, name)?;
+        let opened = OpenLog::at(&mut System { rt: &self.rt }, paths.log.as_str());
         told(&mut self.failures, opened)
     }
 
-    fn read_log(&mut self, log: &mut OpenLog) -> Result<Vec<u8>, PortFault> {
-        let bytes = read(&self.rt, log);
-        told(&mut self.failures, bytes)
+    fn read_log(&mut self, log: &mut OpenLog<File>) -> Result<Vec<u8>, PortFault> {
+        let mut bytes = Vec::new(self.rt.alloc());
+        let read = log.read_to_end(&mut bytes);
+        told(&mut self.failures, read)?;
+        Ok(bytes)
     }
 
     /// They stand under the name of the log with `.refused` behind it, each time on lines of their
@@ -284,22 +293,26 @@ impl<R: Files<File = File> + Net + AllocGlobal + Drop> Logs for FilePort<R> {
     fn keep_refused(
         &mut self,
         name: &str,
-        log: &mut OpenLog,
+        log: &mut OpenLog<File>,
         bytes: &[u8],
     ) -> Result<(), PortFault> {
-        let kept = keep_refused(&self.rt, name, log, bytes);
+        let path = Paths::new(&self.rt, name)?.refused(self.rt.alloc())?;
+        let kept = log.keep_refused(&mut System { rt: &self.rt }, path.as_str(), bytes);
         told(&mut self.failures, kept)
     }
 
-    fn make_next(&mut self, name: &str, log: &OpenLog) -> Result<File, PortFault> {
-        let made = make_next(&self.rt, name, log);
+    fn make_next(&mut self, name: &str, log: &OpenLog<File>) -> Result<File, PortFault> {
+        let paths = Paths::new(&self.rt, name)?;
+        let alloc = self.rt.alloc();
+        let path = paths.next_log.as_str();
+        let made = log.make_next(&mut System { rt: &self.rt }, alloc, path);
         told(&mut self.failures, made)
     }
 
     fn name_next(
         &mut self,
         name: &str,
-        log: Counted<OpenLog>,
+        log: Counted<OpenLog<File>>,
         next: Counted<File>,
     ) -> Result<(), PortFault>
         ensures device { self.new.failures ≡ failures_after result
@@ -307,16 +320,22 @@ impl<R: Files<File = File> + Net + AllocGlobal + Drop> Logs for FilePort<R> {
     {
         self.failures = failures_with(self.failures, log.failures());
         self.failures = failures_with(self.failures, next.failures());
-        let named = name_next(&self.rt, name, &log.into_inner(), next.into_inner());
+        let paths = Paths::new(&self.rt, name)?;
+        let alloc = self.rt.alloc();
+        let (log, next) = (log.into_inner(), next.into_inner());
+        let named = log.name_next(&mut System { rt: &self.rt }, alloc, &paths, next);
         told(&mut self.failures, named)
     }
 
-    fn leave_next(&mut self, name: &str, log: Counted<OpenLog>, next: Counted<File>)
+    fn leave_next(&mut self, name: &str, log: Counted<OpenLog<File>>, next: Counted<File>)
         ensures device { self.new.failures
             ≡ raised (raised self.old.failures log.failures) next.failures }
     {
         self.failures = failures_with(self.failures, log.failures());
         self.failures = failures_with(self.failures, next.failures());
-        leave_next(&self.rt, name, &next.into_inner());
+        if let Ok(paths) = Paths::new(&self.rt, name) {
+            let folder = &mut System { rt: &self.rt };
+            let _ = remove_open(folder, paths.next_log.as_str(), &next.into_inner());
+        }
     }
 }

@@ -4,7 +4,7 @@ ghost use Rattle.mgr_port.specs.declared.spare.Loss.TheVariants as Loss;
 ghost use Rattle.mgr_port.specs.declared.spare.Reason.TheVariants as Reason;
 ghost use Rattle.mgr_port.specs.Spares.{IsFor, IsNoFile, IsNothing, IsOfFile, IsOneOfMore, path_of};
 
-use crate::stamp::Stamp;
+use crate::stamp::{Stamp, Time};
 use std::fs::Metadata;
 use std::os::unix::fs::MetadataExt;
 
@@ -16,14 +16,68 @@ pub struct Look {
     /// How many names it has.
     pub names: u64,
     pub stamp: Stamp,
+    /// When anything of it was changed last, its date too.
+    pub(crate) touched: Time,
+    pub(crate) mode: u32,
+    pub(crate) owner: Owner,
+}
+
+/// Whose a file is.
+#[derive(Clone, Copy, PartialEq, Eq)]
+pub struct Owner {
+    pub(crate) user: u32,
+    pub(crate) group: u32,
 }
 
 impl Look {
+    /// At a file of the first device by its number there, which was never changed, may be used by
+    /// nobody, and is the first user's.
+    pub fn of_file(is_plain: bool, names: u64, inode: u64, length: u64) -> Look
+        ensures kind { result.is_plain ≡ is_plain }
+        ensures names { result.names ≡ names }
+        ensures length { result.stamp.length ≡ length }
+    {
+        let never = Time {
+            seconds: 0,
+            nanos: 0,
+        };
+        Look {
+            is_plain,
+            names,
+            stamp: Stamp {
+                device: 0,
+                inode,
+                length,
+                changed: never,
+            },
+            touched: never,
+            mode: 0,
+            owner: Owner { user: 0, group: 0 },
+        }
+    }
+
     pub(crate) fn of(metadata: &Metadata) -> Look {
         Look {
             is_plain: metadata.is_file(),
             names: metadata.nlink(),
-            stamp: Stamp::of(metadata),
+            stamp: Stamp {
+                device: metadata.dev(),
+                inode: metadata.ino(),
+                length: metadata.len(),
+                changed: Time {
+                    seconds: metadata.mtime(),
+                    nanos: metadata.mtime_nsec(),
+                },
+            },
+            touched: Time {
+                seconds: metadata.ctime(),
+                nanos: metadata.ctime_nsec(),
+            },
+            mode: metadata.mode(),
+            owner: Owner {
+                user: metadata.uid(),
+                group: metadata.gid(),
+            },
         }
     }
 }

@@ -1,57 +1,33 @@
 //! Which file a name stands for, and whether it is as it was left.
 ghost use Rattle.std.specs.Prelude.{◌≡◌, ◌⊎◌, ◌↔◌, true};
-ghost use Rattle.mgr_port.specs.Verdicts.{AreOfOneFile, WasGiven};
+ghost use Rattle.mgr_port.specs.Verdicts.{AreOfOneFile, IsDatedBy, IsLater, WasGiven};
 
-use std::fs::Metadata;
-use std::os::unix::fs::MetadataExt;
+use crate::spare::Look;
 
 /// By how many nanoseconds this port dates a text later than its log: the finest step of the file
 /// systems that keep parts of seconds.
 pub(crate) const LATER: u64 = 100;
 
-/// The nanoseconds of a second.
-const SECOND: i64 = 1_000_000_000;
+/// From so many nanoseconds on a tick later is in the next second.
+const LAST_TICK: i64 = 999_999_900;
 
 /// A file as it was when it was last read or written.
 #[derive(Clone, Copy, PartialEq, Eq)]
 pub struct Stamp {
-    device: u64,
-    inode: u64,
+    pub(crate) device: u64,
+    pub(crate) inode: u64,
     pub(crate) length: u64,
-    changed: Time,
+    pub(crate) changed: Time,
 }
 
 /// Seconds and nanoseconds.
 #[derive(Clone, Copy, PartialEq, Eq)]
-struct Time {
-    seconds: i64,
-    nanos: i64,
+pub struct Time {
+    pub(crate) seconds: i64,
+    pub(crate) nanos: i64,
 }
 
 impl Stamp {
-    /// That of a file by its number on the first device, changed so many seconds after the start of
-    /// 1970.
-    pub fn of_file(inode: u64, length: u64, seconds: i64) -> Stamp {
-        Stamp {
-            device: 0,
-            inode,
-            length,
-            changed: Time { seconds, nanos: 0 },
-        }
-    }
-
-    pub(crate) fn of(metadata: &Metadata) -> Stamp {
-        Stamp {
-            device: metadata.dev(),
-            inode: metadata.ino(),
-            length: metadata.len(),
-            changed: Time {
-                seconds: metadata.mtime(),
-                nanos: metadata.mtime_nsec(),
-            },
-        }
-    }
-
     /// Whether both are of one file, whatever stands in it.
     pub(crate) fn is_of_the_file(&self, other: &Stamp) -> bool
         ensures { (result ≡ true) ↔ AreOfOneFile self.now other.now }
@@ -64,13 +40,10 @@ impl Stamp {
 /// (`touch -r`). A checkout that writes both within a tick of the clock gives them one time too. But
 /// what is dated was changed later than its date says, and whole seconds are no sign: archives give
 /// them to many files.
-pub(crate) fn is_dated_by(text: &Metadata, log: &Stamp) -> bool {
-    let changed = Stamp::of(text).changed;
-    let touched = Time {
-        seconds: text.ctime(),
-        nanos: text.ctime_nsec(),
-    };
-    is_dated(changed, touched, log.changed, log.changed.later())
+pub(crate) fn is_dated_by(text: Look, log: Time) -> bool
+    ensures { result ≡ true → IsDatedBy text log }
+{
+    is_dated(text.stamp.changed, text.touched, log, log.later())
 }
 
 /// The same, by when the text was changed, when anything of its file was, its date too, when the log
@@ -92,14 +65,18 @@ fn is_dated(changed: Time, touched: Time, log: Time, put: Time) -> bool
 
 impl Time {
     /// Later by what this port dates a text later.
-    fn later(self) -> Time {
-        let nanos = self.nanos.saturating_add(LATER as i64);
-        if nanos < SECOND {
-            return Time { nanos, ..self };
+    fn later(self) -> Time
+        ensures { IsLater self result }
+    {
+        if self.nanos < LAST_TICK {
+            return Time {
+                nanos: self.nanos + 100,
+                ..self
+            };
         }
         Time {
             seconds: self.seconds.saturating_add(1),
-            nanos: nanos - SECOND,
+            nanos: self.nanos - LAST_TICK,
         }
     }
 }

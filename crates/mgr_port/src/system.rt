@@ -3,15 +3,18 @@ ghost use Rattle.std.specs.Prelude.{◌≡◌, ◌↔◌, Err, IfOk};
 ghost use Rattle.std.specs.declared.fs.TryLockError.TheVariants.{WouldBlock};
 ghost use Rattle.mgr_port.specs.declared.folder.Lock.TheVariants as Lock;
 
-use crate::files::{OWN, sync_folder, write_lines};
+use crate::files::OWN;
 use crate::folder::{Folder, Lock, Opening};
-use crate::log::{End, LeftLog, ends_in_a_newline};
-use crate::spare::{Look, Spare, Standing};
+use crate::log::{END, End, LeftLog};
+use crate::patient::Patient;
+use crate::spare::{Look, Owner, Spare, Standing};
 use mg_files::LogLines;
-use std::fs::{File, Metadata, OpenOptions, TryLockError};
-use std::io::{ErrorKind, Write};
-use std::os::unix::fs::OpenOptionsExt;
+use rga_exchange::{Counted, SendFault};
+use std::fs::{File, Metadata, OpenOptions, Permissions, TryLockError};
+use std::io::{ErrorKind, Read, Write};
+use std::os::unix::fs::{FileExt, OpenOptionsExt, PermissionsExt, fchown};
 use std::rt::Files;
+use std::time::Duration;
 use std::{fs, io};
 
 /// The folders of the machine. They tell no steps: what a file keeps, no clause can name.
@@ -66,19 +69,13 @@ impl<'r, R: Files<File = File> + AllocGlobal> Folder for System<'r, R> {
 
     fn open(&mut self, path: &str, opening: Opening) -> io::Result<File> {
         let mut options = OpenOptions::new();
-        options.read(true);
         match opening {
-            Opening::Read => {}
-            Opening::Add => {
-                options.append(true);
-            }
-            Opening::Beside => {
-                options.append(true).create(true).mode(OWN);
-            }
-            Opening::New(mode) => {
-                options.write(true).create_new(true).mode(mode);
-            }
-        }
+            Opening::Read => options.read(true),
+            Opening::Write => options.write(true),
+            Opening::Add => options.read(true).append(true),
+            Opening::Beside => options.read(true).append(true).create(true).mode(OWN),
+            Opening::New(mode) => options.read(true).write(true).create_new(true).mode(mode),
+        };
         options.open(self.rt, path)
     }
 
@@ -87,11 +84,24 @@ impl<'r, R: Files<File = File> + AllocGlobal> Folder for System<'r, R> {
     }
 
     fn end_of(&mut self, file: &File, length: u64) -> io::Result<Option<End>> {
-        Ok(End::of(file, length).ok())
+        let mut bytes = [0u8; END];
+        let count = length.min(END as u64) as usize;
+        let from = length.saturating_sub(END as u64);
+        match file.read_exact_at(&mut bytes[..count], from) {
+            Ok(()) => Ok(Some(End {
+                bytes,
+                length: count,
+            })),
+            Err(_) => Ok(None),
+        }
     }
 
     fn ends_in_newline(&mut self, file: &File, length: u64) -> io::Result<bool> {
-        Ok(ends_in_a_newline(file, length).unwrap_or(false))
+        let mut last = [0u8; 1];
+        match file.read_exact_at(&mut last, length.saturating_sub(1)) {
+            Ok(()) => Ok(last[0] == b'\n'),
+            Err(_) => Ok(false),
+        }
     }
 
     fn add_lines(
@@ -101,11 +111,62 @@ impl<'r, R: Files<File = File> + AllocGlobal> Folder for System<'r, R> {
         _left: &LeftLog,
         lines: &LogLines,
     ) -> io::Result<()> {
-        write_lines(log, lines)
+        self.write_lines(log, lines)
+    }
+
+    fn empty(&mut self, file: &File) -> io::Result<()> {
+        file.set_len(0)
+    }
+
+    fn write(&mut self, file: &mut File, bytes: &[u8]) -> io::Result<()> {
+        file.write_all(bytes)
+    }
+
+    /// Where memory is wanting, nothing is written.
+    fn write_lines(&mut self, file: &mut File, lines: &LogLines) -> io::Result<()> {
+        let mut writer = Counted::new(Patient::new(file));
+        let written = lines.write_to(&mut writer);
+        let failed = writer.into_inner().failed;
+        match written {
+            Ok(()) => Ok(()),
+            Err(SendFault::Write) => Err(io::Error::from(failed.unwrap_or(ErrorKind::Other))),
+            Err(SendFault::Memory(memory)) => Err(io::Error::from(memory)),
+        }
+    }
+
+    fn set_mode(&mut self, file: &File, mode: u32) -> io::Result<()> {
+        file.set_permissions(Permissions::from_mode(mode & 0o7777))
+    }
+
+    fn give_to(&mut self, file: &File, owner: Owner) -> io::Result<()> {
+        fchown(file, Some(owner.user), Some(owner.group))
+    }
+
+    fn date(&mut self, file: &File, of: &File, later: u64) -> io::Result<()> {
+        let changed = of.metadata()?.modified()?;
+        match changed.checked_add(Duration::from_nanos(later)) {
+            Some(time) => file.set_modified(time),
+            None => Err(io::Error::from(ErrorKind::InvalidInput)),
+        }
     }
 
     fn sync(&mut self, file: &File) -> io::Result<()> {
         file.sync_all()
+    }
+
+    fn sync_folder(&mut self, path: &str) -> io::Result<()> {
+        let folder = match path.rsplit_once('/') {
+            Some(("", _)) => "/",
+            Some((folder, _)) => folder,
+            None => ".",
+        };
+        fs::open(self.rt, folder)?.sync_all()
+    }
+
+    fn read_all(&mut self, file: &mut File) -> io::Result<Vec<u8>> {
+        let mut bytes = Vec::new(self.rt.alloc());
+        file.read_to_end(&mut bytes)?;
+        Ok(bytes)
     }
 
     fn read(&mut self, path: &str) -> io::Result<Vec<u8>> {
@@ -117,12 +178,10 @@ impl<'r, R: Files<File = File> + AllocGlobal> Folder for System<'r, R> {
     }
 
     fn make(&mut self, name: &str, bytes: &[u8]) -> io::Result<()> {
-        let mut options = OpenOptions::new();
-        options.write(true).create_new(true).mode(OWN);
-        let mut file = options.open(self.rt, name)?;
-        file.write_all(bytes)?;
-        file.sync_all()?;
-        sync_folder(self.rt, name)
+        let mut file = self.open(name, Opening::New(OWN))?;
+        self.write(&mut file, bytes)?;
+        self.sync(&file)?;
+        self.sync_folder(name)
     }
 
     fn remove(&mut self, spare: Spare<'_>) -> io::Result<()> {

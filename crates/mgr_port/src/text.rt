@@ -1,25 +1,21 @@
 //! A text, as this port found and left it.
-ghost use Rattle.std.specs.Prelude.{◌≡◌, None, Some, IfOk, IfSome, true, false, if◌then◌else◌};
-ghost use Rattle.mgr_port.specs.declared.text.Way.TheVariants as Way;
+ghost use Rattle.std.specs.Prelude.{◌≡◌, ◌≤◌, None, IfOk, IfSome, OnOk, string_bytes};
 ghost use Rattle.mgr_port.specs.Locks.{IsOwnRead};
-ghost use Rattle.mgr_port.specs.Spares.{MayBeOverwritten};
+ghost use Rattle.mgr_port.specs.Texts.{IsOwnBeside, MakesLike, MakesNextText, NamesText, PutsBeside, PutsInPlace, PutsText};
 
-use crate::disk::{Named, put_whole};
-use crate::files::{check_writable, plain_if_there, set_mode, take_owner};
-use crate::folder::Folder;
-use crate::keeping::{Keeping, keep, remove_open, spare_for};
-use crate::locking::{check_lock, make_beside, open_again};
-use crate::log::Log;
+use crate::files::{plain_if_there, take_owner};
+use crate::folder::{Folder, Opening};
+use crate::keeping::Keeping;
+use crate::locking::{check_lock, open_again};
+use crate::log::{LeftLog, Log};
 use crate::names::Paths;
-use crate::spare::Spare;
-use crate::staged::{Date, Old, Staged, remove_next, sync_dated};
-use crate::stamp::{Stamp, is_dated_by};
-use crate::system::System;
-use std::fs::{File, Metadata};
-use std::io::{ErrorKind, Write};
-use std::os::unix::fs::MetadataExt;
-use std::rt::Files;
-use std::{fs, io};
+use crate::spare::Look;
+use crate::staged::{Named, Old, Staged, put_whole, spare_text, sync_dated};
+use crate::stamp::{LATER, Stamp, is_dated_by};
+use crate::vacating::{make_beside, remove_open};
+use std::alloc::Global;
+use std::io;
+use std::io::ErrorKind;
 
 /// A text that is made gets the permissions that the user's mask leaves of these.
 const ALL: u32 = 0o666;
@@ -38,7 +34,9 @@ pub(crate) struct Text<T> {
 
 impl<T: Drop> Text<T> {
     /// A text of which nothing was read and nothing is locked.
-    pub(crate) fn new() -> Text<T> {
+    pub(crate) fn new() -> Text<T>
+        ensures { result.own ≡ None }
+    {
         Text {
             file: None,
             own: None,
@@ -72,19 +70,20 @@ impl<T: Drop> Text<T> {
             Err(error) => Err(error),
         }
     }
-}
 
-impl Text<File> {
     /// Locks the text beside a log that was read, where it is there. `WouldBlock` where something else
     /// has it locked; else it need not be readable. It is this port's own where it was put beside this
     /// log; else it is read, and stays what another program left.
-    pub(crate) fn take_beside<R: Files<File = File> + AllocGlobal>(
+    pub(crate) fn take_beside<F: Folder<File = T>>(
         &mut self,
-        rt: &R,
+        folder: &mut F,
         path: &str,
-        log: &Log<File>,
-    ) -> io::Result<Option<Vec<u8>>> {
-        match open_again(&mut System { rt }, path, false) {
+        log: LeftLog,
+    ) -> io::Result<Option<Vec<u8>>>
+        ensures { IfOk result (IsOwnBeside path.now log.stamp self.old.own self.new.own
+            (F.steps folder.new)) }
+    {
+        match open_again(folder, path, false) {
             Ok(file) => self.file = file,
             Err(error) if error.kind() == ErrorKind::WouldBlock => return Err(error),
             Err(_) => return Ok(None),
@@ -92,12 +91,12 @@ impl Text<File> {
         let Some(file) = &self.file else {
             return Ok(None);
         };
-        let found = file.metadata()?;
-        if is_dated_by(&found, &log.left.stamp) {
-            self.own = Some(Stamp::of(&found));
+        let look = folder.look_at(file)?;
+        if is_dated_by(look, log.stamp.changed) {
+            self.own = Some(look.stamp);
             return Ok(None);
         }
-        match fs::read(rt, path) {
+        match folder.read(path) {
             Ok(bytes) => Ok(Some(bytes)),
             Err(error) if error.kind() == ErrorKind::OutOfMemory => Err(error),
             Err(_) => Ok(None),
@@ -107,31 +106,32 @@ impl Text<File> {
     /// Makes these bytes the text, beside a log. What stands there is kept, unless this port read it
     /// or put it, or it is the same; it is refused where it is no plain file, or may not be written.
     /// The file whose name the text takes stays open as `replaced`, until the next call.
-    pub(crate) fn put<R: Files<File = File> + AllocGlobal>(
+    pub(crate) fn put<F: Folder<File = T>>(
         &mut self,
-        rt: &R,
+        folder: &mut F,
+        alloc: Global,
         paths: &Paths,
         bytes: &[u8],
-        log: &Option<Log<File>>,
-    ) -> io::Result<()> {
+        log: Option<&T>,
+    ) -> io::Result<()>
+        ensures { OnOk result (PutsText (string_bytes paths.now.next_text)
+            (string_bytes paths.now.text) bytes.now self.old.own self.new.own
+            (F.steps folder.new)) }
+    {
         self.replaced = None;
         let path = paths.text.as_str();
-        let there = plain_if_there(rt, path)?;
+        let there = plain_if_there(folder, path)?;
         if there.is_some() {
-            check_writable(rt, path)?;
+            drop(folder.open(path, Opening::Write)?);
         }
-        let text = NextText {
-            bytes,
-            date: log.as_ref().map(|log| log.date()),
-            own: self.own,
+        let next = make_next(folder, alloc, paths, there.is_some())?;
+        let Some(next) = next else {
+            return self.put_in_place(folder, alloc, path, bytes, log);
         };
-        let Some(next) = make_next(rt, paths, &there)? else {
-            return self.put_in_place(rt, path, text);
-        };
-        match self.put_beside(rt, paths, next, text) {
+        match self.put_beside(folder, alloc, paths, next, bytes, log) {
             // A file that is mounted by itself does not give up its name.
             Err(error) if error.kind() == ErrorKind::ResourceBusy => {
-                self.put_in_place(rt, path, text)
+                self.put_in_place(folder, alloc, path, bytes, log)
             }
             answer => answer,
         }
@@ -139,155 +139,125 @@ impl Text<File> {
 
     /// Writes a new file, and gives it the text's name. It is locked before. Where that fails, there is
     /// no file beside any more.
-    fn put_beside<R: Files<File = File> + AllocGlobal>(
+    fn put_beside<F: Folder<File = T>>(
         &mut self,
-        rt: &R,
+        folder: &mut F,
+        alloc: Global,
         paths: &Paths,
-        mut next: File,
-        text: NextText<'_>,
-    ) -> io::Result<()> {
-        let named = match name_next(rt, paths, &mut next, text) {
+        mut next: T,
+        bytes: &[u8],
+        log: Option<&T>,
+    ) -> io::Result<()>
+        ensures { OnOk result (PutsBeside (string_bytes paths.now.next_text)
+            (string_bytes paths.now.text) bytes.now self.old.own self.new.own
+            (F.steps folder.old) (F.steps folder.new)) }
+    {
+        let answer = name_next(folder, alloc, paths, &mut next, self.own, bytes, log);
+        let named = match answer {
             Ok(named) => named,
             Err(error) => {
-                remove_next(rt, paths.next_text.as_str(), &next);
+                let _ = remove_open(folder, paths.next_text.as_str(), &next);
                 return Err(error);
             }
         };
-        self.own = Some(Stamp::of(&next.metadata()?));
+        self.own = Some(folder.look_at(&next)?.stamp);
         self.replaced = self.file.take();
         self.file = Some(next);
         named.settled()
     }
 
     /// Writes the text where it stands, once that is kept where anything of it would be lost.
-    fn put_in_place<R: Files<File = File> + AllocGlobal>(
+    fn put_in_place<F: Folder<File = T>>(
         &mut self,
-        rt: &R,
+        folder: &mut F,
+        alloc: Global,
         path: &str,
-        text: NextText<'_>,
-    ) -> io::Result<()> {
-        let folder = &mut System { rt };
-        let spare = match text.spare(folder, path)? {
-            Some(spare) => spare,
-            None => keep(folder, rt.alloc(), path, Keeping::ByCopy)?,
-        };
+        bytes: &[u8],
+        log: Option<&T>,
+    ) -> io::Result<()>
+        ensures { OnOk result (PutsInPlace path.now bytes.now self.old.own self.new.own
+            (F.steps folder.old) (F.steps folder.new)) }
+    {
+        let spare = spare_text(folder, alloc, path, self.own, bytes, Keeping::ByCopy)?;
         let mut file = folder.overwrite(spare)?;
-        file.write_all(text.bytes)?;
-        sync_dated(&file, text.date)?;
-        self.own = Some(Stamp::of(&file.metadata()?));
+        folder.write(&mut file, bytes)?;
+        sync_dated(folder, &file, log, Some(LATER))?;
+        self.own = Some(folder.look_at(&file)?.stamp);
         Ok(())
     }
 }
 
-/// A text that is to take a name, beside a log.
-#[derive(Clone, Copy)]
-pub(crate) struct NextText<'a> {
-    bytes: &'a [u8],
-    date: Option<Date<'a>>,
-    /// What stood under the name when this port read it or put it.
-    own: Option<Stamp>,
-}
-
-impl<'a> NextText<'a> {
-    /// The path, if nothing is lost where this text takes its place.
-    pub(crate) fn spare<'p, F: Folder>(
-        &self,
-        folder: &mut F,
-        path: &'p str,
-    ) -> io::Result<Option<Spare<'p>>>
-        ensures { IfOk result (λ o. IfSome o MayBeOverwritten) }
-    {
-        spare_for(folder, path, self.own, self.bytes)
-    }
-}
-
 /// Locks the next text, writes all of it, and gives it the text's name.
-fn name_next<'a, R: Files<File = File> + AllocGlobal>(
-    rt: &'a R,
-    paths: &'a Paths,
-    next: &'a mut File,
-    text: NextText<'a>,
-) -> io::Result<Named> {
-    check_lock(System { rt }.lock(next)?)?;
-    let mut staged = Staged {
-        rt,
-        file: next,
+fn name_next<F: Folder>(
+    folder: &mut F,
+    alloc: Global,
+    paths: &Paths,
+    next: &mut F::File,
+    own: Option<Stamp>,
+    bytes: &[u8],
+    log: Option<&F::File>,
+) -> io::Result<Named>
+    ensures { IfOk result (NamesText (string_bytes paths.now.next_text)
+        (string_bytes paths.now.text) bytes.now own (F.steps folder.old) (F.steps folder.new)) }
+{
+    check_lock(folder.lock(next)?)?;
+    let staged = Staged {
         path: paths.next_text.as_str(),
         name: paths.text.as_str(),
-        date: text.date,
-        old: Old::Text(text),
-        spare: None,
+        later: Some(LATER),
+        old: Old::Text(own, bytes),
     };
-    put_whole(&mut staged, text.bytes, true)
+    put_whole(folder, alloc, next, log, staged, bytes)
 }
 
 /// A new file for a text, with its mode, owner and group; none where the text has to be written in
-/// place: a link, a file whose owner can't be kept, and one in a folder that takes no new file.
-fn make_next<R: Files<File = File> + AllocGlobal>(
-    rt: &R,
+/// place: a link, which stays one, a file whose owner can't be kept, and one in a folder that takes no
+/// new file.
+fn make_next<F: Folder>(
+    folder: &mut F,
+    alloc: Global,
     paths: &Paths,
-    there: &Option<Metadata>,
-) -> io::Result<Option<File>> {
-    let path = paths.next_text.as_str();
-    let standing = match fs::symlink_metadata(rt, paths.text.as_str()) {
-        Ok(standing) => Some(standing),
-        Err(error) if error.kind() == ErrorKind::NotFound => None,
-        Err(error) => return Err(error),
-    };
-    let is_plain = standing.as_ref().map(|standing| standing.is_file());
-    match (way_of(is_plain, there.is_some()), standing) {
-        (Way::New, _) => Ok(Some(make_beside(&mut System { rt }, rt.alloc(), path, ALL)?)),
-        (Way::Like, Some(standing)) => make_like(rt, path, &standing),
-        _ => Ok(None),
-    }
-}
-
-/// How a text comes under a name.
-#[derive(Clone, Copy, PartialEq, Eq)]
-enum Way {
-    /// As a new file, where there is none.
-    New,
-    /// As a new file, with the mode, the owner and the group of the one that is there.
-    Like,
-    /// Into the file that is there.
-    InPlace,
-}
-
-/// How a text comes under a name: by whether what stands there itself is a plain file, if anything
-/// does, and by whether a file is there, be it behind a link. A link stays one.
-fn way_of(is_plain: Option<bool>, is_there: bool) -> Way
-    ensures new { is_plain ≡ None → result ≡ Way.New }
-    ensures link { is_plain ≡ Some false → result ≡ Way.InPlace }
-    ensures plain { is_plain ≡ Some true → result ≡ (if is_there then Way.Like else Way.InPlace) }
+    is_there: bool,
+) -> io::Result<Option<F::File>>
+    ensures { IfOk result (λ o. IfSome o (λ _. MakesNextText (string_bytes paths.now.next_text)
+        (string_bytes paths.now.text) is_there (F.steps folder.old) (F.steps folder.new))) }
 {
-    match is_plain {
-        None => Way::New,
-        Some(is_plain) if is_plain && is_there => Way::Like,
-        Some(_) => Way::InPlace,
+    let path = paths.next_text.as_str();
+    match folder.look(paths.text.as_str())?.found {
+        None => Ok(Some(make_beside(folder, alloc, path, ALL)?)),
+        Some(look) if look.is_plain && is_there => make_like(folder, alloc, path, look),
+        Some(_) => Ok(None),
     }
 }
 
 /// A new file of a path, with the mode, the owner and the group of a text; none where it can't be had.
-fn make_like<R: Files<File = File> + AllocGlobal>(
-    rt: &R,
+fn make_like<F: Folder>(
+    folder: &mut F,
+    alloc: Global,
     path: &str,
-    standing: &Metadata,
-) -> io::Result<Option<File>> {
-    let Ok(next) = make_beside(&mut System { rt }, rt.alloc(), path, 0) else {
-        return only_name(standing);
+    like: Look,
+) -> io::Result<Option<F::File>>
+    ensures { IfOk result (λ o. IfSome o (λ _.
+        MakesLike path.now like (F.steps folder.old) (F.steps folder.new))) }
+{
+    let Ok(next) = make_beside(folder, alloc, path, 0) else {
+        return only_name(like);
     };
-    if !take_owner(&next, standing)? {
-        remove_open(&mut System { rt }, path, &next)?;
-        return only_name(standing);
+    if !take_owner(folder, &next, like.owner)? {
+        remove_open(folder, path, &next)?;
+        return only_name(like);
     }
-    set_mode(&next, standing.mode())?;
+    folder.set_mode(&next, like.mode)?;
     Ok(Some(next))
 }
 
 /// No new file; an error where the text is kept under another name too, which writing in place would
 /// change as well.
-fn only_name(standing: &Metadata) -> io::Result<Option<File>> {
-    if standing.nlink() > 1 {
+fn only_name<T: Drop>(like: Look) -> io::Result<Option<T>>
+    ensures exact { OnOk result (like.names ≤ 1) }
+    ensures none { IfOk result (λ o. o ≡ None) }
+{
+    if like.names > 1 {
         return Err(io::Error::from(ErrorKind::PermissionDenied));
     }
     Ok(None)

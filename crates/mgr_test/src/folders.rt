@@ -1,6 +1,7 @@
 //! Paths of a folder in memory that go, are given to other files, and are opened.
 use mgr_port::{
-    Keeping, give_free_name, keep, make_way, open_locked, remove_open, spare_for, take_beside,
+    Keeping, Named, Old, Staged, give_free_name, keep, make_way, open_locked, put_whole,
+    remove_open, spare_for, take_beside,
 };
 use std::alloc::{AllocError, Global};
 use std::io;
@@ -117,6 +118,10 @@ enum Act {
     RemoveOpen,
     OpenLocked,
     TakeBeside,
+    /// The first file becomes `note`, with `text` in it, where nothing was.
+    PutFirst,
+    /// The same, where something was.
+    PutNext,
 }
 
 /// Does that, and says what was answered.
@@ -127,7 +132,19 @@ fn answer_to(folder: &mut MemoryFiles, alloc: Global, act: Act) -> char {
         Act::RemoveOpen => letter(&remove_open(folder, "note", &0)),
         Act::OpenLocked => letter(&open_locked(folder, "note", true)),
         Act::TakeBeside => letter(&take_beside(folder, alloc, "note")),
+        Act::PutFirst => letter(&put(folder, alloc, Old::Nothing)),
+        Act::PutNext => letter(&put(folder, alloc, Old::Log)),
     }
+}
+
+fn put(folder: &mut MemoryFiles, alloc: Global, old: Old<'_>) -> io::Result<Named> {
+    let staged = Staged {
+        path: "name",
+        name: "note",
+        later: None,
+        old,
+    };
+    put_whole(folder, alloc, &mut 0, None, staged, b"text")
 }
 
 /// What is done, what stands before, what is answered, and names with what they have then, if
@@ -188,6 +205,24 @@ fn nothing_is_lost_by_a_path_that_goes(rt: HostRuntime) {
         (Act::OpenLocked, &[], '.', &[]),
         (Act::TakeBeside, &["note"], '.', &[("note~", "note")]),
         (Act::TakeBeside, &["|note"], '.', &[("note~", "")]),
+        (
+            Act::PutFirst,
+            &["name"],
+            '.',
+            &[("note", "text"), ("name", "")],
+        ),
+        (
+            Act::PutFirst,
+            &["name", "note"],
+            'a',
+            &[("note", "note"), ("name", "text")],
+        ),
+        (
+            Act::PutNext,
+            &["name", "note"],
+            '.',
+            &[("note", "text"), ("note~", "note"), ("name", "")],
+        ),
     ];
     for (index, row) in ROWS.iter().enumerate() {
         assert!(rt; does(rt.alloc(), row) == Ok(true), "{index}");

@@ -13,8 +13,6 @@ mod cuts;
 #[cfg(test)]
 mod devices;
 #[cfg(test)]
-mod disks;
-#[cfg(test)]
 mod folders;
 #[cfg(test)]
 mod joins;

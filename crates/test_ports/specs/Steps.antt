@@ -1,6 +1,6 @@
 -- The steps of a disk in memory, and the log over it.
-use Rattle.std.specs.Prelude.{ℕ, Bool, true, false, List, [], ◌∷◌, ◌++◌, Option, Some, None}
-use Rattle.mgr_port.specs.Disk.{DiskStep, Empties, Writes, Syncs, Keeps, TakesName, SyncsFolder, Removes}
+use Rattle.std.specs.Prelude.{◌≡◌, ℕ, Bool, true, false, List, [], ◌∷◌, ◌++◌, Option, Some, None, Result, Ok, Err}
+use Rattle.mgr_port.specs.Disk.{DiskStep, BeginsSteps, Empties, Writes, Syncs, Keeps, TakesName, SyncsFolder, Removes}
 use Rattle.mgr_port.specs.Logs.{Standing}
 use Rattle.test_ports.specs.declared.disk.StepKind.{StepKind}
 use Rattle.test_ports.specs.declared.disk.StepKind.TheVariants as kind
@@ -12,6 +12,17 @@ disk_step_of kind.Sync bytes = Syncs
 disk_step_of kind.Keep bytes = Keeps
 disk_step_of kind.TakeName bytes = TakesName
 disk_step_of kind.SyncFolder bytes = SyncsFolder
+
+-- a step was made, or failed and was not
+abbrev pub Does : {A E : Type 0} → Result A E → DiskStep → List DiskStep → List DiskStep → Type 0
+Does (Ok a) step old new = new ≡ old ++ step ∷ []
+Does (Err e) step old new = new ≡ old
+
+-- so far it went, of steps that all come before the file beside has the name
+pub record StopsBefore (old new wanted : List DiskStep) : Type 0 where
+  pub made : List DiskStep
+  pub begins : BeginsSteps made wanted
+  pub tells : new ≡ old ++ made
 
 -- the step of a file beside that was removed
 abbrev pub left_steps : Bool → List DiskStep

@@ -1,6 +1,9 @@
 //! A disk in memory.
-use mg_files::LogLines;
-use mgr_port::Disk;
+ghost use Rattle.std.specs.Prelude.{◌≡◌, ◌++◌, ◌∷◌, [], IfOk, OnOk, OnErr};
+ghost use Rattle.mgr_port.specs.Disk.{Keeps, Syncs, last_steps, steps_to, unnamed_steps};
+ghost use Rattle.test_ports.specs.Steps.{Does, StopsBefore, disk_step_of};
+
+use mgr_port::Named;
 use std::alloc::{AllocError, Global};
 use std::io;
 use std::io::ErrorKind;
@@ -56,9 +59,6 @@ pub struct MemoryDisk {
 }
 
 impl MemoryDisk {
-    ghost use Rattle.std.specs.Prelude.{◌≡◌, ◌++◌, ◌∷◌, [], OnOk, OnErr};
-    ghost use Rattle.test_ports.specs.Steps.{disk_step_of};
-
     /// A disk of which no step was made, and that makes so many.
     pub fn new(alloc: Global, left: usize) -> MemoryDisk {
         MemoryDisk {
@@ -78,9 +78,8 @@ impl MemoryDisk {
 
     /// Makes a step, or fails it.
     fn make(&mut self, kind: StepKind, bytes: &[u8]) -> io::Result<()>
-        ensures made { OnOk result (self.new.steps.items
-            ≡ self.old.steps.items ++ disk_step_of kind bytes.now ∷ []) }
-        ensures same { OnErr result (self.new.steps.items ≡ self.old.steps.items) }
+        ensures { Does result (disk_step_of kind bytes.now)
+            self.old.steps.items self.new.steps.items }
     {
         if self.left == 0 {
             return Err(io::Error::from(ErrorKind::Other));
@@ -104,39 +103,36 @@ impl MemoryDisk {
     }
 }
 
-impl Disk for MemoryDisk {
-    ghost use Rattle.std.specs.Prelude.{Some};
-
-    ghost steps = { λ disk. Some disk.steps.items };
-
-    fn empty(&mut self) -> io::Result<()> {
-        self.make(StepKind::Empty, &[])
+/// Makes these bytes the whole file under a name, whatever is beside, by the steps of a file beside.
+/// Where a step before the last fails, the old file has the name.
+#[tactic(auto, using(crate::proofs::LogLaws::stops_here, crate::proofs::LogLaws::stops_behind))]
+pub(crate) fn put_whole(disk: &mut MemoryDisk, bytes: &[u8]) -> io::Result<Named>
+    ensures named { IfOk result (λ named.
+        disk.new.steps.items ≡ disk.old.steps.items ++ steps_to named bytes.now) }
+    ensures unnamed { OnErr result
+        (StopsBefore disk.old.steps.items disk.new.steps.items (unnamed_steps bytes.now)) }
+{
+    disk.make(StepKind::Empty, &[])?;
+    disk.make(StepKind::Write, bytes)?;
+    match name_written(disk) {
+        Ok(named) => Ok(named),
+        Err(error) => Err(error),
     }
+}
 
-    fn write(&mut self, bytes: &[u8]) -> io::Result<()> {
-        self.make(StepKind::Write, bytes)
-    }
-
-    fn write_lines(&mut self, lines: &LogLines) -> io::Result<()> {
-        match lines.to_vec() {
-            Ok(bytes) => self.make(StepKind::Write, &bytes),
-            Err(_) => Err(io::Error::from(ErrorKind::OutOfMemory)),
-        }
-    }
-
-    fn sync(&mut self) -> io::Result<()> {
-        self.make(StepKind::Sync, &[])
-    }
-
-    fn keep(&mut self) -> io::Result<()> {
-        self.make(StepKind::Keep, &[])
-    }
-
-    fn take_name(&mut self) -> io::Result<()> {
-        self.make(StepKind::TakeName, &[])
-    }
-
-    fn sync_folder(&mut self) -> io::Result<()> {
-        self.make(StepKind::SyncFolder, &[])
+/// The last of these steps.
+#[tactic(auto, using(crate::proofs::LogLaws::stops_here, crate::proofs::LogLaws::stops_behind))]
+fn name_written(disk: &mut MemoryDisk) -> io::Result<Named>
+    ensures named { IfOk result (λ named.
+        disk.new.steps.items ≡ disk.old.steps.items ++ last_steps named) }
+    ensures unnamed { OnErr result
+        (StopsBefore disk.old.steps.items disk.new.steps.items (Syncs ∷ Keeps ∷ [])) }
+{
+    disk.make(StepKind::Sync, &[])?;
+    disk.make(StepKind::Keep, &[])?;
+    disk.make(StepKind::TakeName, &[])?;
+    match disk.make(StepKind::SyncFolder, &[]) {
+        Ok(()) => Ok(Named::Settled),
+        Err(error) => Ok(Named::Unsettled(error)),
     }
 }

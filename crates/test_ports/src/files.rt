@@ -3,7 +3,7 @@ ghost use Rattle.std.specs.Prelude.{◌≡◌, ◌<◌, ◌∷◌, IfOk, IfSome,
 ghost use Rattle.test_ports.specs.FolderSteps.{folder_step_of};
 
 use mg_files::LogLines;
-use mgr_port::{End, Folder, LeftLog, Lock, Look, Opening, Spare, Stamp, Standing};
+use mgr_port::{End, Folder, LeftLog, Lock, Look, Opening, Owner, Spare, Standing};
 use std::alloc::{AllocError, Global};
 use std::io;
 use std::io::ErrorKind;
@@ -20,7 +20,13 @@ pub(crate) enum Step {
     Ends(u64, Option<End>),
     EndsInNewline(u64, bool),
     Adds(Vec<u8>),
+    Empties,
+    SetsMode(u32),
+    GivesTo(Owner),
+    Dates(u64),
     Syncs,
+    SyncsFolder(String),
+    ReadsAll(Vec<u8>),
     Reads(String, Vec<u8>),
     Links(String, String),
     Makes(String, Vec<u8>),
@@ -168,11 +174,7 @@ impl MemoryFiles {
             Some(file) => file.bytes.as_slice().len(),
             None => 0,
         };
-        Look {
-            is_plain: file.is_some(),
-            names,
-            stamp: Stamp::of_file(index as u64, length as u64, 0),
-        }
+        Look::of_file(file.is_some(), names, index as u64, length as u64)
     }
 
     fn found(&self, path: &str) -> Option<Look> {
@@ -241,7 +243,7 @@ impl Folder for MemoryFiles {
 
     fn open(&mut self, path: &str, opening: Opening) -> io::Result<usize> {
         let made = match opening {
-            Opening::Read | Opening::Add => None,
+            Opening::Read | Opening::Write | Opening::Add => None,
             Opening::Beside if self.index_of(path).is_some() => None,
             Opening::Beside | Opening::New(_) => {
                 self.check_free(path)?;
@@ -294,15 +296,55 @@ impl Folder for MemoryFiles {
         _left: &LeftLog,
         lines: &LogLines,
     ) -> io::Result<()> {
-        let bytes = lines.to_vec()?;
-        if let Some(file) = self.files.get_mut(*log) {
-            file.bytes.extend_from_slice(&bytes)?;
+        self.write_lines(log, lines)
+    }
+
+    fn empty(&mut self, file: &usize) -> io::Result<()> {
+        if let Some(file) = self.files.get_mut(*file) {
+            file.bytes.clear();
         }
-        self.note(Step::Adds(bytes))
+        self.note(Step::Empties)
+    }
+
+    fn write(&mut self, file: &mut usize, bytes: &[u8]) -> io::Result<()> {
+        let copy = Vec::from_slice(self.alloc, bytes)?;
+        if let Some(file) = self.files.get_mut(*file) {
+            file.bytes.extend_from_slice(bytes)?;
+        }
+        self.note(Step::Adds(copy))
+    }
+
+    fn write_lines(&mut self, file: &mut usize, lines: &LogLines) -> io::Result<()> {
+        self.write(file, &lines.to_vec()?)
+    }
+
+    fn set_mode(&mut self, _file: &usize, mode: u32) -> io::Result<()> {
+        self.note(Step::SetsMode(mode))
+    }
+
+    fn give_to(&mut self, _file: &usize, owner: Owner) -> io::Result<()> {
+        self.note(Step::GivesTo(owner))
+    }
+
+    fn date(&mut self, _file: &usize, _of: &usize, later: u64) -> io::Result<()> {
+        self.note(Step::Dates(later))
     }
 
     fn sync(&mut self, _file: &usize) -> io::Result<()> {
         self.note(Step::Syncs)
+    }
+
+    fn sync_folder(&mut self, path: &str) -> io::Result<()> {
+        self.note(Step::SyncsFolder(self.copy_of(path)?))
+    }
+
+    fn read_all(&mut self, file: &mut usize) -> io::Result<Vec<u8>> {
+        let bytes = match self.files.get(*file) {
+            Some(file) => Vec::from_slice(self.alloc, &file.bytes)?,
+            None => Vec::new(self.alloc),
+        };
+        self.note(Step::ReadsAll(Vec::from_slice(self.alloc, &bytes)?))?;
+        Ok(bytes)
     }
 
     fn read(&mut self, path: &str) -> io::Result<Vec<u8>> {

@@ -4,9 +4,9 @@ ghost use Rattle.mg_files.specs.Calls.{failures_after};
 ghost use Rattle.mgr_port.specs.Logs.{Names, Gains, raised};
 ghost use Rattle.test_ports.specs.Steps.{with_steps};
 
-use crate::disk::MemoryDisk;
+use crate::disk::{MemoryDisk, put_whole};
 use mg_files::PortFault;
-use mgr_port::{Logs, Named, put_whole};
+use mgr_port::{Logs, Named};
 use rga_exchange::Counted;
 use rga_ops::of_io;
 use std::alloc::{AllocError, Global};
@@ -85,7 +85,7 @@ fn take_place(
         (Some (with_steps log.new.items disk.new.steps.items left.new)) }
     ensures device { failures.new ≡ failures_after result failures.old }
 {
-    match put_whole(disk, &next, true) {
+    match put_whole(disk, &next) {
         Ok(named) => {
             *log = next;
             *left = false;

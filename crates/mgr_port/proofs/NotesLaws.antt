@@ -1,0 +1,35 @@
+-- What a note asks of the folder that its files stand in.
+use Rattle.std.proofs.Common.{◌≡◌, ℕ, List, Option, Some, None, Result, Ok, Err, IfSome, OnOk, subst, sym}
+use Rattle.mgr_port.specs.Disk.{steps_to}
+use Rattle.mgr_port.specs.Folder.{History, LooksAt, after}
+use Rattle.mgr_port.specs.Growth.{IsAdded}
+use Rattle.mgr_port.specs.Locks.{IsTaken}
+use Rattle.mgr_port.specs.Notes.{IsLeftAt, MakesLog, MakesRoom, NamesLog}
+use Rattle.mgr_port.specs.Staging.{IsSettled}
+use Rattle.mgr_port.specs.declared.log.LeftLog.{LeftLog}
+use Rattle.mgr_port.specs.declared.spare.Look.{Look}
+use Rattle.mgr_port.specs.declared.staged.Named.{Named}
+use Rattle.mgr_port.specs.declared.staged.Named.TheVariants as named
+
+-- the log has its name, on the device
+pub made_log : {A E : Type 0} (r : Result A E) (n : Named) (path spelled name text : List ℕ) (standing : Option Look) (lines : List ℕ) (left : LeftLog) (roomy taken put looked now : History) (look : Look)
+    → OnOk r (IsSettled n) → spelled ≡ path → IsTaken spelled roomy taken → NamesLog path name text standing (steps_to n lines) taken put
+    → looked ≡ after (LooksAt look) put → IsLeftAt left look.stamp.length looked now → OnOk r (MakesLog path name text standing lines left now)
+made_log (Err e) n path spelled name text standing lines left roomy taken put looked now look settled is took named step leaves = tt
+made_log (Ok x) named.Settled path spelled name text standing lines left roomy taken put looked now look settled is took named step (seen, at, one, two, same) =
+    (roomy, taken, put, look, looked, subst (λ p. IsTaken p roomy taken) is took, named, step, (seen, at, one, two, same))
+made_log (Ok x) (named.Unsettled error) path spelled name text standing lines left roomy taken put looked now look settled is took named step leaves = absurd settled
+
+-- the log that is open has made room
+pub room_made : {A B E : Type 0} (r : Result A E) (o : Option B) (path spelled : List ℕ) (a b : History) → spelled ≡ path → OnOk r (MakesRoom spelled a b)
+    → OnOk r (IfSome o (λ _. MakesRoom path a b))
+room_made (Err e) o path spelled a b is made = tt
+room_made (Ok x) None path spelled a b is made = tt
+room_made (Ok x) (Some log) path spelled a b is made = subst (λ p. MakesRoom p a b) is made
+
+-- lines are added to the log that is open
+pub added_to : {A B E : Type 0} (r : Result A E) (o : Option B) (log : B) (left_of : B → LeftLog) (longer : LeftLog) (path spelled lines : List ℕ) (a b : History) → o ≡ Some log → spelled ≡ path
+    → OnOk r (IsAdded spelled (left_of log) lines longer a b) → OnOk r (IfSome o (λ old. IsAdded path (left_of old) lines longer a b))
+added_to (Err e) o log left_of longer path spelled lines a b is same added = tt
+added_to (Ok x) o log left_of longer path spelled lines a b is same added =
+    subst (λ p. IfSome p (λ old. IsAdded path (left_of old) lines longer a b)) (sym is) (subst (λ p. IsAdded p (left_of log) lines longer a b) same added)

@@ -1,0 +1,53 @@
+-- What a log that is written anew asks of a folder.
+use Rattle.std.specs.Prelude.{◌≡◌, ◌⊎◌, ℕ, List, [], ◌∷◌, Bool, true, false, Option, Some, None, if◌then◌else◌}
+use Rattle.mgr_port.specs.Disk as disk
+use Rattle.mgr_port.specs.Folder.{History, Adds, EndsInNewline, LooksAt, Opens, Syncs, SyncsFolder, after}
+use Rattle.mgr_port.specs.Locks.{IsHeldEmpty, OpensBeside, OpensLocked, ShowsPlain}
+use Rattle.mgr_port.specs.Staging.{DoesAll}
+use Rattle.mgr_port.specs.Texts.{TakesMode}
+use Rattle.mgr_port.specs.declared.folder.Opening.TheVariants as opening
+use Rattle.mgr_port.specs.declared.spare.Look.{Look}
+use Rattle.mgr_port.specs.declared.staged.Old.TheVariants as old
+use Rattle.mgr_port.specs.declared.staged.Staged.{Staged}
+
+-- a log is opened and locked, may be written, and nothing of it is read or refused
+abbrev pub OpensToRewrite : List ℕ → ℕ → Bool → History → Type 0
+OpensToRewrite path read refused now =
+    (opened : History) × OpensLocked path opened × (now ≡ after (Opens path opening.Write) opened) × (read ≡ 0) × (refused ≡ false)
+
+-- a file has the owner and the rights of another, if it is new
+abbrev pub TakesIfNew : Bool → History → History → Type 0
+TakesIfNew true before now = now ≡ before
+TakesIfNew false before now = (like : Look) × (looked : History) × (looked ≡ after (LooksAt like) before) × TakesMode like looked now
+
+-- what was refused of a log has a plain file, or gets a new one, like the log
+unfoldable pub OpensRefused : List ℕ → History → History → Type 0
+OpensRefused path before now =
+    (is_there : Bool) × (shown : History) × (opened : History)
+    × ShowsPlain path before shown is_there × OpensBeside path shown opened × TakesIfNew is_there opened now
+
+-- the last line of a file has its newline
+unfoldable pub EndsLine : History → History → Type 0
+EndsLine before now =
+    (look : Look) × (looked : History) × (looked ≡ after (LooksAt look) before)
+    × (((look.stamp.length ≡ 0) × (now ≡ looked)) ⊎ (now ≡ after (EndsInNewline look.stamp.length true) looked)
+    ⊎ ((asked : History) × (asked ≡ after (EndsInNewline look.stamp.length false) looked) × (now ≡ after (Adds (10 ∷ [])) asked)))
+
+-- they are behind it, and on the device under its name
+abbrev pub KeepsRefused : List ℕ → List ℕ → History → History → Type 0
+KeepsRefused path bytes before now =
+    (opened : History) × (ended : History) × (written : History) × (synced : History)
+    × OpensRefused path before opened × EndsLine opened ended × (written ≡ after (Adds bytes) ended)
+    × (synced ≡ after Syncs written) × (now ≡ after (SyncsFolder path) synced)
+
+-- an empty file is held beside, like a log
+abbrev pub MakesNextLog : List ℕ → History → Type 0
+MakesNextLog path now =
+    (held : History) × (like : Look) × (looked : History) × IsHeldEmpty path held × (looked ≡ after (LooksAt like) held) × TakesMode like looked now
+
+-- What was written beside is on the device, with the date of the log if nothing of that is refused. The log stands there as
+-- it was read, and is kept; then the file has its name, on the device too.
+abbrev pub NamesRead : List ℕ → List ℕ → ℕ → Bool → History → History → Type 0
+NamesRead path name read refused before now =
+    (s : Staged) × (s.path.now ≡ path) × (s.name.now ≡ name) × (s.later ≡ (if refused then None else Some 0)) × (s.old ≡ old.Read read)
+    × DoesAll s (disk.Syncs ∷ disk.Keeps ∷ disk.TakesName ∷ disk.SyncsFolder ∷ []) before now

@@ -1,0 +1,111 @@
+//! Paths that go, or are given to another file.
+ghost use Rattle.std.specs.Prelude.{◌≡◌, IfOk, OnErr, OnOk};
+ghost use Rattle.mgr_port.specs.Folder.{IsIdle};
+ghost use Rattle.mgr_port.specs.Locks.{MakesBeside};
+ghost use Rattle.mgr_port.specs.Spares.{GivesFreeName, IsOfFile, IsOneOfMore, IsVacated, MakesWay};
+ghost use Rattle.mgr_port.specs.Spares.{MayRemove, RemovesIf};
+
+use crate::folder::{Folder, Opening};
+use crate::keeping::{Keeping, keep};
+use crate::spare::{Reason, Spare};
+use std::alloc::Global;
+use std::io;
+use std::io::ErrorKind;
+
+/// The path, once nothing is lost of what stands there itself: bytes of a plain file are kept. None
+/// if nothing stands there.
+#[tactic(auto, unfolding(crate::specs::Spares::IsSpare))]
+fn spare_name<'p, F: Folder>(
+    folder: &mut F,
+    alloc: Global,
+    path: &'p str,
+) -> io::Result<Option<Spare<'p>>>
+    ensures { IfOk result
+        (IsVacated path.now (F.steps folder.old) (F.steps folder.new)) }
+{
+    let standing = folder.look(path)?;
+    if standing.found.is_none() {
+        return Ok(None);
+    }
+    match standing.if_nothing() {
+        Some(spare) => Ok(Some(spare)),
+        None => Ok(Some(keep(folder, alloc, path, Keeping::ByName)?)),
+    }
+}
+
+/// Has what stands under a path let go of it. Bytes of a plain file are kept.
+pub fn make_way<F: Folder>(folder: &mut F, alloc: Global, path: &str) -> io::Result<()>
+    ensures { OnOk result (MakesWay path.now (F.steps folder.old) (F.steps folder.new)) }
+{
+    match spare_name(folder, alloc, path)? {
+        Some(spare) => folder.remove(spare),
+        None => Ok(()),
+    }
+}
+
+/// Removes a path, if it stands for a file that is open.
+pub fn remove_open<F: Folder>(folder: &mut F, path: &str, file: &F::File) -> io::Result<()>
+    ensures removed { OnOk result
+        (RemovesIf IsOfFile path.now (F.steps folder.old) (F.steps folder.new)) }
+    ensures tried { MayRemove IsOfFile path.now (F.steps folder.old) (F.steps folder.new) }
+{
+    let open = folder.look_at(file)?;
+    match folder.follow(path)?.if_open(open) {
+        Some(spare) => folder.remove(spare),
+        None => Ok(()),
+    }
+}
+
+/// Removes a path, if it stands for a file that is open and has another name.
+pub(crate) fn remove_second_name<F: Folder>(
+    folder: &mut F,
+    path: &str,
+    file: &F::File,
+) -> io::Result<()>
+    ensures removed { OnOk result
+        (RemovesIf IsOneOfMore path.now (F.steps folder.old) (F.steps folder.new)) }
+    ensures tried { MayRemove IsOneOfMore path.now (F.steps folder.old) (F.steps folder.new) }
+{
+    let open = folder.look_at(file)?;
+    match folder.follow(path)?.if_second_name(open) {
+        Some(spare) => folder.remove(spare),
+        None => Ok(()),
+    }
+}
+
+/// Gives a file a name that nothing has, in place of its own, which it may keep if that cannot be
+/// taken. `AlreadyExists` if something has got the name meanwhile; if the file system gives no
+/// second name, that is looked at right before.
+#[tactic(auto, using(crate::proofs::FolderLaws::idle_none, crate::proofs::FolderLaws::idle_look))]
+pub fn give_free_name<F: Folder>(folder: &mut F, path: &str, name: &str) -> io::Result<()>
+    ensures named { OnOk result
+        (GivesFreeName path.now name.now (F.steps folder.old) (F.steps folder.new)) }
+    ensures idle { OnErr result (IsIdle (F.steps folder.old) (F.steps folder.new)) }
+{
+    match folder.link(path, name) {
+        Ok(()) => {
+            let _ = folder.remove(Spare::new(path, Reason::Linked));
+            return Ok(());
+        }
+        Err(error) if error.kind() == ErrorKind::AlreadyExists => return Err(error),
+        Err(_) => {}
+    }
+    match folder.look(name)?.found {
+        None => folder.rename(path, Spare::new(name, Reason::Nothing)),
+        Some(_) => Err(io::Error::from(ErrorKind::AlreadyExists)),
+    }
+}
+
+/// Makes a file beside another, new and empty. Bytes that stand there are kept.
+pub(crate) fn make_beside<F: Folder>(
+    folder: &mut F,
+    alloc: Global,
+    path: &str,
+    mode: u32,
+) -> io::Result<F::File>
+    ensures { IfOk result (λ _.
+        MakesBeside path.now mode (F.steps folder.old) (F.steps folder.new)) }
+{
+    make_way(folder, alloc, path)?;
+    folder.open(path, Opening::New(mode))
+}
