@@ -9,7 +9,7 @@ use rga_exchange::Counted;
 use std::io::{Read, Write};
 
 /// Logs by the names of their notes, each of which can be written anew. They may tell what stands
-/// under a name, with the steps by which it got there (`Disk`), and what was refused of that log.
+/// under a name, with the steps by which it got there (`DiskStep`), and what was refused of that log.
 /// `Memory` counts for no failure, as of a port.
 pub trait Logs {
     /// A log that is read.

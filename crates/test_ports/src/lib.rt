@@ -2,7 +2,7 @@
 //! whose steps fail, and a log over one; a folder; files that are read.
 //!
 //! Only tests use this crate. It stands on mg_files, mgr_show and mgr_port; the layer above may
-//! rest on the contracts of `Port`, `Disk`, `Folder`, `Logs` and `Sources`, by which they tell their
+//! rest on the contracts of `Port`, `Folder`, `Logs` and `Sources`, by which they tell their
 //! calls, steps and bytes, and for the rest on the comments.
 #![tactic(auto)]
 
