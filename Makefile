@@ -140,7 +140,7 @@ pictures: build/mgr
 	@scripts/pictures.py two-people build/mgr
 	@scripts/pictures.py figures
 
-build/generate build/native: build/%: bench/%.rs
+build/generate build/paged: build/%: bench/%.rs
 	@command -v rustc >/dev/null || { echo "rustc is not installed" >&2; exit 1; }
 	@mkdir -p build
 	@rustc --edition 2021 -O -o $@ $<
@@ -210,7 +210,7 @@ help:
 	@echo "               (needs python3, cc, strace and root; what has to be left out without one of these is said)"
 	@echo "make files     does to a note's files what other programs do while it is edited, and looks for each word"
 	@echo "               (needs python3)"
-	@echo "make bench     measures mgr beside a native program (needs python3 and rustc)"
+	@echo "make bench     measures mgr beside a program in plain Rust (needs python3 and rustc)"
 	@echo "make bench-growth"
 	@echo "               runs mgr on 22 works, each at three sizes, and says which grow faster than they should (needs"
 	@echo "               python3 and rustc)"

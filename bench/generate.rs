@@ -9,6 +9,7 @@ use std::process::ExitCode;
 const USAGE: &str = "usage: generate SHAPE COUNT [SPELLING]
 SHAPE is one of
   typing            three replicas type in rounds, jump and rub out, and merge after each round
+  shuffled          the same lines in an order that chance gives
   chain             one replica types on and on, each element after the one before
   waiting           the chain with its last line first: all waits until the last line
   siblings-rising   insertions at the root, in rising order of identifiers
@@ -395,9 +396,18 @@ fn reversed(mut operations: Vec<Operation>) -> Vec<Operation> {
     operations
 }
 
+fn shuffled(mut operations: Vec<Operation>) -> Vec<Operation> {
+    let mut random = Random::new();
+    for left in (1..operations.len()).rev() {
+        operations.swap(left, random.below(left + 1));
+    }
+    operations
+}
+
 fn operations_of(shape: &str, count: usize) -> Option<Vec<Operation>> {
     match shape {
         "typing" => Some(typing(count)),
+        "shuffled" => Some(shuffled(typing(count))),
         "chain" => Some(chain(count)),
         "waiting" => Some(reversed(chain(count))),
         "siblings-rising" => Some(siblings(count)),

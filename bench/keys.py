@@ -14,7 +14,6 @@ hand may name another mgr, and fewer characters and keys.
 import argparse
 import collections
 import os
-import pathlib
 import random
 import shutil
 import subprocess

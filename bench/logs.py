@@ -3,12 +3,12 @@
 
 Prints a row for each size and work: the microseconds that an operation takes, of user time and of
 the system's, and by their sum the operations and the megabytes of lines in a second. The log is a
-chain that one replica typed. `bytes` reads it in blocks of 64 KiB and only counts; `native` is the
-native program, which also walks the text. What is written goes to the null device, and the time of
-the same run with nothing written is taken off. Then it prints how many times native's user time on
-the log `append_log` takes, and `mgr show` on a typed log in two other spellings, of which native reads
-the usual one. The work is done in turn, and the least of the times counts. That the log is written
-as it was read is tested first, and that the other spellings have the same text.
+chain that one replica typed. `bytes` reads it in blocks of 64 KiB and only counts; `paged` is the
+program beside which `mgr show` is measured, which also walks the text. What is written goes to the null
+device, and the time of the same run with nothing written is taken off. Then it prints how many times
+paged's user time on the log `append_log` takes, and `mgr show` on a typed log in two other spellings, of
+which paged reads the usual one. The work is done in turn, and the least of the times counts. That the log
+is written as it was read is tested first, and that the other spellings have the same text.
 """
 
 import filecmp
@@ -62,7 +62,7 @@ def costs_of(log, count):
         "bytes": ([*PROGRAM, "bytes"], log, repeats),
         "read_log": ([*PROGRAM, "read"], log, repeats),
         "receive": ([*PROGRAM, "receive"], exchange, repeats),
-        "native": (PROGRAMS["native"], log, repeats),
+        "paged": (PROGRAMS["paged"], log, repeats),
     }
     for name, word in WRITES.items():
         runs[name] = ([*PROGRAM, word, str(times)], log, 1)
@@ -84,13 +84,13 @@ def print_costs(count, size, costs):
 
 
 def spelling_ratio(count, spelling):
-    """Returns how many times native's time on a log mgr takes where it is spelled otherwise."""
-    logs = {"native": generated("typing", count), "mgr": generated("typing", count, spelling)}
+    """Returns how many times paged's time on a log mgr takes if it is spelled otherwise."""
+    logs = {"paged": generated("typing", count), "mgr": generated("typing", count, spelling)}
     runs = {name: (PROGRAMS[name], log, REPEATS[count]) for name, log in logs.items()}
     texts = [output_of(words, log, f"{name}.text") for name, (words, log, _) in runs.items()]
     compare(*texts)
     costs = least_costs(runs)
-    return costs["mgr"].seconds / costs["native"].seconds
+    return costs["mgr"].seconds / costs["paged"].seconds
 
 
 def main():
@@ -102,10 +102,10 @@ def main():
         log = generated("chain", count)
         costs = costs_of(log, count)
         print_costs(count, log.stat().st_size, costs)
-        writing, reading = costs["append_log"][0], costs["native"][0]
+        writing, reading = costs["append_log"][0], costs["paged"][0]
         spelled = [spelling_ratio(count, spelling) for spelling in SPELLINGS]
         ratios.append((count, writing / reading, *spelled))
-    print("\nuser time over that of native, which reads the log in the usual spelling:")
+    print("\nuser time over that of paged, which reads the log in the usual spelling:")
     print("                          mgr show, where the members and blanks, or the characters,")
     print("operations   append_log   are spelled otherwise")
     for count, writing, loose, numbered in ratios:

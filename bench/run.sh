@@ -1,7 +1,7 @@
 #!/bin/sh
-# Builds mgr, the generator of logs and the native program, and measures `mgr show` against the
-# native program: microseconds an operation, the ratios of user time and of peak memory, and how
-# the cost of an operation grows (`bench/measure.py`); then what an edit of a document costs
+# Builds mgr, the generator of logs and a program in plain Rust, and measures `mgr show` against that:
+# microseconds an operation, the ratios of user time and of peak memory, and how the cost of an
+# operation grows (`bench/measure.py`); then what an edit of a document costs
 # (`bench/edits.py`), a command of the editor by itself (`bench/commands.py`) and on a buffer
 # (`bench/buffers.py`) and a frame of it (`bench/frames.py`), what a key of `mgr edit` costs
 # (`bench/keys.py`), how long a live session takes to answer (`bench/live_sessions.py`), what its
@@ -23,7 +23,7 @@ for program in python3 rustc; do
     }
 done
 
-make build build/generate build/native
+make build build/generate build/paged
 (cd crates/bench_tasks && rt run -- edits order 1 1 </dev/null >/dev/null)
 cp crates/bench_tasks/out/bench_tasks build/bench_tasks
 
