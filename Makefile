@@ -212,7 +212,7 @@ help:
 	@echo "               (needs python3)"
 	@echo "make bench     measures mgr beside a program in plain Rust (needs python3 and rustc)"
 	@echo "make bench-growth"
-	@echo "               runs mgr on 22 works, each at three sizes, and says which grow faster than they should (needs"
+	@echo "               runs mgr on 27 works, each at three sizes, and says which grow faster than they should (needs"
 	@echo "               python3 and rustc)"
 	@echo "make bench-live"
 	@echo "               measures writing together by mgr-hub, Redis and git, beside mg, Emacs, crdt.el and tmux if they are"

@@ -17,7 +17,8 @@ SHAPE is one of
   author            one replica types, rubs out and goes elsewhere: a quarter are deletions
 A SPELLING other than the usual one is one of
   loose             the members in another order, with a blank after each colon and comma
-  numbered          each character by its number, as \\u0061";
+  numbered          each character by its number, as \\u0061
+  edits             of author alone: not operations but what was done, as [PLACE,DELETED,TEXT]";
 
 /// How many replicas type at once.
 const REPLICAS: u16 = 3;
@@ -110,6 +111,23 @@ impl fmt::Display for Numbered<'_> {
             }
             Operation::Delete { .. } => write!(f, "{}", self.0),
         }
+    }
+}
+
+/// What an author did: a character was inserted at a place, or the one there was deleted.
+struct Edit {
+    place: usize,
+    inserted: Option<char>,
+}
+
+impl fmt::Display for Edit {
+    fn fmt(&self, f: &mut fmt::Formatter) -> fmt::Result {
+        let deleted = u8::from(self.inserted.is_none());
+        write!(f, "[{},{deleted},\"", self.place)?;
+        if let Some(char) = self.inserted {
+            write_char(f, char)?;
+        }
+        f.write_str("\"]")
     }
 }
 
@@ -265,17 +283,26 @@ struct Author {
     behind: Vec<Id>,
     clock: u64,
     operations: Vec<Operation>,
+    edits: Vec<Edit>,
 }
 
 impl Author {
-    fn new() -> Self {
-        Author {
+    /// One who did so much.
+    fn of(count: usize) -> Self {
+        let mut author = Author {
             random: Random::new(),
             before: Vec::new(),
             behind: Vec::new(),
             clock: 0,
             operations: Vec::new(),
+            edits: Vec::new(),
+        };
+        while author.operations.len() < count {
+            author.turn();
         }
+        author.operations.truncate(count);
+        author.edits.truncate(count);
+        author
     }
 
     /// A run of typing or of deletions, and then the cursor may go elsewhere.
@@ -312,18 +339,24 @@ impl Author {
             counter: self.clock,
             replica: 1,
         };
-        self.operations.push(Operation::Insert {
-            id,
-            parent: self.before.last().copied().unwrap_or(ROOT),
-            char: self.random.character(),
-        });
+        let parent = self.before.last().copied().unwrap_or(ROOT);
+        let char = self.random.character();
+        self.operations.push(Operation::Insert { id, parent, char });
+        self.note(Some(char));
         self.before.push(id);
     }
 
     fn delete(&mut self, take: fn(&mut Author) -> Option<Id>) {
         if let Some(id) = take(self) {
             self.operations.push(Operation::Delete { id });
+            self.note(None);
         }
+    }
+
+    /// Notes an edit where the cursor is.
+    fn note(&mut self, inserted: Option<char>) {
+        let place = self.before.len();
+        self.edits.push(Edit { place, inserted });
     }
 
     /// The cursor goes at most 200 characters away.
@@ -341,15 +374,6 @@ impl Author {
             self.before.extend(self.behind.pop());
         }
     }
-}
-
-fn author(count: usize) -> Vec<Operation> {
-    let mut author = Author::new();
-    while author.operations.len() < count {
-        author.turn();
-    }
-    author.operations.truncate(count);
-    author.operations
 }
 
 fn typing(count: usize) -> Vec<Operation> {
@@ -412,7 +436,7 @@ fn operations_of(shape: &str, count: usize) -> Option<Vec<Operation>> {
         "waiting" => Some(reversed(chain(count))),
         "siblings-rising" => Some(siblings(count)),
         "siblings-falling" => Some(reversed(siblings(count))),
-        "author" => Some(author(count)),
+        "author" => Some(Author::of(count).operations),
         _ => None,
     }
 }
@@ -425,21 +449,33 @@ enum Spelling {
     Numbered,
 }
 
-fn asked() -> Option<(Vec<Operation>, Spelling)> {
+/// What is to be written.
+enum Asked {
+    Operations(Vec<Operation>, Spelling),
+    Edits(Vec<Edit>),
+}
+
+fn asked() -> Option<Asked> {
     let words: Vec<String> = env::args().skip(1).collect();
     let words: Vec<&str> = words.iter().map(String::as_str).collect();
     let (shape, count, spelling) = match words.as_slice() {
+        ["author", count, "edits"] => {
+            return Some(Asked::Edits(Author::of(count.parse().ok()?).edits));
+        }
         [shape, count] => (shape, count, Spelling::Usual),
         [shape, count, "loose"] => (shape, count, Spelling::Loose),
         [shape, count, "numbered"] => (shape, count, Spelling::Numbered),
         _ => return None,
     };
     let operations = operations_of(shape, count.parse().ok()?)?;
-    Some((operations, spelling))
+    Some(Asked::Operations(operations, spelling))
 }
 
-fn write_lines(operations: &[Operation], spelling: Spelling) -> io::Result<()> {
-    let mut output = BufWriter::new(io::stdout().lock());
+fn write_operations(
+    operations: &[Operation],
+    spelling: Spelling,
+    output: &mut impl Write,
+) -> io::Result<()> {
     for operation in operations {
         match spelling {
             Spelling::Usual => writeln!(output, "{operation}")?,
@@ -447,15 +483,30 @@ fn write_lines(operations: &[Operation], spelling: Spelling) -> io::Result<()> {
             Spelling::Numbered => writeln!(output, "{}", Numbered(operation))?,
         }
     }
+    Ok(())
+}
+
+fn write(asked: Asked) -> io::Result<()> {
+    let mut output = BufWriter::new(io::stdout().lock());
+    match asked {
+        Asked::Operations(operations, spelling) => {
+            write_operations(&operations, spelling, &mut output)?;
+        }
+        Asked::Edits(edits) => {
+            for edit in edits {
+                writeln!(output, "{edit}")?;
+            }
+        }
+    }
     output.flush()
 }
 
 fn main() -> ExitCode {
-    let Some((operations, spelling)) = asked() else {
+    let Some(asked) = asked() else {
         eprintln!("{USAGE}");
         return ExitCode::from(2);
     };
-    match write_lines(&operations, spelling) {
+    match write(asked) {
         Ok(()) => ExitCode::SUCCESS,
         Err(error) => {
             eprintln!("generate: {error}");

@@ -12,10 +12,13 @@ import argparse
 import collections
 import math
 import os
+import random
 
 import exchange
 from keys import SAVE, Editor, editing, text_of
+from live_sessions import OTHER, WRITER, insertion, log_of
 from measure import BUILD, generated
+from notes import damaged
 
 FOLDER = BUILD / "bench" / "growth"
 WANTED = 1.2
@@ -75,9 +78,35 @@ def shown(editor, n):
     return cost.processor, cost.kilobytes
 
 
-def compacted(editor, n):
-    cost = editor.cost(["compact", "text"], b"", {"text.ops": generated("typing", n)})
+def commanded(*words, log=lambda n: generated("typing", n)):
+    """Returns what a command of mgr costs, on a note with a log of so many operations."""
+
+    def cost(editor, n):
+        took = editor.cost([*words, "text"], b"", {"text.ops": log(n)})
+        return took.processor, took.kilobytes
+
+    return cost
+
+
+def merged(editor, n):
+    """Returns what a merge costs of two logs, each of a common half and a half that one replica typed after it."""
+    half, common = n // 2, generated("typing", n // 2).read_bytes()
+    logs = [common + b"".join(typed(half, half, replica)) for replica in (8, 9)]
+    cost = editor.cost(["merge", "text", "text.other"], b"", dict(zip(("text.ops", "text.other"), logs)))
     return cost.processor, cost.kilobytes
+
+
+def typed(clock, count, replica):
+    """Returns the lines of so many characters that a replica types at the front, one after the other."""
+    ids = [[clock + at, replica] for at in range(count + 1)]
+    return [insertion("a", *each, before if at else [0, 0]) for at, (before, each) in enumerate(zip(ids, ids[1:]))]
+
+
+def reported(editor, n):
+    """Returns what so many reports cost a live session, each of an insertion anywhere in its text."""
+    rng, size = random.Random(n), 100_000
+    reports = (b"\xff" + insertion("x", size + at, OTHER, [rng.randint(1, size), WRITER]) for at in range(1, n + 1))
+    return over(editor, {"text.ops": log_of(size)}, b"", b"".join(reports), ("--live",))
 
 
 def exchanged(parts, rounds):
@@ -130,7 +159,7 @@ WORKS = [
         keys(lambda n: b"", found, lambda n: found(BUFFERS)),
     ),
     Work("operations received, none of them known", (25_000, 50_000, 100_000), exchanged((0, 2), 1)),
-    Work("operations compacted", (100_000, 300_000, 900_000), compacted),
+    Work("operations compacted", (100_000, 300_000, 900_000), commanded("compact")),
     Work(
         "characters of one line, 100 frames of its end",
         (50_000, 150_000, 450_000),
@@ -138,6 +167,15 @@ WORKS = [
     ),
     Work("M-f in a row, five times over", (20_000, 40_000, 80_000), keys(lambda n: b"a " * n, lambda n: (b"\x1bf" * n + b"\x1b<") * 5)),
     Work("operations of mgr show", (100_000, 300_000, 900_000), shown),
+    Work("reports taken, in one stream", (25_000, 50_000, 100_000), reported),
+    Work("operations of each of two logs merged, half of them in both", (60_000, 180_000, 540_000), merged),
+    Work("operations of mgr who", (100_000, 300_000, 900_000), commanded("who")),
+    Work(
+        "operations of mgr mend, of a damaged log",
+        (100_000, 300_000, 900_000),
+        commanded("mend", log=lambda n: damaged(generated("typing", n).read_bytes())),
+    ),
+    Work("operations of mgr claims", (100_000, 300_000, 900_000), commanded("claims")),
 ]
 
 

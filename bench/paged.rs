@@ -190,7 +190,8 @@ impl Text {
             return begin;
         }
         let begin = self.elements.len() as u32;
-        self.elements.resize(self.elements.len() + PAGE as usize, NAMED);
+        self.elements
+            .resize(self.elements.len() + PAGE as usize, NAMED);
         let counter = page * PAGE;
         self.begins.push(Id { counter, replica });
         if page >= TABLE {
@@ -237,7 +238,8 @@ impl Text {
         let state = u32::from(char) | INSERTED;
         let element = &mut self.elements[place as usize];
         if element.state & INSERTED != 0 {
-            let is_same = element.parent == above && element.state & (CHARACTER | INSERTED) == state;
+            let is_same =
+                element.parent == above && element.state & (CHARACTER | INSERTED) == state;
             return is_same.then_some(());
         }
         element.state |= state;
@@ -313,7 +315,9 @@ fn read_into(text: &mut Text) -> Result<(), String> {
         let end = kept + count;
         // A line that may go on in the next block is kept, up to the end of all.
         let least = if count == 0 { 0 } else { LONGEST };
-        let mut lines = Lines { left: &block[..end] };
+        let mut lines = Lines {
+            left: &block[..end],
+        };
         while lines.left.len() > least {
             number += 1;
             take_line(&mut lines, text).ok_or_else(|| format!("line {number} is refused"))?;
@@ -346,7 +350,9 @@ fn show() -> Result<(), String> {
     text.elements[root as usize].state = INSERTED | DELETED;
     read_into(&mut text)?;
     text.sort();
-    io::stdout().write_all(text.shown(root).as_bytes()).map_err(said)?;
+    io::stdout()
+        .write_all(text.shown(root).as_bytes())
+        .map_err(said)?;
     // The system takes the memory back at once: freeing it piece by piece would only cost time.
     process::exit(0);
 }
