@@ -27,7 +27,7 @@ import subprocess
 import sys
 
 import live
-from keys import Editor, text_of
+from keys import MEASUREMENTS, Editor, text_of
 from live import LIVE, QUIET, Screen, await_all, engines, lacks, own_keys, rest
 from measure import BUILD, generated
 from terminal import children
@@ -197,16 +197,16 @@ class Yjs:
         self.runner = Editor("node", FOLDER / "yjs")
         self.begin = self.run("nothing")
 
-    def run(self, *words):
-        return self.runner.cost([str(YJS), *map(str, words)], b"", {})
+    def run(self, *words, times=MEASUREMENTS):
+        return self.runner.cost([str(YJS), *map(str, words)], b"", {}, times)
 
-    def cost(self, *words):
+    def cost(self, *words, times=MEASUREMENTS):
         """Returns the seconds of a work, and its peak."""
-        cost = self.run(*words)
+        cost = self.run(*words, times=times)
         return cost.processor - self.begin.processor, cost.kilobytes
 
-    def write(self, edits, made, *begun):
-        return self.cost("write", edits, made, *begun)
+    def write(self, edits, made, *begun, times=1):
+        return self.cost("write", edits, made, *begun, times=times)
 
     def merge(self, one, other, made):
         return self.cost("merge", one, other, made)
@@ -214,10 +214,9 @@ class Yjs:
     def show(self, state, text):
         return self.cost("show", state, text)
 
-    def kept(self, edits, made):
-        """Returns the bytes that are kept: of a state, and of all updates as they came."""
-        said = subprocess.run(["node", str(YJS), "write", edits, made], check=True, capture_output=True)
-        return made.stat().st_size, int(said.stdout)
+    def kept(self, state):
+        """Returns the bytes of a state, and of all updates as they came."""
+        return state.stat().st_size, state.with_suffix(state.suffix + ".updates").stat().st_size
 
 
 class Mgr:
@@ -227,45 +226,46 @@ class Mgr:
         self.runner = Editor(mgr, FOLDER / "mgr")
         self.replica = 0
 
-    def write(self, edits, made, *begun):
+    def cost(self, words, given, files, times=MEASUREMENTS):
+        cost = self.runner.cost(words, given, files, times)
+        return cost.processor, cost.kilobytes
+
+    def write(self, edits, made, *begun, times=1):
         self.replica += 1
         words = ["edit", "text", "--replica", str(self.replica), "--live", "--changes"]
         files = {"text.ops": begun[0]} if begun else {}
-        cost = self.runner.cost(words, splices(edits, len(begun)), files)
+        cost = self.cost(words, splices(edits, len(begun)), files, times)
         shutil.move(self.runner.folder / "text.ops", made)
-        return cost.processor, cost.kilobytes
+        return cost
 
     def merge(self, one, other, made):
-        cost = self.runner.cost(["merge", "text", "text.other"], b"", {"text.ops": one, "text.other": other})
+        cost = self.cost(["merge", "text", "text.other"], b"", {"text.ops": one, "text.other": other})
         shutil.move(self.runner.folder / "text.ops", made)
-        return cost.processor, cost.kilobytes
+        return cost
 
     def show(self, state, text):
-        cost = self.runner.cost(["show"], state, {})
         with open(state, "rb") as log, open(text, "wb") as output:
             subprocess.run([self.runner.program, "show"], stdin=log, stdout=output, check=True)
-        return cost.processor, cost.kilobytes
+        return self.cost(["show"], state, {})
 
-    def kept(self, edits, made):
-        """Returns the bytes that are kept: of a compacted log, and of one as it was written."""
-        self.write(edits, made)
-        written = made.stat().st_size
+    def kept(self, state):
+        """Returns the bytes of a compacted log, and of it as it was written."""
         folder = self.runner.folder
-        shutil.copy(made, folder / "text.ops")
+        shutil.copy(state, folder / "text.ops")
         subprocess.run([self.runner.program, "compact", "--dels", "text"], cwd=folder, check=True, capture_output=True)
-        return (folder / "text.ops").stat().st_size, written
+        return (folder / "text.ops").stat().st_size, state.stat().st_size
 
 
 def done(program, name, edits):
     """Returns what each work costs a program, and the bytes that it keeps; the text is left in a file."""
     states = {of: FOLDER / f"{name}.{of}" for of in ("all", "common", "mine", "theirs", "merged")}
-    costs = {"the edits written": program.write(edits["all"], states["all"])}
+    costs = {"the edits written": program.write(edits["all"], states["all"], times=MEASUREMENTS)}
     program.write(edits["common"], states["common"])
     for whose in ("mine", "theirs"):
         program.write(edits[whose], states[whose], states["common"])
     costs["loaded, and the text written"] = program.show(states["all"], FOLDER / f"{name}.text")
     costs["two halves merged"] = program.merge(states["mine"], states["theirs"], states["merged"])
-    return costs, program.kept(edits["all"], states["all"])
+    return costs, program.kept(states["all"])
 
 
 def yjs(asked):

@@ -73,7 +73,7 @@ def note_of(size, name="1"):
 class Screen:
     """A program in a pseudo terminal, and what it sent since it was last cleared."""
 
-    def __init__(self, command, folder, **variables):
+    def __init__(self, command, folder, rows=ROWS, columns=COLUMNS, **variables):
         folder.mkdir(parents=True, exist_ok=True)
         words = [str(word) for word in command]
         named = {"XDG_STATE_HOME": folder / "state", "XDG_CACHE_HOME": folder / "cache", "HOME": folder}
@@ -81,7 +81,7 @@ class Screen:
         self.pid, self.master = pty.fork()
         if self.pid == 0:
             os.chdir(folder)
-            fcntl.ioctl(0, termios.TIOCSWINSZ, struct.pack("HHHH", ROWS, COLUMNS, 0, 0))
+            fcntl.ioctl(0, termios.TIOCSWINSZ, struct.pack("HHHH", rows, columns, 0, 0))
             os.execvpe(words[0], words, os.environ | {name: str(value) for name, value in named.items()})
         self.shown = b""
 
@@ -416,6 +416,24 @@ def paste(asked):
         sys.exit("one C-_ does not take it back")
 
 
+def large(asked):
+    """100,000 characters pasted by one who writes alone, on 200 rows of 500 columns"""
+    words = text_of(100_000).replace("\n", " ")
+    wide = "\n".join(words[i : i + 499] for i in range(0, len(words), 500))
+    for name, text in (("lines of 28 characters", text_of(100_000)), ("lines of 499", wide), ("one line", words)):
+        for how, begin, end in (("marked as a paste", PASTE, PASTED), ("as if it were typed", b"", b"")):
+            note = note_of(1_000)
+            screen = Screen([*LIVE, note, "--replica", "1"], note.parent, 200, 500, MGR=asked.mgr)
+            await_all([screen], FIRST_LINE)
+            rest([screen], 1)
+            screen.shown = b""
+            pressing = threading.Thread(target=screen.press, args=(begin + text.encode().replace(b"\n", b"\r") + end + b"@",))
+            pressing.start()
+            row(f"{name}, {how}", await_all([screen], b"@"), 1000)
+            pressing.join()
+            screen.kill()
+
+
 def redis(asked):
     """four by a stream of Redis"""
     if lacking := engines.SharedStream.lacks():
@@ -579,7 +597,7 @@ def alone(asked):
         screen.kill()
 
 
-PARTS = {part.__name__: part for part in (alone, hub, flood, quiet, paste, redis, git, crdt, one_emacs, one_tmux)}
+PARTS = {part.__name__: part for part in (alone, large, hub, flood, quiet, paste, redis, git, crdt, one_emacs, one_tmux)}
 
 
 def main():

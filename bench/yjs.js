@@ -1,6 +1,6 @@
 // Does a work with a text of Yjs, for bench/beside.py: `node yjs.js WORK FILE..`. States and updates are Yjs's bytes.
 //   write EDITS MADE [BEGUN]   does edits, on a state if one is there, each as an update that is kept; writes the state
-//                              that is made, and says how many bytes the updates have
+//                              that is made, and all updates to MADE.updates
 //   merge STATE OTHER MADE     writes the state that two make together
 //   show STATE TEXT            writes the text of a state
 //   nothing                    only begins
@@ -31,7 +31,7 @@ const works = {
     doc.on("update", (update) => updates.push(update));
     for (const line of fs.readFileSync(edits, "utf8").trim().split("\n")) edit(text, JSON.parse(line));
     put(made, doc);
-    console.log(updates.reduce((sum, update) => sum + update.length, 0));
+    fs.writeFileSync(`${made}.updates`, Buffer.concat(updates));
   },
   merge(one, other, made) {
     const doc = loaded(one);

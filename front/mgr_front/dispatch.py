@@ -16,10 +16,13 @@ if TYPE_CHECKING:
     from mgr_front.session import Session
 
 REPAINT, SUSPEND, FORWARD, BACKWARD = 0x0C, 0x1A, 0x13, 0x12
-# Keys that the front looks at, besides the one that erases.
-SPECIAL = bytes([SUSPEND, ESCAPE, CONTROL_X, QUOTE, TAB, RETURN, FORWARD, BACKWARD, *HELP])
+# Keys that the front looks at, besides the one that erases: those that stand alone, and those of a text.
+ALONE, WITHIN = bytes([SUSPEND, ESCAPE, CONTROL_X, QUOTE, FORWARD, BACKWARD, *HELP]), bytes([TAB, RETURN])
 LINE_MODES = (PROMPT, QUERY)
 SEARCHING = re.compile(b"[%c%c]" % (FORWARD, BACKWARD))
+# Whatever is no text.
+KEYS = re.compile(b"[^%b -~\x80-\xfd]" % WITHIN)
+PART = re.compile(b"[^%b]+|." % WITHIN, re.DOTALL)
 CHARACTER = re.compile(b"[\xc0-\xf7][\x80-\xbf]*|.", re.DOTALL)
 NOT_FOUND = "Search failed"
 
@@ -35,8 +38,9 @@ class Dispatcher:
         """`erase` is the byte by which the terminal erases; it is DEL to mgr."""
         self.editor = editor
         self.erase = erase
-        self.special = SPECIAL + bytes([erase] * (erase != DELETE))
-        self.piece = re.compile(b"[^%b]+|." % re.escape(self.special), re.DOTALL)
+        alone = ALONE + bytes([erase] * (erase != DELETE))
+        self.special = alone + WITHIN
+        self.piece = re.compile(b"[^%b]+|." % re.escape(alone), re.DOTALL)
         self.strokes: deque[Stroke] = deque()
         self.prefix = b""
         # Of a search: the character that mgr looks for, and what was typed and is not found, nor given to mgr.
@@ -81,8 +85,16 @@ class Dispatcher:
             return desk.question is not None
         if self.editor.is_settled:
             return True
-        is_plain = self.editor.status.mode == PLAIN and not SEARCHING.search(self.editor.untold)
-        return is_plain and isinstance(stroke, Typed) and not self.prefix and stroke.data[0] not in self.special
+        if self.editor.status.mode != PLAIN or self.prefix or not isinstance(stroke, Typed):
+            return False
+        if any(key in stroke.data for key in WITHIN):
+            return self._is_text()
+        return stroke.data[0] not in self.special and not SEARCHING.search(self.editor.untold)
+
+    def _is_text(self) -> bool:
+        """Whether TAB and RET are text: nothing is asked for, nor can it be by keys that are not answered."""
+        status = self.editor.status
+        return status.mode == PLAIN and not (status.begun or KEYS.search(self.editor.untold))
 
     def _answer(self, stroke: Stroke, desk: "Session") -> None:
         """Gives the front's own question the first key of a stroke; the others wait, as it may end."""
@@ -97,6 +109,12 @@ class Dispatcher:
     def _put_back(self, keys: bytes) -> None:
         """Has keys wait before all others."""
         self.strokes.extendleft(map(Typed, reversed(self.piece.findall(keys))))
+
+    def _divided(self, data: bytes) -> tuple[bytes, bytes]:
+        """Returns what stands up to the next TAB or RET, or one of these, and what stands after it."""
+        part = PART.match(data)
+        assert part
+        return part[0], data[part.end() :]
 
     def _hand_on(self, keys: bytes, desk: "Session") -> None:
         self.editor.hand_on(keys)
@@ -114,6 +132,9 @@ class Dispatcher:
             if not self._search(found[0]):
                 self._press(found[0], desk)
         else:
+            if not self._is_text():
+                data, rest = self._divided(data)
+                self._put_back(rest)
             self._press(data, desk)
 
     def _press(self, data: bytes, desk: "Session") -> None:

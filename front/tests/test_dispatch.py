@@ -97,6 +97,26 @@ class TestDispatch(unittest.TestCase):
         self.assertEqual(self.press(b"ab"), b"ab")
         self.assertEqual(self.press(b"c"), b"c")
 
+    def test_lines_go_on_at_once(self) -> None:
+        self.assertEqual(self.press(b"one\r\ttwo\r"), b"one\r\ttwo\r")
+        self.assertEqual(self.press(b"\r\xc3\xa9\r"), b"\r\xc3\xa9\r")
+
+    def test_the_end_of_a_line_waits_for_what_may_ask_for_one(self) -> None:
+        for keys in (b"\x06", b"\x1bx", b"\x18\x06"):
+            with self.subTest(keys=keys):
+                self.setUp()
+                self.assertEqual(self.press(keys), keys)
+                self.assertEqual(self.press(b"a"), b"a")
+                self.assertEqual(self.press(b"b\tc\r"), b"")
+                self.assertEqual(self.answer(**asking("M-x ", "a")), b"b")
+                self.answer(**asking("M-x ", "ab"))
+                self.assertEqual(self.desk.done, ["complete"])
+
+    def test_what_is_typed_within_a_key_is_no_text(self) -> None:
+        self.press(b"\x15")
+        self.assertEqual(self.answer(begun=True) + self.press(b"4\r"), b"4")
+        self.assertEqual(self.answer(begun=True), b"\r")
+
     def test_what_depends_on_the_answer_waits_for_it(self) -> None:
         self.assertEqual(self.press(b"a\x18\x06b"), b"a")
         self.assertEqual(self.answer(), b"\x18\x06b")
