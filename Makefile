@@ -23,7 +23,7 @@ NEED_RT = command -v rt >/dev/null || { \
 
 NEED_PYTHON = command -v python3 >/dev/null || { echo "python3 is not installed" >&2; exit 1; }
 
-.PHONY: build try scenes test-front try-live try-hub try-exchange try-sharing try-engines try-emacs crash hostile files test gate wrong-bodies other-store contracts bench bench-growth bench-live pictures install uninstall dist try-install clean help
+.PHONY: build try scenes test-front try-live try-hub try-exchange try-sharing try-engines try-emacs crash hostile files test gate wrong-bodies other-store contracts bench bench-growth bench-beside bench-live pictures install uninstall dist try-install clean help
 
 build: build/mgr
 	@echo "build/mgr is up to date"
@@ -130,6 +130,11 @@ bench-growth: build/mgr build/generate
 	@$(NEED_PYTHON)
 	@bench/growth.py
 
+# Beside mg, Emacs, crdt.el and Yjs, in one run, with the mgr that make built. It takes some ten minutes.
+bench-beside: build/mgr build/generate
+	@$(NEED_PYTHON)
+	@bench/beside.py
+
 # Writing together, beside other programs, with the mgr that make built. It takes some twenty minutes.
 bench-live: build/mgr
 	@$(NEED_PYTHON)
@@ -214,6 +219,9 @@ help:
 	@echo "make bench-growth"
 	@echo "               runs mgr on 27 works, each at three sizes, and says which grow faster than they should (needs"
 	@echo "               python3 and rustc)"
+	@echo "make bench-beside"
+	@echo "               measures mgr beside mg and Emacs on a terminal, Yjs, and Emacs with crdt.el, if they are installed"
+	@echo "               (needs python3 and rustc; node and node-yjs, elpa-crdt)"
 	@echo "make bench-live"
 	@echo "               measures writing together by mgr-hub, Redis and git, beside mg, Emacs, crdt.el and tmux if they are"
 	@echo "               installed (needs python3)"

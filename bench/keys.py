@@ -4,9 +4,11 @@
 Prints a row a figure, with what is wanted of it: the microseconds of user time of a key, where text
 is typed with motions, kills, yanks and undos in a text of 100,000 characters, without frames and
 with one a key; the milliseconds of user and system time of a yank of a tenth of such a text; the
-seconds of 260,000 keys that write a text of 100,000 characters; the loading of a log of a million
-operations, over `mgr show` of it; of a text of a million characters without a log; a save of that,
-over the writing and syncing of the same bytes; and the peak memory of it. The time of the same run
+microseconds of a character that is typed in the middle of 900,000, and of one that is typed there and
+undone; the seconds of 260,000 keys that write a text of 100,000 characters; the loading of a log of a
+million operations, over `mgr show` of it, and its peak memory; that of a text of a million characters
+without a log; a save of that, over the writing and syncing of the same bytes; and the peak memory of it.
+The time of the same run
 without keys is taken off where a key is told, and the least of the measurements counts. A call by
 hand may name another mgr, and fewer characters and keys.
 """
@@ -27,6 +29,7 @@ MEASUREMENTS = 3
 LINE = 60
 TRACED = 20  # of so many keys one is measured with frames
 YANKS = 20
+TYPED, UNDONE = 20_000, 200
 SAVE = b"\x18\x13"
 
 # The program is the shell's only child, so the peak is its own; the times are of one run.
@@ -152,7 +155,22 @@ def measure_yanks(editor, size):
     files, tenth = {"text": text_of(size).encode()}, size // 10 - 1
     copy = b"\x00\x15%d\x06\x1bw\x1b<" % tenth
     none, yanked = (editor.edit(copy + b"\x19" * count, files).processor for count in (0, YANKS))
-    print_row(f"{tenth:,} characters yanked in {size:,}, of {YANKS}", (yanked - none) / YANKS * 1e3, "ms", 1.5)
+    print_row(f"{tenth:,} characters yanked in {size:,}, of {YANKS}", (yanked - none) / YANKS * 1e3, "ms", 1.0)
+
+
+def measure_middle(editor, size):
+    """Characters are typed in the middle of a large text, and each of some is undone."""
+    files, go = {"text": text_of(size).encode()}, down(size // LINE // 2)
+    none = editor.edit(go, files).user
+    typed = (editor.edit(go + b"x" * TYPED, files).user - none) / TYPED
+    print_row(f"a character typed in the middle of {size:,}, of {TYPED:,}", typed * 1e6, "us", 50)
+    undone = (editor.edit(go + b"x\x1f" * UNDONE, files).user - none) / UNDONE
+    print_row(f"one typed there and undone, of {UNDONE:,}", undone * 1e6, "us", 150)
+
+
+def down(lines):
+    """Returns the keys that go down so many lines; no argument is above 9999."""
+    return b"\x159999\x0e" * (lines // 9999) + b"\x15%d\x0e" % (lines % 9999)
 
 
 def measure_writing(editor, size, count):
@@ -163,21 +181,22 @@ def measure_writing(editor, size, count):
 
 def measure_loading(editor, size):
     log = generated("typing", size)
-    loads = editor.edit(b"", {"text.ops": log}).user
+    loads = editor.edit(b"", {"text.ops": log})
     shows = editor.cost(["show"], log, {}).user
-    print_row(f"a log of {size:,} operations, over mgr show", loads / shows, "times", 1.3)
+    print_row(f"a log of {size:,} operations, over mgr show", loads.user / shows, "times", 1.3)
+    print_row("peak memory of it", loads.kilobytes / 1024, "MiB", 100)
 
 
 def measure_text(editor, size):
     """A text of so many characters, of which one is then deleted, so that all fit in a store."""
     files, keys = {"text": text_of(size).encode()}, b"\x04"
     loaded = editor.edit(keys, files)
-    print_row(f"a text of {size:,} characters without a log", loaded.user, "s", 2)
+    print_row(f"a text of {size:,} characters without a log", loaded.user, "s", 0.05)
     saved = editor.edit(keys + SAVE, files)
     written = b"".join((FOLDER / name).read_bytes() for name in ("text.ops", "text"))
     seconds, alone = saved.wall - loaded.wall, time_of_writing(written)
-    print_row(f"a save of it, over the {alone:.2f} s of writing its {len(written):,} bytes", seconds / alone, "times", 1.5)
-    print_row("peak memory of it, unsaved and saved", max(loaded.kilobytes, saved.kilobytes) / 1024, "MiB", 400)
+    print_row(f"a save of it, over the {alone:.2f} s of writing its {len(written):,} bytes", seconds / alone, "times", 1.2)
+    print_row("peak memory of it, unsaved and saved", max(loaded.kilobytes, saved.kilobytes) / 1024, "MiB", 100)
 
 
 def time_of_writing(data):
@@ -204,6 +223,7 @@ def main():
     print(f"{'':<62} {'figure':>9} {'':<6} {'wanted':>7}")
     measure_keys(editor, 100_000 // part, 100_000 // part)
     measure_yanks(editor, 100_000 // part)
+    measure_middle(editor, 900_000 // part)
     measure_writing(editor, 100_000 // part, 260_000 // part)
     measure_loading(editor, 1_000_000 // part)
     measure_text(editor, 1_000_000 // part)
