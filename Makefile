@@ -144,6 +144,7 @@ bench-live: build/mgr
 pictures: build/mgr
 	@scripts/pictures.py two-people build/mgr
 	@scripts/pictures.py figures
+	@scripts/pictures.py beside
 
 build/generate build/paged: build/%: bench/%.rs
 	@command -v rustc >/dev/null || { echo "rustc is not installed" >&2; exit 1; }

@@ -25,6 +25,7 @@ import shutil
 import statistics
 import subprocess
 import sys
+import time
 
 import live
 from keys import MEASUREMENTS, Editor, text_of
@@ -35,7 +36,7 @@ from terminal import children
 FOLDER = BUILD / "bench" / "beside"
 SIZES = (1_000, 100_000, 900_000)
 # How often a command is measured; at the greatest size a note has room for one.
-ROUNDS = {1_000: 5, 100_000: 3, 900_000: 1}
+ROUNDS = {1_000: 3, 100_000: 3, 900_000: 1}
 EDITORS = {
     "mgr-live": [*LIVE, "note", "--replica", "1"],
     "mg": ["mg", "-n", "note"],
@@ -83,8 +84,9 @@ class Edited:
         """Returns the median of the milliseconds that something answers, and those of processor for each of so many."""
         before = self.processor()
         took = act()
+        cost = statistics.median(took), (self.processor() - before) / count
         rest([self.screen], 0.5)
-        return statistics.median(took), (self.processor() - before) / count
+        return cost
 
     def keys(self, count):
         signs = live.WIDE if self.has_wide else live.NARROW
@@ -101,9 +103,10 @@ class Edited:
 
         def act():
             sign = next(self.signs)
-            self.screen.shown = b""
+            self.screen.shown, begun = b"", time.monotonic()
             self.screen.press(keys + sign)
-            return await_all([self.screen], sign, 600)
+            await_all([self.screen], sign, 600)
+            return [1000 * (time.monotonic() - begun)]
 
         cost = self.measured(act)
         self.screen.press(UNDO)

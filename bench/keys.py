@@ -7,10 +7,9 @@ with one a key; the milliseconds of user and system time of a yank of a tenth of
 microseconds of a character that is typed in the middle of 900,000, and of one that is typed there and
 undone; the seconds of 260,000 keys that write a text of 100,000 characters; the loading of a log of a
 million operations, over `mgr show` of it, and its peak memory; that of a text of a million characters
-without a log; a save of that, over the writing and syncing of the same bytes; and the peak memory of it.
-The time of the same run
-without keys is taken off where a key is told, and the least of the measurements counts. A call by
-hand may name another mgr, and fewer characters and keys.
+without a log; a save of that, over the writing and syncing of the same bytes; and the peak memory of
+it. The time of the same run without keys is taken off where a key is told, and the least of the
+measurements counts. A call by hand may name another mgr, and fewer characters and keys.
 """
 
 import argparse

@@ -141,6 +141,15 @@ def await_all(screens, sign, seconds=180.0, all_screens=()):
     return [took[screen] for screen in screens]
 
 
+def await_last(screen, sign):
+    """Returns how many milliseconds it took until a screen was sent a character, however much came before it."""
+    begun = time.monotonic()
+    while not screen.has(sign):
+        screen.shown = b""
+        watch([screen], 0.5)
+    return 1000 * (time.monotonic() - begun)
+
+
 # ---- rows
 
 
@@ -429,7 +438,7 @@ def large(asked):
             screen.shown = b""
             pressing = threading.Thread(target=screen.press, args=(begin + text.encode().replace(b"\n", b"\r") + end + b"@",))
             pressing.start()
-            row(f"{name}, {how}", await_all([screen], b"@"), 1000)
+            row(f"{name}, {how}", [await_last(screen, b"@")], 1000)
             pressing.join()
             screen.kill()
 

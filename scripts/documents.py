@@ -165,8 +165,10 @@ def faults_of_versions():
     for name in ("front/mgr_front/__init__.py", "crates/mgr_args/src/command.rt"):
         if not re.search(rf'VERSION(: &str)? = "{re.escape(newest)}[" ]', (ROOT / name).read_text()):
             yield ROOT / "CHANGELOG.md", 1, newest, f"not the version of {name}"
-    if drawing.texts(pictures.figures()) != drawing.texts((pictures.PICTURES / "figures.svg").read_text()):
-        yield pictures.PICTURES / "figures.svg", 1, "figures", "not those of docs/performance.md: scripts/pictures.py figures"
+    for name, draw in pictures.DRAWN.items():
+        path = pictures.PICTURES / f"{name}.svg"
+        if not path.exists() or drawing.texts(draw()) != drawing.texts(path.read_text()):
+            yield path, 1, "figures", f"not those of docs/performance.md: scripts/pictures.py {name}"
 
 
 def spelling_faults():

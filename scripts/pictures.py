@@ -1,12 +1,12 @@
 #!/usr/bin/env python3
 """Draws the pictures of `docs/pictures/` from what the program shows, and from the figures that are written down.
 
-usage: pictures.py [--check] two-people MGR | figures
+usage: pictures.py [--check] two-people MGR | figures | beside
 
 `two-people` has two write in one note by a hub, in terminals of tmux: together, with the line of one cut, and with the
 line back. Each of the three moments is drawn as the terminals show it; the time since when somebody is alone is always
-drawn as 12:03. `figures` draws what `docs/performance.md` says. With --check nothing is written, and a picture whose
-text is not that of today ends the script with status 1.
+drawn as 12:03. `figures` and `beside` draw what `docs/performance.md` says: of `mgr show` and keys, and of other editors
+and Yjs. With --check nothing is written, and a picture whose text is not that of today ends the script with status 1.
 """
 
 import re
@@ -164,15 +164,27 @@ def row_of(what, size=""):
     sys.exit(f"docs/performance.md has no row of {what} {size}")
 
 
-def by_size():
-    """Returns the groups of what an operation takes in mgr show, and in a native program, by size."""
-    text = (ROOT / "docs" / "performance.md").read_text()
-    begun = text.index("**`mgr show`**, typing")
-    rows = re.findall(r"\| ([\d,]+) \| ([\d.]+) µs, ([\d.]+)", text[begun : begun + 400])[:3]
-    return [
-        (f"{size} operations", [("mgr show", float(took), OURS), ("plain Rust with a hash map", float(took) / float(ratio), THEIRS)])
-        for size, took, ratio in rows
-    ]
+def table(heading):
+    """Returns the rows of a table of docs/performance.md, by what its first cell has; bold is left out."""
+    lines = (ROOT / "docs" / "performance.md").read_text().replace("**", "").splitlines()
+    begun = next(at for at, line in enumerate(lines) if line.startswith(f"| {heading}"))
+    ended = next(at for at, line in enumerate(lines) if at > begun and not line.startswith("|"))
+    return [[cell.strip() for cell in line.strip("|").split("|")] for line in lines[begun + 2 : ended]]
+
+
+def figure(cell, place=0):
+    """Returns a figure of a cell."""
+    return float(re.findall(r"[\d.,]+", cell)[place].strip(",").replace(",", ""))
+
+
+def pair(row, ours, theirs):
+    """Returns a group of two bars, of the first figures of a row."""
+    return row[0], [(ours, figure(row[1]), OURS), (theirs, figure(row[2]), THEIRS)]
+
+
+def of_shapes():
+    """Returns the groups of what a log takes mgr show, and a program in plain Rust, by its shape."""
+    return [pair(row, "mgr show", "plain Rust, in pages") for row in table("1,000,000 operations")[:3]]
 
 
 def of_keys():
@@ -184,22 +196,59 @@ def of_keys():
     return [("four write together", together), ("one writes alone", by_oneself)]
 
 
-def figures():
-    picture = Drawing(720, 490, "What mgr takes beside other programs")
-    picture.words(PAD, 24, "Reading a log: microseconds for an operation", "#1f2328", weight="bold")
-    end = drawing.bars(picture, PAD, 38, 330, by_size(), "µs")
-    picture.line((PAD, end + 4), (710, end + 4))
-    picture.words(PAD, end + 30, "A key in a text of 100,000 characters: milliseconds to the own screen", "#1f2328", weight="bold")
-    drawing.bars(picture, PAD, end + 44, 330, of_keys(), "ms")
+def of_editors():
+    """Returns the groups of what works take editors, in a text of 100,000 characters."""
+    names = ("mgr-live", OURS), ("mg", THEIRS), ("Emacs", THEIRS)
+    rows = table("A text of")[1:]
+    return [(row[0], [(name, figure(cell, 1), colour) for (name, colour), cell in zip(names, row[1:])]) for row in rows]
+
+
+def of_edits():
+    """Returns the groups of what an author's edits take: in seconds, and in MB."""
+    rows = table("One author")
+    return [[pair(row, "mgr", "Yjs") for row in rows if f" {unit}" in row[1]] for unit in ("s", "MB")]
+
+
+def drawing_of(title, *parts):
+    """Returns a drawing of bars: a heading, groups and a unit of each part, one below the other."""
+    high = sum(66 + sum(34 + 22 * len(members) for _, members in groups) for _, groups, _ in parts)
+    picture, end = Drawing(720, high, title), 0
+    for heading, groups, unit in parts:
+        if end:
+            picture.line((PAD, end + 4), (710, end + 4))
+        picture.words(PAD, end + 30, heading, "#1f2328", weight="bold")
+        end = drawing.bars(picture, PAD, end + 44, 330, groups, unit)
     return picture.svg()
+
+
+def figures():
+    return drawing_of(
+        "What mgr takes beside other programs",
+        ("Reading a log of 1,000,000 operations: seconds", of_shapes(), "s"),
+        ("A key in a text of 100,000 characters: milliseconds to the own screen", of_keys(), "ms"),
+    )
+
+
+def beside():
+    seconds, megabytes = of_edits()
+    return drawing_of(
+        "What mgr takes beside other editors, and beside Yjs",
+        ("A text of 100,000 characters: milliseconds of processor", of_editors(), "ms"),
+        ("One author's 259,778 edits: seconds", seconds, "s"),
+        ("The same: MB that are kept", megabytes, "MB"),
+    )
+
+
+# What is drawn of docs/performance.md.
+DRAWN = {"figures": figures, "beside": beside}
 
 
 def main():
     words = [word for word in sys.argv[1:] if word != "--check"]
-    if not words or words[0] not in ("two-people", "figures") or len(words) != (2 if words[0] == "two-people" else 1):
+    if not words or words[0] not in ("two-people", *DRAWN) or len(words) != (2 if words[0] == "two-people" else 1):
         sys.exit(__doc__.split("\n\n")[1])
     name, checks = words[0], "--check" in sys.argv
-    draw = (lambda: two_people(words[1])) if name == "two-people" else figures
+    draw = DRAWN.get(name) or (lambda: two_people(words[1]))
     path = PICTURES / f"{name}.svg"
     if not checks:
         PICTURES.mkdir(exist_ok=True)
