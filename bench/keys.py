@@ -28,7 +28,7 @@ MEASUREMENTS = 3
 LINE = 60
 TRACED = 20  # of so many keys one is measured with frames
 YANKS = 20
-TYPED, UNDONE = 20_000, 200
+TYPED, UNDONE = 20_000, 5_000
 SAVE = b"\x18\x13"
 
 # The program is the shell's only child, so the peak is its own; the times are of one run.
