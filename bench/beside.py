@@ -124,21 +124,20 @@ class Edited:
 
 def works(mgr, name, size, keys, left_out):
     """Returns what each work costs an editor, if it is done."""
-    costs = {}
-
-    def edit(rounds, *pairs):
+    costs = {what: [] for what in WORKS if what not in left_out}
+    edited = Edited(mgr, name, size)
+    costs["a key"].append(edited.keys(keys))
+    if "a fill" in costs:
+        for _ in range(ROUNDS[size]):
+            costs["a fill"].append(edited.work(FILL))
+            costs["its undo"].append(edited.work(UNDO))
+    edited.end()
+    for _ in range(ROUNDS[size] if "a replace" in costs else 0):
+        # The undo of the character after it may take a replace back too.
         edited = Edited(mgr, name, size)
-        for _ in range(rounds):
-            for what, act in pairs:
-                costs.setdefault(what, []).append(act(edited))
-        edited.end()
-
-    edit(1, ("a key", lambda edited: edited.keys(keys)))
-    if "a fill" not in left_out:
-        edit(ROUNDS[size], ("a fill", lambda edited: edited.work(FILL)), ("its undo", lambda edited: edited.work(UNDO)))
-    if "a replace" not in left_out:
-        edit(ROUNDS[size], ("a replace", lambda edited: edited.work(REPLACE)), ("", lambda edited: edited.work(UNDO)))
-    return {what: tuple(map(statistics.median, zip(*each))) for what, each in costs.items() if what}
+        costs["a replace"].append(edited.work(REPLACE))
+        edited.screen.kill()
+    return {what: tuple(map(statistics.median, zip(*each))) for what, each in costs.items() if each}
 
 
 def editors(asked):
