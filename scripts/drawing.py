@@ -89,7 +89,7 @@ def bars(drawing, x, y, width, groups, unit):
         for name, figure, colour in members:
             drawing.words(x + 250, y + 13, name, "#1f2328", anchor="end")
             drawing.box(x + 258, y, width * figure / most, 17, colour, 2)
-            drawing.words(x + 264 + width * figure / most, y + 13, f"{figure:.2g} {unit}", DIM)
+            drawing.words(x + 264 + width * figure / most, y + 13, f"{figure:{',.0f' if figure >= 100 else '.2g'}} {unit}", DIM)
             y += 22
         y += 10
     return y
