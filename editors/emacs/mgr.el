@@ -133,7 +133,9 @@ What comes meanwhile waits, unless it reads in the minibuffer.")
     (mgr--take-queue session)))
 
 (defun mgr--filter (process string)
-  "Take STRING, which PROCESS wrote."
+  "Take STRING, which PROCESS wrote.
+If that has ended it is done later: an Emacs that reads what is left of it
+crashes if whatever is done here, as a hook of the buffer, waits for something."
   (when-let* ((session (process-get process 'mgr-session)))
     (push string (mgr--session-parts session))
     (when (string-search "\n" string)
@@ -141,7 +143,7 @@ What comes meanwhile waits, unless it reads in the minibuffer.")
         (setf (mgr--session-parts session) (last lines))
         (setf (mgr--session-queue session)
               (nconc (mgr--session-queue session) (butlast lines)))
-        (unless mgr--is-taking
+        (unless (or mgr--is-taking (not (process-live-p process)))
           (mgr--take-queue session))))))
 
 (defun mgr--take-queue (session)
@@ -193,6 +195,7 @@ said last is read meanwhile."
                     (not (process-live-p process))
                     (time-less-p until nil)))
       (accept-process-output process 0.1))
+    (mgr--take-queue session)
     (or value (funcall done))))
 
 (defun mgr--no-answer (session)

@@ -397,6 +397,61 @@
        (mgr-open (mgr-tests-file "note")))
      (should (equal (buffer-string) "one two")))))
 
+;;;; An mgr-channel that ends
+
+(defconst mgr-tests-opens
+  "#!/bin/sh
+says() { printf '{\"op\":\"%%s\",\"made\":0%%s}\\n' $1 \"$2\"; }
+says open \",\\\"path\\\":\\\"$1\\\"\"
+says change ',\"splices\":[[0,0,\"words\"]]'
+%s
+says begun
+%s
+"
+  "A program in place of mgr-channel, which does something before the text is there, and after.")
+
+(defun mgr-tests-at-terminal (before after &rest body)
+  "Have an Emacs at a terminal do BODY in a note, and return the text of its buffer.
+Its mgr-channel does BEFORE and AFTER, in the shell."
+  (let ((channel (mgr-tests-file "channel")) (process-environment (cons "TERM=vt100" process-environment)) emacs)
+    (write-region (format mgr-tests-opens before after) nil channel nil 'quiet)
+    (set-file-modes channel #o700)
+    (setq emacs (start-process "emacs" nil "emacs" "-Q" "-nw" "-l" (locate-library "mgr") "--eval"
+                               (format "%S" `(progn (setq mgr-channel-program ,channel)
+                                                    (mgr-open ,(mgr-tests-file "note"))
+                                                    (goto-char (point-max))
+                                                    ,@body
+                                                    (write-region nil nil ,(mgr-tests-file "text") nil 'quiet)
+                                                    (kill-emacs)))))
+    (set-process-query-on-exit-flag emacs nil)
+    (unwind-protect
+        (mgr-tests-await "it ends" (lambda () (not (process-live-p emacs))))
+      (delete-process emacs))
+    (should (equal (list (process-status emacs) (process-exit-status emacs)) '(exit 0)))
+    (mgr-tests-text "text")))
+
+(ert-deftest mgr-tests-deaf ()
+  "An Emacs whose mgr-channel takes nothing any more says so, and goes on."
+  (mgr-tests-in-folder
+   (lambda ()
+     (should (equal (mgr-tests-at-terminal "exec <&-" "sleep 1"
+                                           '(insert ", more")
+                                           '(while mgr-mode (sleep-for 0.1))
+                                           '(insert (if (buffer-modified-p) "!" "?")))
+                    "words, more!")))))
+
+(ert-deftest mgr-tests-last-words ()
+  "What mgr-channel said before it ended is done, and a hook may wait then."
+  (mgr-tests-in-folder
+   (lambda ()
+     (should (equal (mgr-tests-at-terminal "" "cat >/dev/null; says change ',\"splices\":[[5,5,\", more\"]]'"
+                                           '(add-hook 'after-change-functions (lambda (&rest _) (sleep-for 0.05)) nil t)
+                                           ;; It has ended before any of that is read.
+                                           '(advice-add 'mgr--await-end :before
+                                                        (lambda (&rest _) (call-process "sleep" nil nil nil "0.5")))
+                                           '(mgr-leave))
+                    "words, more")))))
+
 ;;;; Two who write
 
 (ert-deftest mgr-tests-places-stay ()
