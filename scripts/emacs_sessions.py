@@ -28,6 +28,8 @@ PATIENCE, REST = 300, 60
 # In so many sessions of all 1 MB is pasted. What redoes that takes minutes to all others on a busy machine.
 LARGE, LARGE_REST = 0.1, 600
 UP, DOWN, LEAVE = b"\x10", b"\x0e", b"\x18\x03"
+# An Emacs at a terminal ignores SIGPIPE, and so does this program; a batch Emacs leaves that signal as it finds it.
+AS_AT_A_TERMINAL = {"restore_signals": False}
 
 
 class Fault(Exception):
@@ -70,7 +72,8 @@ class Emacs:
         first = LEAST + (2 * self.number + (self.starts > 1)) * EACH + 0x400 * max(0, self.starts - 2)
         served = f'(writer-serve "{path}" {first} "{chance.random()}")'
         with open(self.folder / "said", "a") as said:
-            self.process = start(emacs_command("-l", "writer", "--eval", served), env=self.words, stdout=said, stderr=said)
+            command = emacs_command("-l", "writer", "--eval", served)
+            self.process = start(command, env=self.words, stdout=said, stderr=said, **AS_AT_A_TERMINAL)
         listener.settimeout(PATIENCE)
         self.link = listener.accept()[0]
         self.link.settimeout(PATIENCE)

@@ -22,7 +22,7 @@ import subprocess
 import sys
 import time
 
-from emacs_sessions import COMPILED, EDITOR, Emacs, Fault, compiled, emacs_command, play
+from emacs_sessions import AS_AT_A_TERMINAL, COMPILED, EDITOR, Emacs, Fault, compiled, emacs_command, play
 from engines import ENGINES, Hub, Sshd, await_that, fail, stop_all
 from play.peers import free_port
 from terminal import ROOT, environment
@@ -68,7 +68,7 @@ def tests(mgr, options):
     folder = FOLDER / "tests"
     folder.mkdir(parents=True)
     command = emacs_command("-l", "mgr-tests", "-f", "ert-run-tests-batch-and-exit")
-    done = subprocess.run(command, env=environment(mgr, folder), capture_output=True, text=True)
+    done = subprocess.run(command, env=environment(mgr, folder), capture_output=True, text=True, **AS_AT_A_TERMINAL)
     print(*[line for line in done.stderr.splitlines() if line.startswith("Ran ")], sep="\n")
     if done.returncode:
         fail(done.stderr[-5000:])
