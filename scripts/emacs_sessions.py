@@ -93,6 +93,8 @@ class Emacs:
             line = self.answers.readline()
         except TimeoutError:
             raise Fault(f"Emacs {self.number} does not answer: {self.said()}") from None
+        except ConnectionError:
+            line = ""
         if not line:
             raise Fault(f"Emacs {self.number} ended with {self.process.wait(PATIENCE)}: {self.said()}")
         told = json.loads(line)

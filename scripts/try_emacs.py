@@ -29,6 +29,8 @@ from terminal import ROOT, environment
 
 FOLDER = ROOT / "build" / "try-emacs"
 SESSIONS, KEYS, EACH = 12, 150, 0.1
+# After so many sessions it is said how many are played.
+SAID = 25
 PLACES = "hub", "dir", "git", "redis"
 SIZES, LARGE = (1_000, 100_000), 900_000
 # Of package-lint: an old one does not know newer Emacs.
@@ -80,7 +82,11 @@ def sessions(mgr, options):
     seeds = range(options.seed, options.seed + options.sessions)
     # Forked ones would try the same ports.
     with concurrent.futures.ProcessPoolExecutor(options.jobs, multiprocessing.get_context("spawn")) as pool:
-        ended = list(pool.map(session, [mgr] * len(seeds), seeds))
+        ended = []
+        for end in pool.map(session, [mgr] * len(seeds), seeds):
+            ended.append(end)
+            if len(ended) % SAID == 0:
+                print(f"{len(ended)} are played, {ended.count(())} with faults", flush=True)
     if faults := [seed for seed, end in zip(seeds, ended) if not end]:
         fail(f"{len(faults)} of {options.sessions} sessions: {faults}")
     killed, pasted, typed = (sum(each) for each in zip(*ended))
@@ -93,8 +99,8 @@ def session(mgr, seed):
     folder = FOLDER / "sessions" / str(seed)
     try:
         killed, is_large, typed = play(mgr, folder, seed)
-    except (Fault, SystemExit) as fault:
-        print(f"session {seed}, in {folder}: {fault}", flush=True)
+    except (Fault, SystemExit, OSError, subprocess.SubprocessError) as fault:
+        print(f"session {seed}, in {folder}: {type(fault).__name__}: {fault}", flush=True)
         return ()
     shutil.rmtree(folder)
     return len(killed), is_large, typed
