@@ -408,11 +408,11 @@ says change ',\"splices\":[[0,0,\"words\"]]'
 says begun
 %s
 "
-  "A program in place of mgr-channel, which does something before the text is there, and after.")
+  "A program in place of mgr-channel: what it does before it begins, and after.")
 
 (defun mgr-tests-at-terminal (before after &rest body)
-  "Have an Emacs at a terminal do BODY in a note, and return the text of its buffer.
-Its mgr-channel does BEFORE and AFTER, in the shell."
+  "Have an Emacs at a terminal do BODY in a note, and return its text then.
+The program in place of its mgr-channel does BEFORE and AFTER, as a shell."
   (let ((channel (mgr-tests-file "channel")) (process-environment (cons "TERM=vt100" process-environment)) emacs)
     (write-region (format mgr-tests-opens before after) nil channel nil 'quiet)
     (set-file-modes channel #o700)
