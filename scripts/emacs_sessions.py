@@ -1,5 +1,6 @@
 """Random sessions of two Emacs and one mgr-live at a hub, in which each character that is typed stands nowhere else."""
 
+import contextlib
 import fcntl
 import json
 import os
@@ -27,7 +28,7 @@ LEAST, EACH = 0x20000, 0x3000
 PATIENCE, REST = 300, 60
 # In so many sessions of all 1 MB is pasted. What redoes that takes minutes to all others on a busy machine.
 LARGE, LARGE_REST = 0.1, 600
-UP, DOWN, LEAVE = b"\x10", b"\x0e", b"\x18\x03"
+UP, DOWN, LEAVE, LEFT = b"\x10", b"\x0e", b"\x18\x03", b"\x1b[?1049l"
 # An Emacs at a terminal ignores SIGPIPE, and so does this program; a batch Emacs leaves that signal as it finds it.
 AS_AT_A_TERMINAL = {"restore_signals": False}
 
@@ -174,15 +175,16 @@ class Typist:
     def leave(self):
         os.write(self.master, LEAVE)
         time.sleep(0.3)
-        for _ in range(200):
+        end = time.monotonic() + PATIENCE
+        while time.monotonic() < end:
             if os.waitpid(self.pid, os.WNOHANG)[0]:
                 # Another program may have this number soon.
                 self.pid = None
                 return
-            try:
-                os.write(self.master, b"s")
-            except OSError:
-                pass
+            # Once it has left the screen it asks nothing more. With 1 MB it may still take its time.
+            if LEFT not in self.shown:
+                with contextlib.suppress(OSError):
+                    os.write(self.master, b"s")
             time.sleep(0.1)
         raise Fault(f"mgr-live does not end: {self.shown[-500:]!r}")
 
