@@ -25,7 +25,8 @@ CHANNEL = ROOT / "front" / "mgr-channel"
 COMPILED = ROOT / "build" / "try-emacs" / "elisp"
 # Characters from here on stand nowhere else; each who writes has so many of them.
 LEAST, EACH = 0x20000, 0x3000
-PATIENCE, REST = 300, 60
+# Three undos may be waited for 120 seconds each.
+PATIENCE, REST = 900, 60
 # In so many sessions of all 1 MB is pasted. What redoes that takes minutes to all others on a busy machine.
 LARGE, LARGE_REST = 0.1, 600
 UP, DOWN, LEAVE, LEFT = b"\x10", b"\x0e", b"\x18\x03", b"\x1b[?1049l"
