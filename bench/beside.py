@@ -29,7 +29,7 @@ import time
 
 import live
 from keys import MEASUREMENTS, Editor, text_of
-from live import LIVE, QUIET, Screen, await_all, engines, lacks, own_keys, rest
+from live import LIVE, QUIET, Screen, await_all, lacks, own_keys, rest
 from measure import BUILD, generated
 from terminal import children
 
@@ -296,23 +296,10 @@ PARTS = {"editors": editors, "yjs": yjs, "crdt": live.crdt, "hub": live.hub}
 
 def main():
     parser = argparse.ArgumentParser(description=__doc__, formatter_class=argparse.RawDescriptionHelpFormatter)
-    parser.add_argument("--mgr", metavar="PATH", default=str(BUILD / "mgr"), help="another mgr")
     parser.add_argument("--keys", metavar="N", type=int, default=200, help="how many keys are measured")
     parser.add_argument("--edits", metavar="N", type=int, default=EDITS, help="how many edits the author makes")
     parser.add_argument("--size", metavar="N", type=int, choices=SIZES, help="only texts of so many characters")
-    parser.add_argument("parts", metavar="PART", nargs="*", help=f"of {', '.join(PARTS)}; else all")
-    asked = parser.parse_args()
-    if not set(asked.parts) <= set(PARTS):
-        parser.error(f"parts are {', '.join(PARTS)}")
-    asked.mgr = os.path.abspath(asked.mgr)
-    try:
-        for name in asked.parts or PARTS:
-            print(f"{name}: {PARTS[name].__doc__}", flush=True)
-            load = live.Load()
-            PARTS[name](asked)
-            load.tell()
-    finally:
-        engines.stop_all()
+    live.measure(parser, PARTS)
 
 
 if __name__ == "__main__":

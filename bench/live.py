@@ -609,25 +609,30 @@ def alone(asked):
 PARTS = {part.__name__: part for part in (alone, large, hub, flood, quiet, paste, redis, git, crdt, one_emacs, one_tmux)}
 
 
-def main():
-    parser = argparse.ArgumentParser(description=__doc__, formatter_class=argparse.RawDescriptionHelpFormatter)
+def measure(parser, parts):
+    """Measures the parts that the command line names, of these, and tells what else the processors did meanwhile."""
     parser.add_argument("--mgr", metavar="PATH", default=str(ROOT / "build" / "mgr"), help="another mgr")
-    parser.add_argument("--keys", metavar="N", type=int, default=KEYS, help="how many keys a row is measured with")
-    parser.add_argument("--idle", metavar="N", type=float, default=IDLE, help="for how many seconds nothing is done")
-    parser.add_argument("--size", metavar="N", type=int, choices=SIZES, help="only notes of so many characters")
-    parser.add_argument("parts", metavar="PART", nargs="*", help=f"of {', '.join(PARTS)}; else all")
+    parser.add_argument("parts", metavar="PART", nargs="*", help=f"of {', '.join(parts)}; else all")
     asked = parser.parse_args()
-    if not set(asked.parts) <= set(PARTS):
-        parser.error(f"parts are {', '.join(PARTS)}")
+    if not set(asked.parts) <= set(parts):
+        parser.error(f"parts are {', '.join(parts)}")
     asked.mgr = os.path.abspath(asked.mgr)
     try:
-        for name in asked.parts or PARTS:
-            print(f"{name}: {PARTS[name].__doc__}", flush=True)
+        for name in asked.parts or parts:
+            print(f"{name}: {parts[name].__doc__}", flush=True)
             load = Load()
-            PARTS[name](asked)
+            parts[name](asked)
             load.tell()
     finally:
         engines.stop_all()
+
+
+def main():
+    parser = argparse.ArgumentParser(description=__doc__, formatter_class=argparse.RawDescriptionHelpFormatter)
+    parser.add_argument("--keys", metavar="N", type=int, default=KEYS, help="how many keys a row is measured with")
+    parser.add_argument("--idle", metavar="N", type=float, default=IDLE, help="for how many seconds nothing is done")
+    parser.add_argument("--size", metavar="N", type=int, choices=SIZES, help="only notes of so many characters")
+    measure(parser, PARTS)
 
 
 if __name__ == "__main__":
