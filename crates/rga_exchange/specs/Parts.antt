@@ -6,6 +6,7 @@ use Rattle.rga_exchange.specs.Counting.{Calls, IsReadToEnd}
 use Rattle.rga_lines.specs.Log.{operations_of}
 use Rattle.rga_lines.specs.Stream.{Splitting, lines_of, rest_of}
 use Rattle.rga_lines.specs.Table.{any_line_at}
+use Rattle.rga_lines.specs.declared.line.Line.TheVariants.{One}
 use Rattle.rga_lines.specs.declared.line.TheConstants.{MAX_LINE}
 use Rattle.rga_lines.specs.declared.fault.LineFault.TheVariants as line_fault
 use Rattle.rga_exchange.specs.Receiving.{EndsWithLastRead}
@@ -26,6 +27,10 @@ pub record Stage : Type 0 where
 
 abbrev pub stage : ℕ → ℕ → List ℕ → Stage
 stage n j waiting = record { lines = n; operations = j; waiting = waiting }
+
+-- the line says this operation
+abbrev pub SaysAlone : List ℕ → Op → Type 0
+SaysAlone line op = any_line_at line ≡ Ok (One op)
 
 -- what comes of a line with that number
 abbrev pub line_outcome : {T : Type 0} → Form → (T → ℕ) → (T → Content) → T → ℕ → List ℕ → Result Content Stop

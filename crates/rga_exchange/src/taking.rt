@@ -1,14 +1,16 @@
 //! The lines of a stream, taken in turn into whatever takes operations.
-ghost use Rattle.std.specs.Prelude.{◌≡◌, ◌≢◌, ◌+◌, ◌*◌, ◌^◌, ◌<◌, ◌≤◌, ◌||◌, ℕ, List, length, [], ◌∷◌, ◌++◌, false, Ok, Err, None, IfOk, IfErr, IfSome};
+ghost use Rattle.std.specs.Prelude.{◌≡◌, ◌≢◌, ◌+◌, ◌*◌, ◌^◌, ◌<◌, ◌≤◌, ◌||◌, ℕ, List, length, [], ◌∷◌, ◌++◌, false, Ok, take, Err, None, IfOk, IfErr, IfSome, MatchOption};
 ghost use Rattle.rga_ops.specs.Prelude.{taken};
 ghost use Rattle.rga_exchange.specs.Counting.{CountsAs, OnBytes};
 ghost use Rattle.rga_lines.specs.Log.{operations_of};
+ghost use Rattle.rga_lines.specs.Stream.{EndsNextLine, next_of};
 ghost use Rattle.rga_lines.specs.Table.{any_line_at};
+ghost use Rattle.rga_lines.specs.declared.fault.LineFault.TheVariants.{Long};
 ghost use Rattle.rga_exchange.specs.DeletionRuns.{is_deletion_run, has_deletion_runs};
 ghost use Rattle.rga_exchange.specs.Taking.{AtFault, refused_at, taken_whole};
 ghost use Rattle.rga_exchange.specs.Taking.{intake, HasTakenLines, HasTakenWholeLines};
 ghost use Rattle.rga_exchange.specs.Parts.{stage, left_at, line_outcome, head_answer, TakesAs, TakesLines};
-ghost use Rattle.rga_exchange.specs.Parts.{LeadsTo, EndsAs, HasTakenAllBut, StopsReading};
+ghost use Rattle.rga_exchange.specs.Parts.{LeadsTo, EndsAs, HasTakenAllBut, SaysAlone, StopsReading};
 ghost use Rattle.rga_exchange.specs.declared.fault.LogFault.TheVariants.{Read as ReadFailed};
 ghost use Rattle.rga_exchange.specs.Memory.{LogMemory as Memory};
 
@@ -145,8 +147,8 @@ fn take_lines<T: Taker>(
     ensures limit { T.limit taker.new ≡ T.limit taker.old }
 {
     'lines: loop {
-        let end = match splitter.find_line() {
-            Ok(Some(end)) => end,
+        let next = match find_next(splitter) {
+            Ok(Some(next)) => next,
             Ok(None) => return Ok(None),
             Err(fault) => return Err(LogFault::Line(*lines + 1, fault)),
         };
@@ -156,14 +158,49 @@ fn take_lines<T: Taker>(
             taker,
             ops,
             *lines + 1,
-            splitter.line(end),
+            splitter.line(next.end),
+            next.insertion,
             deletion_runs,
         )? {
             LineTaken::Operations(count) => *operations += u128::from(count),
             LineTaken::EndLine(number) => return Ok(Some(number)),
         }
-        splitter.pass_line(end);
+        splitter.pass_line(next.end);
         *lines += 1;
+    }
+}
+
+/// Where the next line ends, and the insertion that it says, if that was seen at once.
+#[derive(Clone, Copy)]
+struct Next {
+    end: usize,
+    insertion: Option<Op>,
+}
+
+/// The next whole line; `None` if none is left. Most are insertions: of these no newline is looked
+/// for. `Long` as of `Splitter::find_line`.
+#[inline(always)]
+fn find_next(splitter: &mut Splitter) -> Result<Option<Next>, LineFault>
+    ensures found { IfOk result (λ o. (splitter.new ≡ splitter.old)
+        × MatchOption o (next_of splitter.old ≡ (Ok None, splitter.old))
+        (λ next. EndsNextLine splitter.old next.end
+        × IfSome next.insertion (SaysAlone (take next.end splitter.old.waiting)))) }
+    ensures err { IfErr result (λ e. (e ≡ Long)
+        × (next_of splitter.old ≡ (Err Long, splitter.new))) }
+{
+    if let Some((op, end)) = splitter.find_insertion() {
+        return Ok(Some(Next {
+            end,
+            insertion: Some(op),
+        }));
+    }
+    match splitter.find_line() {
+        Ok(Some(end)) => Ok(Some(Next {
+            end,
+            insertion: None,
+        })),
+        Ok(None) => Ok(None),
+        Err(fault) => Err(fault),
     }
 }
 
@@ -178,6 +215,7 @@ pub(crate) enum LineTaken {
 /// Takes the operations of a whole line, all or none, passes over the head of an exchange, or
 /// answers the number that the end line names. The insertions of a run are read into the list, in
 /// place of what stood there.
+#[inline(always)]
 fn take_line<T: Taker>(
     alloc: Global,
     form: Form,
@@ -185,8 +223,10 @@ fn take_line<T: Taker>(
     ops: &mut Vec<Op>,
     number: u64,
     line: &[u8],
+    insertion: Option<Op>,
     deletion_runs: &mut bool,
 ) -> Result<LineTaken, LogFault>
+    requires insertion { IfSome insertion (SaysAlone line.now) }
     ensures taken { TakesAs (intake T.limit T.content T.follows taker.old taker.new)
         (line_outcome form T.limit T.content taker.old number line.now)
         (operations_of (line.now ∷ [])) result }
@@ -194,6 +234,9 @@ fn take_line<T: Taker>(
         ≡ (deletion_runs.old || is_deletion_run (any_line_at line.now)) }
     ensures limit { T.limit taker.new ≡ T.limit taker.old }
 {
+    if let Some(insertion) = insertion {
+        return take(taker, number, insertion);
+    }
     if let Some(deletion) = read_deletion(line) {
         return take(taker, number, deletion);
     }

@@ -1,7 +1,8 @@
 -- What the bytes of a line say by their value, and that what is read is well-formed.
-use Rattle.rga_lines.proofs.Prelude.{◌≡◌, ◌≢◌, ℕ, ◌<◌, ◌≤◌, Bool, true, false, List, length, Option, Some, None, Ok, Err, refl, sym, ap, ◌∙◌, lt-ltb, le-ltb, IsUtf8, is_utf8, is_utf8-from_IsUtf8, IsUtf8-from_is_utf8, Data, read, checked, Op, One}
+use Rattle.rga_lines.proofs.Prelude.{◌≡◌, ◌≢◌, ℕ, ◌<◌, ◌≤◌, Bool, true, false, List, length, Option, Some, None, Ok, Err, refl, sym, ap, ◌∙◌, arith, lt-ltb, le-ltb, IsUtf8, is_utf8, is_utf8-from_IsUtf8, IsUtf8-from_is_utf8, Data, read, checked, Op, One}
 use Rattle.rga_lines.proofs.Prelude.{Run, Deletions, MAX_LINE, DeletionRun, is_operation, Stretch, IsRun, IsDeletionRun, Reading, AnyReading, value_line, text_line, operation_alone}
 use Rattle.rga_lines.specs.Table.{any_line_at, line_at}
+use Rattle.rga_lines.specs.declared.line.Line.{Line}
 use Rattle.rga_lines.proofs.SoundLemmas.{IsSound, IsSoundOperation, sound_line}
 use Rattle.rga_lines.specs.declared.fault.LineFault.TheVariants as fault
 use Rattle.rga_lines.specs.Memory.{LineMemory}
@@ -11,6 +12,10 @@ use Rattle.rga_lines.specs.Memory.{LineMemory}
 pub too_long : (bytes : List ℕ) → MAX_LINE < length bytes → any_line_at bytes ≡ Err fault.Long
 unfolding any_line_at
 too_long bytes h = rw (lt-ltb _ _ h)
+
+-- a line that says something is not too long
+pub short_line : (bytes : List ℕ) (said : Line) → any_line_at bytes ≡ Ok said → length bytes ≤ MAX_LINE
+short_line bytes said e = grind (arith, too_long)
 
 is_refused : (utf8 : Bool) (value : Option Data) → (utf8 ≡ true → value ≡ None) → text_line utf8 value ≡ Err fault.Json
 is_refused true value h = rw (h refl)

@@ -1,5 +1,5 @@
 -- What a line says is well-formed, and an operation alone where its kind is one.
-use Rattle.rga_lines.proofs.Prelude.{◌≡◌, ℕ, ◌<◌, zero, suc, ◌||◌, ◌==◌, Bool, true, false, cond, nat_lt, List, length, Option, Some, None, Result, Ok, Err, option_and_then, refl, arith}
+use Rattle.rga_lines.proofs.Prelude.{◌≡◌, ℕ, ◌||◌, ◌==◌, Bool, true, false, cond, nat_lt, List, length, Option, Some, None, Result, Ok, Err, option_and_then, refl, arith}
 use Rattle.rga_lines.proofs.Prelude.{⊤, codes, if◌then◌else◌, is_utf8, chars, Data, object, members_len, read, get_member, as_str, Identifier, identifier, is_root, is_in_range}
 use Rattle.rga_lines.proofs.Prelude.{checked, DeletionRun, LineFault, One, Run, Deletions, Head, IsRun, IsDeletionRun, Reading, AnyReading, two_numbers, element_of, parent_of, if_in_range}
 use Rattle.rga_lines.proofs.Prelude.{longest_line, LineKind, insertion_line, deletion_line, deletions_line, kinds, kind_among, kind_of, is_single, is_operation}

@@ -1,10 +1,11 @@
 -- Lines that are spelled in one way say what was read of their parts.
-use Rattle.rga_lines.proofs.Prelude.{◌≡◌, ℕ, ◌+◌, ◌<◌, ◌≤◌, List, ◌++◌, length, codes, decimal, Ok, ap, ◌∙◌, arith, MAX_COUNTER, Identifier, checked, Op, Insert, Delete, One}
+use Rattle.rga_lines.proofs.Prelude.{◌≡◌, ℕ, ◌+◌, ◌<◌, ◌≤◌, List, ◌++◌, length, codes, decimal, Ok, ap, sym, ◌∙◌, append_assoc, arith, MAX_COUNTER, Identifier, checked, Op, Insert, Delete, One}
 use Rattle.rga_lines.proofs.Prelude.{Deletions, stretch, deletion_run, any_line_at, BeginsWithCharacter, BeginsWithIdentifier, ReadsInsertions, IsElement, IsElementOrRoot}
 use Rattle.rga_lines.specs.declared.run.TheConstants.{MAX_RUN}
 use Rattle.rga_lines.specs.Log.{SaysRun}
-use Rattle.rga_lines.specs.Spelling.{line, run_line, deletion_run_line}
+use Rattle.rga_lines.specs.Spelling.{line, line as line_of, run_line, deletion_run_line, escaped, pair_text, BeginsWithLine}
 use Rattle.rga_lines.proofs.DeletionBack.{deletions_back}
+use Rattle.rga_lines.proofs.PartsLemmas.{nothing_after}
 use Rattle.rga_lines.proofs.ReadBack.{line_back, delete_back}
 use Rattle.rga_lines.proofs.RunBack.{run_back}
 use Rattle.rga_lines.proofs.RunLemmas.{run_operations-length}
@@ -14,11 +15,26 @@ use Rattle.rga_lines.proofs.WritableLemmas.{insertion_writable}
 above_zero : (id : Identifier) → IsElementOrRoot id → 0 < id.counter → IsElement id
 above_zero id kept above = grind arith
 
-pub insertion_says : (bytes inside named above end : List ℕ) (id parent : Identifier) (ch : ℕ) → bytes ≡ codes "{\"char\":\"" ++ inside → BeginsWithCharacter inside ch named → BeginsWithIdentifier named (codes "\",\"id\":") id above
-    → BeginsWithIdentifier above (codes ",\"op\":\"ins\",\"parent\":") parent end → end ≡ codes "}" → checked (Insert id parent ch) ≡ Ok tt → any_line_at bytes ≡ Ok (One (Insert id parent ch))
+-- what stands behind the line of an operation is behind its last part
+apart : (shown id parent rest : List ℕ) → codes "{\"char\":\"" ++ (shown ++ (codes "\",\"id\":" ++ (id ++ (codes ",\"op\":\"ins\",\"parent\":" ++ (parent ++ (codes "}" ++ rest))))))
+    ≡ (codes "{\"char\":\"" ++ (shown ++ (codes "\",\"id\":" ++ (id ++ (codes ",\"op\":\"ins\",\"parent\":" ++ (parent ++ codes "}")))))) ++ rest
+apart shown id parent rest =
+    let last = append_assoc parent (codes "}") rest in
+    let middle = append_assoc id (codes ",\"op\":\"ins\",\"parent\":" ++ (parent ++ codes "}")) rest ∙ ap (λ l. id ++ (codes ",\"op\":\"ins\",\"parent\":" ++ l)) last in
+    let whole = append_assoc shown (codes "\",\"id\":" ++ (id ++ (codes ",\"op\":\"ins\",\"parent\":" ++ (parent ++ codes "}")))) rest ∙ ap (λ l. shown ++ (codes "\",\"id\":" ++ l)) middle in
+    sym (ap (λ l. codes "{\"char\":\"" ++ l) whole)
+
+pub begins_with_insertion : (bytes inside named above end rest : List ℕ) (id parent : Identifier) (ch : ℕ) → bytes ≡ codes "{\"char\":\"" ++ inside → BeginsWithCharacter inside ch named → BeginsWithIdentifier named (codes "\",\"id\":") id above
+    → BeginsWithIdentifier above (codes ",\"op\":\"ins\",\"parent\":") parent end → end ≡ codes "}" ++ rest → checked (Insert id parent ch) ≡ Ok tt → BeginsWithLine bytes (Insert id parent ch) rest
 unfolding line
-insertion_says bytes inside named above end id parent ch first char name place last ok =
-    rw (first, char.0, name.0, place.0, last) (line_back (Insert id parent ch) (insertion_writable id parent ch name.1 place.1 char.1 ok) ok)
+begins_with_insertion bytes inside named above end rest id parent ch first char name place last ok = record {
+  parts = rw (first, char.0, name.0, place.0, last) (apart (escaped ch) (pair_text id) (pair_text parent) rest);
+  writable = insertion_writable id parent ch name.1 place.1 char.1 ok;
+  ok = ok;
+}
+
+pub line_says : (bytes rest : List ℕ) (op : Op) → BeginsWithLine bytes op rest → length rest ≡ 0 → any_line_at bytes ≡ Ok (One op)
+line_says bytes rest op line none = ap any_line_at (nothing_after bytes (line_of op) rest line.parts none) ∙ line_back op line.writable line.ok
 
 pub deletion_says : (bytes end : List ℕ) (id : Identifier) → BeginsWithIdentifier bytes (codes "{\"id\":") id end → end ≡ codes ",\"op\":\"del\"}" → 0 < id.counter → any_line_at bytes ≡ Ok (One (Delete id))
 unfolding line

@@ -1,5 +1,5 @@
 -- The compact text of the value of an operation, or of the end of an exchange, is its line.
-use Rattle.rga_lines.proofs.Prelude.{lit≤, ◌≡◌, ℕ, ◌<◌, ◌≤◌, Bool, cond, List, [], ◌∷◌, ◌++◌, ◌⊎◌, inl, inr, codes, refl, sym, ap, ◌∙◌, arith, append_assoc, append-nil, lt-ltb, le-ltb, ne_eqb, cases_eq}
+use Rattle.rga_lines.proofs.Prelude.{lit≤, ◌≡◌, ℕ, ◌<◌, ◌≤◌, List, [], ◌∷◌, ◌++◌, ◌⊎◌, inl, inr, codes, refl, sym, ap, ◌∙◌, arith, append_assoc, append-nil, lt-ltb, le-ltb, ne_eqb, cases_eq}
 use Rattle.rga_lines.proofs.Prelude.{cases_lt, encode_ascii, escape, decimal_digit, Data, unsigned, array, item, no_items, object, member, no_members, compact_text, Identifier, Op, Insert, Delete, code_escape, pair_text}
 use Rattle.std.specs.Char.{encode_utf8}
 use Rattle.json.specs.Print.{escape_byte}

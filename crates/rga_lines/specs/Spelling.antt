@@ -1,9 +1,10 @@
 -- How an operation, a run, or the head or the end of an exchange is spelled where nothing is left open: no blanks, and
 -- the members by their names.
-use Rattle.std.specs.Prelude.{◌≡◌, ℕ, ◌/◌, ◌%◌, List, [], ◌∷◌, ◌++◌, ◌||◌, ◌==◌, nat_lt, if◌then◌else◌, codes, decimal}
+use Rattle.std.specs.Prelude.{◌≡◌, ℕ, ◌/◌, ◌%◌, List, [], ◌∷◌, ◌++◌, ◌||◌, ◌==◌, nat_lt, if◌then◌else◌, codes, decimal, Ok}
 use Rattle.std.specs.Char.{digit_char, encode_utf8, IsScalar}
 use Rattle.std.specs.List.{flat_map, AllByRecursion}
 use Rattle.rga_ops.specs.Identifier.{Identifier}
+use Rattle.rga_ops.specs.Operation.{checked}
 use Rattle.rga_ops.specs.declared.op.Op.{Op}
 use Rattle.rga_ops.specs.declared.op.Op.TheVariants.{Insert, Delete}
 pub use Rattle.rga_lines.specs.Table.{IsElement, IsElementOrRoot}
@@ -55,6 +56,12 @@ end_line operations = codes "{\"count\":" ++ (decimal operations ++ codes ",\"op
 abbrev pub IsWritable : Op → Type 0
 IsWritable (Insert id parent ch) = IsElement id × IsElementOrRoot parent × IsScalar ch
 IsWritable (Delete id) = IsElement id
+
+-- the bytes begin with the line of an operation that can be written and is well-formed, and then the rest
+pub record BeginsWithLine (bytes : List ℕ) (op : Op) (rest : List ℕ) : Type 0 where
+  pub parts : bytes ≡ line op ++ rest
+  pub writable : IsWritable op
+  pub ok : checked op ≡ Ok tt
 
 -- the line that begins an exchange, without its newline
 unfoldable pub head_line : List ℕ

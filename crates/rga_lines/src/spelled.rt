@@ -2,7 +2,7 @@
 //! names, read with no value of JSON in between. What is spelled otherwise is left to others.
 ghost use Rattle.std.specs.Prelude.{◌≡◌, true, Ok, IfOk, IfErr, IfSome};
 ghost use Rattle.rga_lines.specs.Log.{SaysRun};
-ghost use Rattle.rga_lines.specs.Spelling.{ReadsInsertions};
+ghost use Rattle.rga_lines.specs.Spelling.{BeginsWithLine, ReadsInsertions};
 ghost use Rattle.rga_lines.specs.Table.{any_line_at};
 ghost use Rattle.rga_lines.specs.declared.line.Line.TheVariants.{One, Deletions};
 
@@ -28,15 +28,29 @@ pub(crate) fn spelled(bytes: &[u8]) -> Option<Line>
 fn spelled_insertion(bytes: &[u8]) -> Option<Op>
     ensures { IfSome result (λ op. any_line_at bytes.now ≡ Ok (One op)) }
 {
+    if let Some((op, rest)) = insertion_at(bytes)
+        && rest.is_empty()
+    {
+        return Some(op);
+    }
+    None
+}
+
+/// The insertion whose line the bytes begin with, where it is so spelled, and what stands behind
+/// that line.
+#[inline(always)]
+pub(crate) fn insertion_at(bytes: &[u8]) -> Option<(Op, &[u8])>
+    ensures { IfSome result (λ p. BeginsWithLine bytes.now p.0 p.1.now) }
+{
     if let Some(rest) = after_literal(bytes, b"{\"char\":\"")
         && let Some((ch, rest)) = character(rest)
         && let Some((id, rest)) = id_after(rest, b"\",\"id\":")
         && let Some((parent, rest)) = id_after(rest, b",\"op\":\"ins\",\"parent\":")
-        && is_literal(rest, b"}")
+        && let Some(rest) = after_literal(rest, b"}")
     {
         let op = Op::Insert { id, parent, ch };
         op.check().ok()?;
-        return Some(op);
+        return Some((op, rest));
     }
     None
 }

@@ -1,15 +1,18 @@
 //! Streams cut into lines.
 ghost use Rattle.std.specs.Prelude.{◌≡◌, ◌≢◌, ◌==◌, ◌≤◌, ◌<◌, ◌+◌, [], true, Ok, Err, None};
-ghost use Rattle.std.specs.Prelude.{IsOk, IfOk, IfErr, OnOk, OnErr, MatchOption, option_map};
+ghost use Rattle.std.specs.Prelude.{IsOk, IfOk, IfErr, IfSome, OnOk, OnErr, MatchOption, option_map};
 ghost use Rattle.std.specs.Prelude.{vec_items, vec_len, length, take, drop, position};
 ghost use Rattle.rga_lines.specs.Stream.{Splitting, splitting_code, IsKept, HasNoNewline};
 ghost use Rattle.rga_lines.specs.Stream.{EndsNextLine, splitting_with, newline, fed, next_of};
+ghost use Rattle.rga_lines.specs.Table.{any_line_at};
 ghost use Rattle.rga_lines.specs.declared.fault.LineFault.TheVariants.{Long};
+ghost use Rattle.rga_lines.specs.declared.line.Line.TheVariants.{One};
 ghost use Rattle.rga_lines.specs.Memory.{LineMemory as Memory};
 
+use crate::spelled::insertion_at;
 use crate::{LineFault, MAX_LINE};
 use memchr::memchr;
-use rga_ops::OutOfMemory;
+use rga_ops::{Op, OutOfMemory};
 use std::alloc::Global;
 use std::marker::Model;
 
@@ -135,6 +138,27 @@ impl Splitter {
                 Err(LineFault::Long)
             }
         }
+    }
+
+    /// The next line, where it is that of an insertion as `write_line` spells it: the operation, and
+    /// the line's length. `None` says nothing of the line. No newline is looked for, so this is
+    /// quicker than `find_line`. Takes no memory.
+    #[inline(always)]
+    pub fn find_insertion(&self) -> Option<(Op, usize)>
+        ensures { IfSome result (λ p. EndsNextLine self.now p.1
+            × (any_line_at (take p.1 self.now.waiting) ≡ Ok (One p.0))) }
+    {
+        if self.broken {
+            return None;
+        }
+        let waiting = self.waiting();
+        if let Some((op, rest)) = insertion_at(waiting)
+            && let Some((first, _)) = rest.split_first()
+            && *first == b'\n'
+        {
+            return Some((op, waiting.len() - rest.len()));
+        }
+        None
     }
 
     /// So many of the bytes that wait: the next line, where `find_line` gave its length.

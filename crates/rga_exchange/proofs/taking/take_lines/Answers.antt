@@ -15,22 +15,22 @@ returns-in-Err-clause-taken g c =
       (λ more.
           takes_after c.lines.invariant.up_to more
           ∙ begins_long _ _ c.lines.lines (g.T.Taker.content c.lines.taker) (lines_of (waiting ++ more)) (rest_of (waiting ++ more))
-          ((gives_up c.lines.splitter c.find_line.new.self line_fault.Long c.lines.invariant.whole c.in-Err.ensures.err.1).1 more)),
+          ((gives_up c.lines.splitter c.find_next.new.splitter line_fault.Long c.lines.invariant.whole c.in-Err.ensures.err.1).1 more)),
     )
 
 pub returns-in_err-count-clause-taken : goal.returns-in_err-count-clause-taken
 returns-in_err-count-clause-taken g c =
     let found = rw c.in-Ok-Some.field-0-is at c.in-Ok-Some.ensures.found in
-    let behind : Splitting = splitting_with (drop (c.in-Ok-Some.end + 1) c.find_line.new.self.waiting) in
-    let given : GivesLine c.lines.splitter behind c.line.result.now = passes_line c.lines.splitter c.find_line.new.self behind c.line.result.now c.in-Ok-Some.end c.lines.invariant.whole found.0 found.1 c.line.ensures refl in
+    let behind : Splitting = splitting_with (drop (c.in-Ok-Some.next.end + 1) c.find_next.new.splitter.waiting) in
+    let given : GivesLine c.lines.splitter behind c.line.result.now = passes_line c.lines.splitter c.find_next.new.splitter behind c.line.result.now c.in-Ok-Some.next.end c.lines.invariant.whole found.0 found.1.0 c.line.ensures refl in
     let p = err_from_is_err_and c.from_residual.result c.from_residual.ensures.1 in
-    rw (p.1, p.2) (fault_stops (g.T.Taker.content c.take_line.new.taker) _ (λ ops. g.T.Taker.follows c.args.taker.now ops c.take_line.new.taker) c.line.result.now c.lines.invariant.limit (g.T.Taker.follows_on c.args.taker.now c.lines.taker c.take_line.new.taker) given c.lines.invariant.up_to c.find_line.new.self c.in_err-count.field-0.0 c.in_err-count.ensures.taken)
+    rw (p.1, p.2) (fault_stops (g.T.Taker.content c.take_line.new.taker) _ (λ ops. g.T.Taker.follows c.args.taker.now ops c.take_line.new.taker) c.line.result.now c.lines.invariant.limit (g.T.Taker.follows_on c.args.taker.now c.lines.taker c.take_line.new.taker) given c.lines.invariant.up_to c.find_next.new.splitter c.in_err-count.field-0.0 c.in_err-count.ensures.taken)
 
 pub returns-in-EndLine-clause-taken : goal.returns-in-EndLine-clause-taken
 returns-in-EndLine-clause-taken g c =
     let found = rw c.in-Ok-Some.field-0-is at c.in-Ok-Some.ensures.found in
-    let behind : Splitting = splitting_with (drop (c.in-Ok-Some.end + 1) c.find_line.new.self.waiting) in
-    let given : GivesLine c.lines.splitter behind c.line.result.now = passes_line c.lines.splitter c.find_line.new.self behind c.line.result.now c.in-Ok-Some.end c.lines.invariant.whole found.0 found.1 c.line.ensures refl in
+    let behind : Splitting = splitting_with (drop (c.in-Ok-Some.next.end + 1) c.find_next.new.splitter.waiting) in
+    let given : GivesLine c.lines.splitter behind c.line.result.now = passes_line c.lines.splitter c.find_next.new.splitter behind c.line.result.now c.in-Ok-Some.next.end c.lines.invariant.whole found.0 found.1.0 c.line.ensures refl in
     end_stops (g.T.Taker.content c.take_line.new.taker) _ (λ ops. g.T.Taker.follows c.args.taker.now ops c.take_line.new.taker) c.line.result.now c.lines.invariant.limit (g.T.Taker.follows_on c.args.taker.now c.lines.taker c.take_line.new.taker) given c.lines.invariant.up_to c.in-EndLine.number (rw c.in-EndLine.is at c.in_ok-count.ensures.taken)
 
 pub lines-init : goal.lines-init
@@ -46,7 +46,7 @@ lines-init g c = record {
 pub lines-preserved : goal.lines-preserved
 lines-preserved g c =
     let found = rw c.in-Ok-Some.field-0-is at c.in-Ok-Some.ensures.found in
-    let given : GivesLine c.lines.splitter c.pass_line.new.self c.line.result.now = passes_line c.lines.splitter c.find_line.new.self c.pass_line.new.self c.line.result.now c.in-Ok-Some.end c.lines.invariant.whole found.0 found.1 c.line.ensures c.pass_line.ensures in
+    let given : GivesLine c.lines.splitter c.pass_line.new.self c.line.result.now = passes_line c.lines.splitter c.find_next.new.splitter c.pass_line.new.self c.line.result.now c.in-Ok-Some.next.end c.lines.invariant.whole found.0 found.1.0 c.line.ensures c.pass_line.ensures in
     let fits : Fits w64 c.in-Operations.count = search rules in
     let took = rw c.in-Operations.is at c.in_ok-count.ensures.taken in
     record {
