@@ -75,7 +75,24 @@ impl Characters {
             let added = more.max(self.len() / 8);
             self.places.reserve_exact(added)?;
         }
+        self.open_front(more);
         Ok(())
+    }
+
+    /// Where no places are unused before the characters, these have half of the room that is not
+    /// asked for, if that is some: so what is put in near the front moves little.
+    fn open_front(&mut self, more: usize)
+        requires { more ≤ self.old.room }
+        ensures items { self.new.items ≡ self.old.items }
+        ensures room { more ≤ self.new.room }
+    {
+        let used = self.places.as_slice().len();
+        let spare = (self.places.capacity() - used - more) / 2;
+        if self.start > 0 || spare <= used / 256 {
+            return;
+        }
+        move_tail(&mut self.places, 0, spare);
+        self.start = spare;
     }
 
     /// Gives up what is unused, at both ends, where it is above a fifth of the characters.
