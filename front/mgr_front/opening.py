@@ -4,10 +4,11 @@ mgr reads the log alone. So what another program wrote to the text would be put 
 save, unless it comes into the log first.
 """
 
+import json
 import os
 import tempfile
 import time
-from collections.abc import Sequence
+from collections.abc import Iterator, Sequence
 from contextlib import suppress
 
 from mgr_front.copies import Copy
@@ -23,6 +24,8 @@ from mgr_front.shared import counters
 LARGE, TIMES = 1_000_000, 20
 # How many lines of a log may have come between its text and the note that was taken of its length.
 LATE = 20
+# At most so many texts of the log are held against one that was put before a kill.
+TRIED = 200
 NEW = "New: C-x C-s saves, C-x C-c leaves, C-_ undoes, C-h helps"
 
 
@@ -67,7 +70,7 @@ class Opening:
         """If the note's text and its log differ, goes on with what the person chooses.
 
         It is the log, without a question, if no other program wrote in the text, as after a merge, or after a kill
-        that came before the text was put.
+        that came before the text was put, or before that was noted.
         """
         if log.waiting:
             # mgr does not show what waits.
@@ -76,10 +79,11 @@ class Opening:
             self.copy.note_put(read(self.note.name), log.bytes, log.operations)
         if not differ(self.mgr, self.note, log, self.number):
             return
-        is_put, begin = self.copy.is_put(read(self.note.name)), None
+        text, begin = read(self.note.name), None
+        is_put = self.copy.is_put(text)
         if not (is_put and self.copy.has_grown(log)):
             begin = self._begin()
-            is_put = is_put and begin is not None
+            is_put = is_put and begin is not None or not self.options.takes_file and self._is_made(text)
         if is_put or self.options.keeps_file or not self._takes_file(begin):
             self.remarks += mend(self.mgr, self.note)[0]
         self.put()
@@ -96,6 +100,19 @@ class Opening:
             if self.copy.is_put(ask(self.mgr, self.note, "show", "--lines", lines) if begin else b""):
                 return begin
         return None
+
+    def _is_made(self, text: bytes) -> bool:
+        """Whether the log made this text after the one that was put last: then a kill came before that was noted.
+
+        A text from before that was put back by somebody, and so may be any if this copy never wrote.
+        """
+        log, made = read(self.note.log), []
+        # Another program may have written in the log, too.
+        with suppress(ValueError, KeyError, TypeError):
+            count, begun = len(text.decode()), log[: self.copy.kept["put"]].count(b"\n")
+            made += [line for line, length in enumerate(lengths(log), 1) if line > begun and length == count]
+        tried = made[-TRIED:] if self.copy.kept["counters"] else []
+        return any(ask(self.mgr, self.note, "show", "--lines", str(line)) == text for line in reversed(tried))
 
     def _takes_file(self, begin: bytes | None) -> bool:
         """Has mgr merge what another program changed in the text, if the person wants that: all of it, or nothing.
@@ -158,6 +175,25 @@ class Opening:
             pass  # There is no text, or this person may not read it.
         except Refused as refused:
             tell(f"{self.note.log} was not compacted: {refused}")
+
+
+def lengths(log: bytes) -> Iterator[int]:
+    """Returns how many characters the text has after each line of a log, if none waits."""
+    put: set[tuple[int, int]] = set()
+    gone: set[tuple[int, int]] = set()
+    shown = 0
+    for line in log[: log.rfind(b"\n") + 1].splitlines():
+        told = json.loads(line)
+        counter, replica = told["id"]
+        count = len(told["text"]) if told["op"] == "run" else told.get("count", 1)
+        named = {(counter + step, replica) for step in range(count)}
+        if told["op"] in ("del", "dels"):
+            shown -= len((named & put) - gone)
+            gone |= named
+        else:
+            shown += len(named - put - gone)
+            put |= named
+        yield shown
 
 
 def differ(mgr: str, note: Note, log: Log, replica: int) -> bool:

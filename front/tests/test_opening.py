@@ -4,6 +4,7 @@ import contextlib
 import io
 import os
 import pathlib
+import shutil
 import unittest
 from collections.abc import Iterator
 from unittest import mock
@@ -152,6 +153,43 @@ class TestDifferences(Openings):
                 self.open(*answers)
                 self.assertEqual((self.text("note"), self.text(kept)), (log, text))
                 (self.folder / "note.~1~").unlink(missing_ok=True)
+
+    def test_it_is_without_a_question_after_a_kill_before_the_put_was_noted(self) -> None:
+        def counts(log: bytes) -> list[int]:
+            return [log.find(line) + len(line) for line in log.splitlines(keepends=True)]
+
+        for noted, text, answers, words, kept in (
+            ("one\n", "one\ntwo\n", "", (), "note~"),
+            ("", "one\ntwo\n", "", (), "note~"),
+            ("one\n", "one\n2..\n", "l", (), "note.~1~"),
+            ("one\ntwo\n", "one\n", "l", (), "note.~1~"),
+            ("one\n", "one\ntwo\n", "l", ("--replica", "7"), "note.~1~"),
+        ):
+            with self.subTest(noted=noted, text=text), mock.patch.object(opening, "lengths", counts):
+                shutil.rmtree(self.folder / "state", ignore_errors=True)
+                self.put(note_ops="one\n", note="one\n")
+                opened = self.open(words=words)
+                opened.keep((), 1)
+                if noted:
+                    self.put(note_ops=noted, note=noted)
+                    opened.put()
+                self.put(note_ops="one\ntwo\nthree\n", note=text)
+                self.open(*answers, words=words)
+                self.assertEqual((self.text("note"), self.text(kept)), ("one\ntwo\nthree\n", text))
+                (self.folder / "note.~1~").unlink(missing_ok=True)
+
+    def test_how_long_the_texts_of_a_log_are(self) -> None:
+        log = (
+            b'{"id":[1,2],"op":"run","parent":[0,0],"text":"abc"}',
+            b'{"char":"d","id":[4,2],"op":"ins","parent":[3,2]}',
+            b'{"count":2,"id":[2,2],"op":"dels"}',
+            b'{"id":[3,2],"op":"del"}',
+            b'{"id":[9,3],"op":"del"}',
+            b'{"char":"x","id":[9,3],"op":"ins","parent":[4,2]}',
+            b'{"char":"d","id":[4,2],"op":"ins","parent":[3,2]}',
+            b'{"id":[4,2],"op":"d',
+        )
+        self.assertEqual(list(opening.lengths(b"\n".join(log))), [3, 4, 2, 2, 2, 2, 2])
 
     def test_what_was_put_before_the_first_key_is_kept_with_it(self) -> None:
         self.put(note_ops="one\n", note="one\n")

@@ -90,7 +90,8 @@ What stands between two things that an undo takes is put again by it."
       (let ((last-command-event (or event ?x)) (current-prefix-arg nil))
         (if (symbolp command) (call-interactively command) (funcall command)))
     ((user-error beginning-of-buffer end-of-buffer buffer-read-only)
-     (unless mgr--session
+     ;; What ends the session may still wait for its turn.
+     (unless (and mgr--session (process-live-p (mgr--session-process mgr--session)))
        (setq writer-undoing (or writer-undoing (memq command '(mgr-undo mgr-undo-only mgr-redo))))))
     ;; What a killed program did not answer is no fault.
     (error (unless (or (not mgr--session) (string-search "two things" (error-message-string fault)))
