@@ -1,6 +1,8 @@
 pub mod DiskLaws
 pub mod FolderLaws
+pub mod GrowthLaws
 pub mod LogsLaws
+pub mod NamesLaws
 pub mod NotesLaws
 pub mod RaisedLaws
 pub mod RewritingLaws

@@ -1,12 +1,14 @@
 -- What a note asks of the folder that its files stand in.
 use Rattle.std.proofs.Common.{◌≡◌, ℕ, List, Option, Some, None, Result, Ok, Err, IfSome, OnOk, subst, sym}
+use Rattle.std.specs.Prelude.{IsSomeAnd, string_bytes}
 use Rattle.mgr_port.specs.Disk.{steps_to}
-use Rattle.mgr_port.specs.Folder.{History, LooksAt, after}
+use Rattle.mgr_port.specs.Folder.{History, IsQuiet, LooksAt, after}
 use Rattle.mgr_port.specs.Growth.{IsAdded}
-use Rattle.mgr_port.specs.Locks.{IsTaken}
-use Rattle.mgr_port.specs.Notes.{IsLeftAt, MakesLog, MakesRoom, NamesLog}
+use Rattle.mgr_port.specs.Locks.{IsTaken, OpensLocked}
+use Rattle.mgr_port.specs.Notes.{IsLeftAt, LoadsLog, MakesLog, MakesRoom, NamesLog, ReadsLog}
 use Rattle.mgr_port.specs.Staging.{IsSettled}
 use Rattle.mgr_port.specs.declared.log.LeftLog.{LeftLog}
+use Rattle.mgr_port.specs.declared.names.Paths.{Paths}
 use Rattle.mgr_port.specs.declared.spare.Look.{Look}
 use Rattle.mgr_port.specs.declared.staged.Named.{Named}
 use Rattle.mgr_port.specs.declared.staged.Named.TheVariants as named
@@ -33,3 +35,16 @@ pub added_to : {A B E : Type 0} (r : Result A E) (o : Option B) (log : B) (left_
 added_to (Err e) o log left_of longer path spelled lines a b is same added = tt
 added_to (Ok x) o log left_of longer path spelled lines a b is same added =
     subst (λ p. IfSome p (λ old. IsAdded path (left_of old) lines longer a b)) (sym is) (subst (λ p. IsAdded p (left_of log) lines longer a b) same added)
+
+-- a log was opened and held, and all of it read
+pub loaded : {A : Type 0} (o : Option A) (file : A) (path next spelled bytes : List ℕ) (left : LeftLog) (a b c : History) → o ≡ Some file → IfSome o (λ _. OpensLocked path a) → spelled ≡ next
+    → ReadsLog spelled bytes left a b → IsQuiet b c → LoadsLog path next bytes left c
+loaded o file path next spelled bytes left a b c there opened is read quiet =
+    (a, b, subst (λ f. IfSome f (λ _. OpensLocked path a)) there opened, subst (λ n. ReadsLog n bytes left a b) is read, quiet)
+
+-- under the paths that the note still has
+pub loaded_there : {B : Type 0} (o : Option (List ℕ)) (l : Option B) (left_of : B → LeftLog) (p q : Paths) (now : History) → p ≡ q
+    → IfSome o (λ bytes. IsSomeAnd l (λ log. LoadsLog (string_bytes p.log) (string_bytes p.next_log) bytes (left_of log) now))
+    → IfSome o (λ bytes. IsSomeAnd l (λ log. LoadsLog (string_bytes q.log) (string_bytes q.next_log) bytes (left_of log) now))
+loaded_there o l left_of p q now is read =
+    subst (λ (r : Paths). IfSome o (λ bytes. IsSomeAnd l (λ log. LoadsLog (string_bytes r.log) (string_bytes r.next_log) bytes (left_of log) now))) is read

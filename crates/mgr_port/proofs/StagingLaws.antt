@@ -11,7 +11,7 @@ use Rattle.mgr_port.specs.Staging.{Does, DoesAll, KeepsOld, StopsBefore, TakesOl
 use Rattle.mgr_port.specs.declared.staged.Old.{Old}
 use Rattle.mgr_port.specs.declared.staged.Old.TheVariants as old
 use Rattle.mgr_port.specs.declared.staged.Staged.{Staged}
-use Rattle.mgr_port.proofs.FolderLaws.{idle_none, idle_chain, idle_follow_look_at, on_err}
+use Rattle.mgr_port.proofs.FolderLaws.{only_none, only_chain, idle_follow_look_at, on_err}
 
 begins_none : (wanted : List DiskStep) → BeginsSteps [] wanted
 begins_none [] = refl
@@ -38,13 +38,13 @@ stops_behind s a b c step later one t = record {
 -- of its bytes none were written, or a beginning
 stops_in_write : (s : Staged) (a b : History) (bytes : List ℕ) (later : List DiskStep)
     → (b ≡ a) ⊎ ((front : List ℕ) × (rest : List ℕ) × (bytes ≡ front ++ rest) × (b ≡ after (Adds front) a)) → StopsBefore s (disk.Writes bytes ∷ later) a b
-stops_in_write s a b bytes later (inl is) = stops_here s a b (disk.Writes bytes ∷ later) (idle_none a b is)
+stops_in_write s a b bytes later (inl is) = stops_here s a b (disk.Writes bytes ∷ later) (only_none a b is)
 stops_in_write s a b bytes later (inr (front, rest, parts, is)) = record {
   made = disk.Writes front ∷ [];
   done = b;
   begins = inr (inl (front, rest, ap (λ (l : List ℕ). disk.Writes l) parts, refl));
   does = is;
-  idle = idle_none b b refl;
+  idle = only_none b b refl;
 }
 
 -- ---- a whole file, as far as it came
@@ -89,7 +89,7 @@ pub unnamed_kept : {A E : Type 0} (r : Result A E) (s : Staged) (o : Old) (a b c
     → OnErr r (StopsBefore s (Keeps ∷ []) a c)
 unnamed_kept (Ok x) s o a b c step same kept is = tt
 unnamed_kept (Err e) s o a b c step same kept is =
-    stops_behind s a b c Keeps [] (subst (λ p. KeepsOld p s.name.now a b) (sym same) kept) (stops_here s b c [] (idle_none b c is))
+    stops_behind s a b c Keeps [] (subst (λ p. KeepsOld p s.name.now a b) (sym same) kept) (stops_here s b c [] (only_none b c is))
 
 -- nothing stands there
 pub named_free : {A E : Type 0} (r : Result A E) (s : Staged) (a c : History) → s.old ≡ old.Nothing → OnOk r (GivesFreeName s.path.now s.name.now a c)
@@ -101,4 +101,4 @@ named_free (Ok x) s a c same free =
 -- a log was not kept after it was seen to stand as it was read
 pub unkept_read : {A E : Type 0} (r : Result A E) (s : Staged) (a b c : History) (path : List ℕ) (size : ℕ) → StandsAsRead path size a b → IsIdle b c → OnErr r (StopsBefore s (Keeps ∷ []) a c)
 unkept_read r s a b c path size (found, opened, followed, one, two, same, long) i =
-    on_err r (stops_here s a c (Keeps ∷ []) (idle_chain a b c (idle_follow_look_at a followed b path (Some found) opened one two) i))
+    on_err r (stops_here s a c (Keeps ∷ []) (only_chain a b c (idle_follow_look_at a followed b path (Some found) opened one two) i))

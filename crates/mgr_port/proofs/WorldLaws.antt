@@ -1,7 +1,12 @@
 -- What is lost of a path that goes.
-use Rattle.std.proofs.Common.{◌≡◌, ◌≢◌, ◌⊎◌, inl, inr, ℕ, zero, List, [], ◌∷◌, Bool, true, false, Option, Some, None, refl, sym, ap, ◌∙◌, length}
+use Rattle.std.proofs.Common.{◌≡◌, ◌≢◌, ◌⊎◌, inl, inr, ℕ, zero, List, [], ◌∷◌, ◌++◌, Bool, true, false, Option, Some, None, IfSome, refl, sym, ap, subst, ◌∙◌, length, take, append_assoc, arith}
+use Rattle.std.proofs.lemmas.List.{append-nil, length-append}
 use Rattle.mgr_port.specs.Spares.{IsNothing}
-use Rattle.mgr_port.specs.Worlds.{World, Has, Shows, ShowsFile, IsLinked, IsMade, IsLeftAlone, IsBare, StoodUnder, Locks}
+use Rattle.mgr_port.specs.Verdicts.{MayGrow}
+use Rattle.mgr_port.specs.Worlds.{World, Has, Shows, ShowsFile, IsLinked, IsMade, IsLeftAlone, IsBare, StoodUnder, Locks, EndsAt, Grows}
+use Rattle.mgr_port.specs.declared.log.End.{End}
+use Rattle.mgr_port.specs.declared.log.FoundLog.{FoundLog}
+use Rattle.mgr_port.specs.declared.log.LeftLog.{LeftLog}
 use Rattle.mgr_port.specs.declared.spare.Look.{Look}
 
 -- ---- a path for which nothing with bytes stood
@@ -56,3 +61,27 @@ pub one_holder : (path : List ℕ) (one two first second : ℕ) (a b : World) �
 one_holder path one two first second a b l alone still m =
     let is : first ≡ second = one_file b path first second (alone.name ∙ l.there) m.there in
     ap number_of (sym still ∙ ap b.holder is ∙ m.locked)
+
+-- ---- a log that grows
+
+no_more : (l more : List ℕ) (n : ℕ) → length (l ++ more) ≡ n → length l ≡ n → more ≡ []
+no_more l [] n all is = refl
+no_more l (x ∷ more) n all is = let long = length-append l (x ∷ more) in absurd omega (arith, all, is, long)
+
+-- what ends at the same length in the same bytes, after the same ones
+pub same_front : (old now before : List ℕ) (end : End) → EndsAt old (length old) end before → EndsAt now (length old) end before → (more : List ℕ) × (now ≡ old ++ more)
+same_front old now before end (none, is, long) (more, becomes, also) =
+    let front = before ++ take end.length end.bytes in
+    let all : old ≡ front = is ∙ ap (λ l. front ++ l) (no_more front none (length old) (sym (ap length is)) long) ∙ append-nil front in
+    (more, becomes ∙ ap (λ l. l ++ more) (sym all))
+
+pub grown : (file : ℕ) (before : List ℕ) (a b : World) (left : LeftLog) (found : FoundLog) → EndsAt (a.bytes file) (length (a.bytes file)) left.end before
+    → left.stamp.length ≡ length (a.bytes file) → MayGrow left found → IfSome found.end (λ end. EndsAt (b.bytes file) left.stamp.length end before) → Grows file a b
+grown file before a b left found ends long may shown =
+    let here : EndsAt (b.bytes file) left.stamp.length left.end before =
+    subst (λ o. IfSome o (λ end. EndsAt (b.bytes file) left.stamp.length end before)) may.same_end shown in
+    same_front (a.bytes file) (b.bytes file) before left.end ends (subst (λ n. EndsAt (b.bytes file) n left.end before) long here)
+
+pub kept_in_front : (file : ℕ) (lines : List ℕ) (a b c d : World) → Grows file a b → c.bytes file ≡ b.bytes file ++ lines → Grows file c d
+    → (more : List ℕ) × (rest : List ℕ) × (d.bytes file ≡ a.bytes file ++ more ++ lines ++ rest)
+kept_in_front file lines a b c d (more, is) added (rest, becomes) = (more, rest, becomes ∙ ap (λ l. l ++ rest) (added ∙ ap (λ l. l ++ lines) is))

@@ -3,19 +3,21 @@ use Rattle.std.specs.Prelude.{◌≡◌, ◌⊎◌, ℕ, List, [], ◌∷◌, �
 use Rattle.std.specs.Option.{option_map}
 use Rattle.mgr_port.specs.declared.folder.Lock.{Lock}
 use Rattle.mgr_port.specs.declared.folder.Opening.{Opening}
+use Rattle.mgr_port.specs.declared.folder.Opening.TheVariants as opening
 use Rattle.mgr_port.specs.declared.log.End.{End}
 use Rattle.mgr_port.specs.declared.spare.Look.{Look}
 use Rattle.mgr_port.specs.declared.spare.Owner.{Owner}
 
--- A look at what stands under a path itself, and at what it leads to; at an open file. The file of a path is opened, and an
--- open file was tried to be locked. An open file ends so at a length, and whether in a newline; it gets bytes at its end, is
--- emptied, gets a mode, an owner and group, and a date, so much later than that of another file, and is brought to the
--- device. The names of a path's folder are. What was not read of an open file is, and the bytes of the file of a path. A
--- file gets another name, which nothing had. These bytes get a name, which nothing had, and are on the device under it. A
--- path goes. The file of a path takes another name. A file is written over.
+-- A look at what stands under a path itself, and at what it leads to; the path of that without links; a look at an open file.
+-- The file of a path is opened, and an open file was tried to be locked. An open file ends so at a length, and whether in a
+-- newline; it gets bytes at its end, is emptied, gets a mode, an owner and group, and a date, so much later than that of
+-- another file, and is brought to the device. The names of a path's folder are. What was not read of an open file is, and
+-- the bytes of the file of a path. A file gets another name, which nothing had. These bytes get a name, which nothing had,
+-- and are on the device under it. A path goes. The file of a path takes another name. A file is written over.
 pub data FolderStep : Type 0 where
   Looks : List ℕ → Option Look → FolderStep
   Follows : List ℕ → Option Look → FolderStep
+  Resolves : List ℕ → List ℕ → FolderStep
   LooksAt : Look → FolderStep
   Opens : List ℕ → Opening → FolderStep
   Locks : Lock → FolderStep
@@ -56,20 +58,38 @@ Writes (Err e) bytes old new = (new ≡ old) ⊎ ((front : List ℕ) × (rest : 
 
 -- ---- steps that change no name and no bytes
 
+abbrev pub AreAll : (FolderStep → Type 0) → List FolderStep → Type 0
+AreAll P [] = Unit {0}
+AreAll P (step ∷ steps) = P step × AreAll P steps
+
+-- there were only such steps
+pub record Only (P : FolderStep → Type 0) (old now : History) : Type 0 where
+  pub seen : List FolderStep
+  pub all : AreAll P seen
+  pub is : now ≡ option_map (λ steps. seen ++ steps) old
+
+-- looks, a date, and the bytes of a path
 abbrev pub IsIdleStep : FolderStep → Type 0
 IsIdleStep (Looks path found) = Unit {0}
 IsIdleStep (Follows path found) = Unit {0}
+IsIdleStep (Resolves path target) = Unit {0}
 IsIdleStep (LooksAt look) = Unit {0}
 IsIdleStep (Dates later) = Unit {0}
 IsIdleStep (Reads path bytes) = Unit {0}
 IsIdleStep other = ⊥
 
-abbrev pub AreIdle : List FolderStep → Type 0
-AreIdle [] = Unit {0}
-AreIdle (step ∷ steps) = IsIdleStep step × AreIdle steps
+abbrev pub IsIdle : History → History → Type 0
+IsIdle old now = Only IsIdleStep old now
 
--- there were only such steps
-pub record IsIdle (old now : History) : Type 0 where
-  pub seen : List FolderStep
-  pub idle : AreIdle seen
-  pub is : now ≡ option_map (λ steps. seen ++ steps) old
+-- The same; or a file is opened as it is, or locked; an open one is looked at by its end, or brought to the device.
+abbrev pub IsQuietStep : FolderStep → Type 0
+IsQuietStep (Opens path opening.Read) = Unit {0}
+IsQuietStep (Opens path opening.Add) = Unit {0}
+IsQuietStep (Locks lock) = Unit {0}
+IsQuietStep (Ends length end) = Unit {0}
+IsQuietStep (EndsInNewline length is) = Unit {0}
+IsQuietStep Syncs = Unit {0}
+IsQuietStep other = IsIdleStep other
+
+abbrev pub IsQuiet : History → History → Type 0
+IsQuiet old now = Only IsQuietStep old now

@@ -1,6 +1,6 @@
 -- When lines may be put behind a log.
-use Rattle.std.specs.Prelude.{◌≡◌, ◌<◌, ℕ, List, Bool, Option, Some}
-use Rattle.mgr_port.specs.Folder.{History, Adds, Ends, EndsInNewline, Follows, LooksAt, Syncs, after}
+use Rattle.std.specs.Prelude.{◌≡◌, ◌⊎◌, ◌<◌, ℕ, List, ◌++◌, Bool, Option, Some}
+use Rattle.mgr_port.specs.Folder.{History, Adds, Ends, EndsInNewline, Follows, IsQuiet, LooksAt, Syncs, after}
 use Rattle.mgr_port.specs.Verdicts.{MayGrow}
 use Rattle.mgr_port.specs.declared.log.End.{End}
 use Rattle.mgr_port.specs.declared.log.LeftLog.{LeftLog}
@@ -18,11 +18,21 @@ ShowsGrowth path left old now =
 abbrev pub MayAdd : List ℕ → LeftLog → History → Type 0
 MayAdd path left now = (old : History) × ShowsGrowth path left old now
 
--- Lines might be added to a log; they are, and are on the device; it is longer than it was, and left so; and lines might
--- have been added to what was left before once more.
-abbrev pub IsAdded : List ℕ → LeftLog → List ℕ → LeftLog → History → History → Type 0
-IsAdded path left lines longer old now =
-    (look : Look) × (shown : History) × (added : History) × (synced : History) × (looked : History) × (ended : History)
-    × ShowsGrowth path left old shown × (added ≡ after (Adds lines) shown) × (synced ≡ after Syncs added)
+-- What was added is on the device; the log is longer than it was, and left so; and lines might have been added to what was
+-- left before once more.
+abbrev pub IsLonger : List ℕ → LeftLog → LeftLog → History → History → Type 0
+IsLonger path left longer added now =
+    (look : Look) × (synced : History) × (looked : History) × (ended : History) × (synced ≡ after Syncs added)
     × (looked ≡ after (LooksAt look) synced) × (ended ≡ after (Ends look.stamp.length (Some longer.end)) looked)
     × ShowsGrowth path left ended now × (longer.stamp ≡ look.stamp) × (left.stamp.length < longer.stamp.length)
+
+-- Lines might be added to a log, and they are; and it is so much longer.
+abbrev pub IsAdded : List ℕ → LeftLog → List ℕ → LeftLog → History → History → Type 0
+IsAdded path left lines longer old now =
+    (shown : History) × (added : History) × ShowsGrowth path left old shown × (added ≡ after (Adds lines) shown) × IsLonger path left longer added now
+
+-- They were not, or a beginning of them was, and nothing else changed.
+abbrev pub AddsFront : List ℕ → History → History → Type 0
+AddsFront lines old now =
+    IsQuiet old now ⊎ ((front : List ℕ) × (rest : List ℕ) × (shown : History) × (added : History)
+    × (lines ≡ front ++ rest) × IsQuiet old shown × (added ≡ after (Adds front) shown) × IsQuiet added now)

@@ -3,6 +3,7 @@ pub mod Folder
 pub mod Growth
 pub mod Locks
 pub mod Logs
+pub mod Names
 pub mod Notes
 pub mod Rewriting
 pub mod Spares

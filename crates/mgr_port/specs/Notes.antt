@@ -1,12 +1,13 @@
 -- What a note asks of the folder that its files stand in.
 use Rattle.std.specs.Prelude.{◌≡◌, ◌⊎◌, ℕ, List, Option, Some, None, length}
 use Rattle.mgr_port.specs.Disk.{DiskStep, whole_steps}
-use Rattle.mgr_port.specs.Folder.{History, Ends, Follows, LooksAt, ReadsAll, SetsMode, after}
-use Rattle.mgr_port.specs.Locks.{IsTaken, StandsFor, StandsForAnother}
+use Rattle.mgr_port.specs.Folder.{History, Ends, Follows, IsQuiet, LooksAt, ReadsAll, SetsMode, after}
+use Rattle.mgr_port.specs.Locks.{HoldsNext, IsTaken, OpensLocked, StandsFor, StandsForAnother}
 use Rattle.mgr_port.specs.Spares.{IsOfFile, IsOneOfMore, MakesWay, MayRemove, RemovesIf}
 use Rattle.mgr_port.specs.Staging.{DoesAll}
 use Rattle.mgr_port.specs.Texts.{TakesMode}
 use Rattle.mgr_port.specs.declared.log.LeftLog.{LeftLog}
+use Rattle.mgr_port.specs.declared.note.Note.{Note}
 use Rattle.mgr_port.specs.declared.spare.Look.{Look}
 use Rattle.mgr_port.specs.declared.staged.Old.{Old}
 use Rattle.mgr_port.specs.declared.staged.Old.TheVariants as old
@@ -24,6 +25,19 @@ abbrev pub ReadsLog : List ℕ → List ℕ → LeftLog → History → History 
 ReadsLog path bytes left before now =
     (read : History) × (ended : History) × (read ≡ after (ReadsAll bytes) before) × IsLeftAt left (length bytes) read ended
     × MayRemove IsOneOfMore path ended now
+
+-- A log is opened and held, and all of it is read; then nothing changes.
+abbrev pub LoadsLog : List ℕ → List ℕ → List ℕ → LeftLog → History → Type 0
+LoadsLog path next bytes left now =
+    (locked : History) × (read : History) × OpensLocked path locked × ReadsLog next bytes left locked read × IsQuiet read now
+
+-- The next log is held in the place of the log, which is not there; then nothing changes.
+abbrev pub KeepsPlace : List ℕ → List ℕ → History → Type 0
+KeepsPlace next path now = (held : History) × HoldsNext next path held × IsQuiet held now
+
+-- the file whose name the text took is closed, and nothing else
+abbrev pub closed : {T : Type 0} → Note T → Note T
+closed note = record note { text = record note.text { replaced = None } }
 
 -- the file that waits at a path may be gone, and that path of a log that has another
 abbrev pub Leaves : List ℕ → History → History → Type 0

@@ -1,5 +1,6 @@
 -- What steps do to the files of a folder, and what other programs leave alone between them.
-use Rattle.std.specs.Prelude.{◌≡◌, ◌≢◌, ◌⊎◌, ℕ, List, [], Bool, true, false, Option, Some, None, length}
+use Rattle.std.specs.Prelude.{◌≡◌, ◌≢◌, ◌⊎◌, ℕ, List, [], ◌++◌, Bool, true, false, Option, Some, None, length, take}
+use Rattle.mgr_port.specs.declared.log.End.{End}
 use Rattle.mgr_port.specs.declared.spare.Look.{Look}
 
 -- the plain file that stands under each path itself, if one does; the bytes of each file, and who has it locked
@@ -59,3 +60,14 @@ StoodUnder name old path now = (file : ℕ) → Has now path file → (kept : �
 pub record Locks (who : ℕ) (w : World) (path : List ℕ) (file : ℕ) : Type 0 where
   pub there : Has w path file
   pub locked : w.holder file ≡ Some who
+
+-- ---- a log that grows
+
+-- A file ends so where it is so long, after these bytes.
+abbrev pub EndsAt : List ℕ → ℕ → End → List ℕ → Type 0
+EndsAt bytes size end before =
+    (rest : List ℕ) × (bytes ≡ (before ++ take end.length end.bytes) ++ rest) × (length (before ++ take end.length end.bytes) ≡ size)
+
+-- it has what it had, and what was put behind that
+abbrev pub Grows : ℕ → World → World → Type 0
+Grows file old new = (more : List ℕ) × (new.bytes file ≡ old.bytes file ++ more)

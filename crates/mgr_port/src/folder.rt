@@ -1,6 +1,6 @@
 //! The steps by which a folder is looked at and changed.
-ghost use Rattle.std.specs.Prelude.{◌≡◌, IfOk, OnOk};
-ghost use Rattle.mgr_port.specs.Folder.{History, Looks, Follows, LooksAt, Opens, Locks, Ends, EndsInNewline};
+ghost use Rattle.std.specs.Prelude.{◌≡◌, IfOk, string_bytes};
+ghost use Rattle.mgr_port.specs.Folder.{History, Looks, Follows, Resolves, LooksAt, Opens, Locks, Ends, EndsInNewline};
 ghost use Rattle.mgr_port.specs.Folder.{Adds, Empties, SetsMode, GivesTo, Dates, Syncs, SyncsFolder, ReadsAll, Reads, Links};
 ghost use Rattle.mgr_port.specs.Folder.{Makes, Removes, Renames, Overwrites, Steps, Writes, after};
 ghost use Rattle.mgr_port.specs.Growth.{MayAdd};
@@ -58,6 +58,11 @@ pub trait Folder {
         ensures step { Steps result (λ standing. Follows path.now standing.found)
             (steps self.old) (steps self.new) };
 
+    /// The path, of which no part is a link, of what a path leads to.
+    fn resolve(&mut self, path: &str) -> io::Result<String>
+        ensures step { Steps result (λ target. Resolves path.now (string_bytes target))
+            (steps self.old) (steps self.new) };
+
     /// What an open file is.
     fn look_at(&mut self, file: &Self::File) -> io::Result<Look>
         ensures step { Steps result (λ look. LooksAt look) (steps self.old) (steps self.new) };
@@ -90,7 +95,7 @@ pub trait Folder {
         lines: &LogLines,
     ) -> io::Result<()>
         requires { MayAdd path.now left.now (steps self.old) }
-        ensures step { OnOk result (steps self.new ≡ after (Adds lines.now) (steps self.old)) };
+        ensures step { Writes result lines.now (steps self.old) (steps self.new) };
 
     /// Leaves nothing in an open file.
     fn empty(&mut self, file: &Self::File) -> io::Result<()>

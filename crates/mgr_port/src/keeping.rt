@@ -26,7 +26,7 @@ pub enum Keeping {
 
 /// Keeps what stands under a path beside it, under the path with `~` after it; if that is taken with
 /// `.~1~`, `.~2~` and so on. Nothing is overwritten.
-#[tactic(auto, using(crate::proofs::FolderLaws::idle_none, crate::proofs::FolderLaws::kept_later))]
+#[tactic(auto, using(crate::proofs::FolderLaws::only_none, crate::proofs::FolderLaws::kept_later))]
 pub fn keep<'p, F: Folder>(
     folder: &mut F,
     alloc: Global,
@@ -63,7 +63,7 @@ fn kept_path(alloc: Global, path: &str, number: u32) -> io::Result<String>
 }
 
 /// The same under a name; `AlreadyExists` if that is taken.
-#[tactic(auto, using(crate::proofs::FolderLaws::idle_none))]
+#[tactic(auto, using(crate::proofs::FolderLaws::only_none))]
 fn keep_as<'p, F: Folder>(
     folder: &mut F,
     path: &'p str,
@@ -89,7 +89,7 @@ fn keep_as<'p, F: Folder>(
 }
 
 /// Keeps the bytes of a path under a name; `AlreadyExists` if that is taken.
-#[tactic(auto, using(crate::proofs::FolderLaws::idle_none, crate::proofs::FolderLaws::idle_read))]
+#[tactic(auto, using(crate::proofs::FolderLaws::only_none, crate::proofs::FolderLaws::idle_read))]
 fn copy<'p, F: Folder>(folder: &mut F, path: &'p str, name: &str) -> io::Result<Spare<'p>>
     requires { EndsInTilde name.now }
     ensures path { IfOk result (λ spare. path_of spare ≡ path.now) }
@@ -106,7 +106,7 @@ fn copy<'p, F: Folder>(folder: &mut F, path: &'p str, name: &str) -> io::Result<
 /// The path, if nothing is lost of the plain file that it leads to if these bytes take its place:
 /// there is none, or it is as this port left it, or has the same bytes. `InvalidInput` if it leads to
 /// something else.
-#[tactic(auto, using(crate::proofs::FolderLaws::idle_none, crate::proofs::FolderLaws::idle_follow, crate::proofs::FolderLaws::idle_follow_read))]
+#[tactic(auto, using(crate::proofs::FolderLaws::only_none, crate::proofs::FolderLaws::idle_follow, crate::proofs::FolderLaws::idle_follow_read))]
 pub fn spare_for<'p, F: Folder>(
     folder: &mut F,
     path: &'p str,

@@ -1,9 +1,13 @@
 //! Theorems about files that are written whole, and about paths that go. Each function does nothing:
 //! its contract is the theorem.
-ghost use Rattle.std.specs.Prelude.{◌≡◌, ◌⊎◌, ℕ, List, true, Option, Some};
+ghost use Rattle.std.specs.Prelude.{◌≡◌, ◌⊎◌, ℕ, List, ◌++◌, true, Option, Some, IfSome, length};
+ghost use Rattle.mgr_port.specs.declared.log.FoundLog.{FoundLog};
+ghost use Rattle.mgr_port.specs.declared.log.LeftLog.{LeftLog};
 ghost use Rattle.mgr_port.specs.declared.spare.Look.{Look};
 ghost use Rattle.mgr_port.specs.Spares.{IsNothing};
+ghost use Rattle.mgr_port.specs.Verdicts.{MayGrow};
 ghost use Rattle.mgr_port.specs.Worlds.{World, Has, Shows, IsLinked, IsMade, IsLeftAlone, IsBare, StoodUnder, Locks};
+ghost use Rattle.mgr_port.specs.Worlds.{EndsAt, Grows};
 ghost use Rattle.mgr_port.specs.Disk.{DiskStep, Place, BeginsSteps, AreGivenUp, IsUntouched, MayBeFound, behind_steps, whole_steps};
 
 /// If the machine stops behind any beginning of the steps of `put_whole`, the old file stands under
@@ -45,4 +49,19 @@ pub fn a_note_has_one_session()
     ensures { (path : List ℕ) (one two first second : ℕ) (a b : World) → Locks one a path first
         → IsLeftAlone path a b → b.holder first ≡ Some one → Locks two b path second
         → one ≡ two }
+{}
+
+/// A log that was read still has all of it when lines may be put behind it, if other programs changed
+/// nothing in place of what stands before its last bytes: these were looked at. So what was read, and
+/// then the lines, are a beginning of what stands in the file later, unless somebody changes that in
+/// place, or gives the path to another file. `load` and `append` take these steps.
+pub fn a_log_that_was_read_only_grows()
+    ensures grown { (file : ℕ) (before : List ℕ) (a b : World) (left : LeftLog) (found : FoundLog)
+        → EndsAt (a.bytes file) (length (a.bytes file)) left.end before
+        → left.stamp.length ≡ length (a.bytes file) → MayGrow left found
+        → IfSome found.end (λ end. EndsAt (b.bytes file) left.stamp.length end before)
+        → Grows file a b }
+    ensures kept { (file : ℕ) (lines : List ℕ) (a b c d : World) → Grows file a b
+        → c.bytes file ≡ b.bytes file ++ lines → Grows file c d
+        → (more rest : List ℕ) × (d.bytes file ≡ a.bytes file ++ more ++ lines ++ rest) }
 {}

@@ -23,6 +23,7 @@ mod log;
 mod logs;
 mod names;
 mod note;
+mod notes;
 mod patient;
 mod port;
 mod rewriting;

@@ -1,6 +1,7 @@
 //! Files that are opened and locked.
 ghost use Rattle.std.specs.Prelude.{◌≡◌, ◌≢◌, IfOk, IfSome, OnOk};
 ghost use Rattle.mgr_port.specs.declared.folder.Lock.TheVariants as Lock;
+ghost use Rattle.mgr_port.specs.Folder.{IsQuiet};
 ghost use Rattle.mgr_port.specs.Locks.{Holds, HoldsEmpty, IsHeldEmpty, IsOpened};
 ghost use Rattle.mgr_port.specs.Locks.{OpensBeside, OpensLocked, OpensPlain, ShowsStanding};
 
@@ -14,8 +15,11 @@ use std::io::ErrorKind;
 pub(crate) const TRIES: u32 = 16;
 
 /// Whether a path stands for a file that is open.
+#[tactic(auto, using(crate::proofs::FolderLaws::only_none, crate::proofs::FolderLaws::quiet_follow, crate::proofs::FolderLaws::quiet_follow_look_at))]
 pub(crate) fn stands_for<F: Folder>(folder: &mut F, path: &str, file: &F::File) -> io::Result<bool>
-    ensures { IfOk result (ShowsStanding path.now (F.steps folder.old) (F.steps folder.new)) }
+    ensures shown { IfOk result
+        (ShowsStanding path.now (F.steps folder.old) (F.steps folder.new)) }
+    ensures quiet { IsQuiet (F.steps folder.old) (F.steps folder.new) }
 {
     let Some(found) = folder.follow(path)?.found else {
         return Ok(false);
@@ -37,8 +41,10 @@ pub(crate) fn check_lock(lock: Lock) -> io::Result<()>
 /// Locks a file that is open, for as long as it is. `WouldBlock` if something else has it locked; a
 /// file system that has no locks is no reason to stop. `Interrupted` if the path does not stand for
 /// it after that.
+#[tactic(auto, using(crate::proofs::FolderLaws::only_none))]
 pub(crate) fn hold<F: Folder>(folder: &mut F, path: &str, file: &F::File) -> io::Result<()>
-    ensures { OnOk result (Holds path.now (F.steps folder.old) (F.steps folder.new)) }
+    ensures held { OnOk result (Holds path.now (F.steps folder.old) (F.steps folder.new)) }
+    ensures quiet { IsQuiet (F.steps folder.old) (F.steps folder.new) }
 {
     check_lock(folder.lock(file)?)?;
     if !stands_for(folder, path, file)? {
@@ -48,9 +54,11 @@ pub(crate) fn hold<F: Folder>(folder: &mut F, path: &str, file: &F::File) -> io:
 }
 
 /// Opens a file to read it alone, or to add to it too if it may be written.
+#[tactic(auto, using(crate::proofs::FolderLaws::only_none, crate::proofs::FolderLaws::quiet_open_to_read, crate::proofs::FolderLaws::quiet_open_to_add))]
 fn open_as<F: Folder>(folder: &mut F, path: &str, adds: bool) -> io::Result<F::File>
-    ensures { IfOk result
+    ensures opened { IfOk result
         (λ _. IsOpened path.now (F.steps folder.old) (F.steps folder.new)) }
+    ensures quiet { IsQuiet (F.steps folder.old) (F.steps folder.new) }
 {
     if !adds {
         return folder.open(path, Opening::Read);
@@ -64,8 +72,11 @@ fn open_as<F: Folder>(folder: &mut F, path: &str, adds: bool) -> io::Result<F::F
 
 /// Opens the plain file of a path; none if it is not there. `InvalidInput` if it is no plain file: a
 /// pipe may never have an end, and a device may have none.
+#[tactic(auto, using(crate::proofs::FolderLaws::only_none, crate::proofs::FolderLaws::quiet_follow))]
 fn open_plain<F: Folder>(folder: &mut F, path: &str, adds: bool) -> io::Result<Option<F::File>>
-    ensures { IfOk result (λ o. IfSome o (λ _. OpensPlain path.now (F.steps folder.new))) }
+    ensures opened { IfOk result
+        (λ o. IfSome o (λ _. OpensPlain path.now (F.steps folder.new))) }
+    ensures quiet { IsQuiet (F.steps folder.old) (F.steps folder.new) }
 {
     let Some(look) = folder.follow(path)?.found else {
         return Ok(None);
@@ -83,8 +94,11 @@ fn open_plain<F: Folder>(folder: &mut F, path: &str, adds: bool) -> io::Result<O
 /// Opens and locks the plain file of a path, to read it alone or to add to it too; none if it is not
 /// there. `InvalidInput` as of `open_plain`. `Interrupted` if the path stood for another file
 /// meanwhile, and `WouldBlock` if something else has it locked.
+#[tactic(auto, using(crate::proofs::FolderLaws::only_chain))]
 pub fn open_locked<F: Folder>(folder: &mut F, path: &str, adds: bool) -> io::Result<Option<F::File>>
-    ensures { IfOk result (λ o. IfSome o (λ _. OpensLocked path.now (F.steps folder.new))) }
+    ensures locked { IfOk result
+        (λ o. IfSome o (λ _. OpensLocked path.now (F.steps folder.new))) }
+    ensures quiet { IsQuiet (F.steps folder.old) (F.steps folder.new) }
 {
     let Some(file) = open_plain(folder, path, adds)? else {
         return Ok(None);
@@ -94,12 +108,15 @@ pub fn open_locked<F: Folder>(folder: &mut F, path: &str, adds: bool) -> io::Res
 }
 
 /// The same, tried anew if it was `Interrupted`. `WouldBlock` if it always is.
+#[tactic(auto, using(crate::proofs::FolderLaws::only_none))]
 pub(crate) fn open_again<F: Folder>(
     folder: &mut F,
     path: &str,
     adds: bool,
 ) -> io::Result<Option<F::File>>
-    ensures { IfOk result (λ o. IfSome o (λ _. OpensLocked path.now (F.steps folder.new))) }
+    ensures locked { IfOk result
+        (λ o. IfSome o (λ _. OpensLocked path.now (F.steps folder.new))) }
+    ensures quiet { IsQuiet (F.steps folder.old) (F.steps folder.new) }
 {
     for _ in 0..TRIES {
         match open_locked(folder, path, adds) {

@@ -1,6 +1,7 @@
 //! A log that this port has open.
 ghost use Rattle.std.specs.Prelude.{◌≡◌, ◌↔◌, ◌≤◌, IfOk, IsSome, OnErr, OnOk, length, true};
-ghost use Rattle.mgr_port.specs.Growth.{IsAdded, ShowsGrowth};
+ghost use Rattle.mgr_port.specs.Folder.{IsQuiet};
+ghost use Rattle.mgr_port.specs.Growth.{AddsFront, IsAdded, IsLonger, ShowsGrowth};
 ghost use Rattle.mgr_port.specs.Notes.{IsLeftAt, MakesRoom};
 ghost use Rattle.mgr_port.specs.Spares.{IsOneOfMore, MayRemove};
 ghost use Rattle.mgr_port.specs.Verdicts.{MayGrow};
@@ -96,6 +97,7 @@ impl<T: Drop> Log<T> {
     /// Adds lines at the end, and waits until they are on the device. Nothing is written if the path
     /// stands for another file, or the log is not as it was left and at most something whole behind
     /// it. It is looked at after that, too: what became of it meanwhile may have lost the lines.
+    #[tactic(auto, using(crate::proofs::GrowthLaws::adds_none, crate::proofs::GrowthLaws::adds_front, crate::proofs::GrowthLaws::adds_all))]
     pub(crate) fn append<F: Folder<File = T>>(
         &mut self,
         folder: &mut F,
@@ -104,33 +106,28 @@ impl<T: Drop> Log<T> {
     ) -> io::Result<()>
         ensures added { OnOk result (IsAdded path.now self.old.left lines.now self.new.left
             (F.steps folder.old) (F.steps folder.new)) }
+        ensures begun { OnErr result (AddsFront lines.now
+            (F.steps folder.old) (F.steps folder.new)) }
         ensures same { OnErr result (self.new.left ≡ self.old.left) }
     {
         check_growth(folder, path, &self.file, &self.left)?;
         folder.add_lines(path, &mut self.file, &self.left, lines)?;
-        folder.sync(&self.file)?;
-        let stamp = folder.look_at(&self.file)?.stamp;
-        let end = folder.end_of(&self.file, stamp.length)?;
-        check_growth(folder, path, &self.file, &self.left)?;
-        match end {
-            Some(end) if self.left.stamp.length < stamp.length => {
-                self.left = LeftLog { stamp, end };
-                Ok(())
-            }
-            _ => Err(io::Error::from(ErrorKind::NotFound)),
-        }
+        self.left = left_longer(folder, path, &self.file, &self.left)?;
+        Ok(())
     }
 }
 
 /// `NotFound` unless the path stands for the log, which has what it had, and at most lines behind it.
+#[tactic(auto, using(crate::proofs::FolderLaws::only_none, crate::proofs::FolderLaws::quiet_follow, crate::proofs::GrowthLaws::quiet_end, crate::proofs::GrowthLaws::quiet_ends))]
 fn check_growth<F: Folder>(
     folder: &mut F,
     path: &str,
     log: &F::File,
     left: &LeftLog,
 ) -> io::Result<()>
-    ensures { OnOk result
+    ensures shown { OnOk result
         (ShowsGrowth path.now left.now (F.steps folder.old) (F.steps folder.new)) }
+    ensures quiet { IsQuiet (F.steps folder.old) (F.steps folder.new) }
 {
     let Some(there) = folder.follow(path)?.found else {
         return Err(io::Error::from(ErrorKind::NotFound));
@@ -144,6 +141,28 @@ fn check_growth<F: Folder>(
         return Err(io::Error::from(ErrorKind::NotFound));
     }
     Ok(())
+}
+
+/// What a log is left as, once the lines that were added are on the device.
+#[tactic(auto, using(crate::proofs::FolderLaws::only_none, crate::proofs::GrowthLaws::quiet_sync, crate::proofs::GrowthLaws::quiet_sync_look_at, crate::proofs::GrowthLaws::quiet_longer))]
+fn left_longer<F: Folder>(
+    folder: &mut F,
+    path: &str,
+    log: &F::File,
+    left: &LeftLog,
+) -> io::Result<LeftLog>
+    ensures longer { IfOk result (λ longer. IsLonger path.now left.now longer
+        (F.steps folder.old) (F.steps folder.new)) }
+    ensures quiet { IsQuiet (F.steps folder.old) (F.steps folder.new) }
+{
+    folder.sync(log)?;
+    let stamp = folder.look_at(log)?.stamp;
+    let end = folder.end_of(log, stamp.length)?;
+    check_growth(folder, path, log, left)?;
+    match end {
+        Some(end) if left.stamp.length < stamp.length => Ok(LeftLog { stamp, end }),
+        _ => Err(io::Error::from(ErrorKind::NotFound)),
+    }
 }
 
 /// Whether lines may be put behind a log that was left, by what is found of it.

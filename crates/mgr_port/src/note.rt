@@ -1,9 +1,10 @@
 //! The files of one note, as this port found and left them.
-ghost use Rattle.std.specs.Prelude.{◌≡◌, Option, None, IfOk, IfSome, OnErr, OnOk, length, string_bytes};
+ghost use Rattle.std.specs.Prelude.{◌≡◌, ◌≢◌, Option, None, IfOk, IfSome, IsSomeAnd, OnErr, OnOk, string_bytes};
 ghost use Rattle.mgr_port.specs.Disk.{steps_to};
-ghost use Rattle.mgr_port.specs.Growth.{IsAdded};
+ghost use Rattle.mgr_port.specs.Growth.{AddsFront, IsAdded};
 ghost use Rattle.mgr_port.specs.Locks.{HoldsInItsPlace, HoldsNext, IsTaken, OpensLocked};
-ghost use Rattle.mgr_port.specs.Notes.{Leaves, MakesLog, MakesRoom, NamesLog, ReadsLog, TakesRights, old_for};
+ghost use Rattle.mgr_port.specs.Notes.{KeepsPlace, Leaves, LoadsLog, MakesLog, MakesRoom, NamesLog};
+ghost use Rattle.mgr_port.specs.Notes.{ReadsLog, TakesRights, closed, old_for};
 ghost use Rattle.mgr_port.specs.Spares.{IsOfFile, MayRemove};
 ghost use Rattle.mgr_port.specs.Texts.{PutsText};
 ghost use Rattle.mgr_port.specs.declared.spare.Look.{Look};
@@ -36,6 +37,7 @@ pub(crate) struct Note<T> {
 impl<T: Drop> Note<T> {
     /// A note of which nothing was read and nothing is locked.
     pub(crate) fn new(paths: Paths) -> Note<T>
+        ensures paths { result.paths ≡ paths }
         ensures log { result.log ≡ None }
         ensures next { result.next ≡ None }
     {
@@ -54,8 +56,13 @@ impl<T: Drop> Note<T> {
         folder: &mut F,
         alloc: Global,
     ) -> io::Result<Found>
-        ensures read { IfOk result (λ found. IfSome found.log (λ bytes. IfSome self.new.log
-            (λ log. log.left.stamp.length ≡ length bytes))) }
+        ensures read { IfOk result (λ found. IfSome found.log (λ bytes. IsSomeAnd self.new.log
+            (λ log. LoadsLog (string_bytes self.old.paths.log)
+            (string_bytes self.old.paths.next_log) bytes log.left (F.steps folder.new)))) }
+        ensures none { IfOk result (λ found. found.log ≡ None → self.new.log ≡ None) }
+        ensures held { IfOk result (λ found. found.log ≡ None → IfSome self.new.next (λ _.
+            KeepsPlace (string_bytes self.old.paths.next_log)
+            (string_bytes self.old.paths.log) (F.steps folder.new))) }
         ensures log { OnErr result (self.new.log ≡ None) }
         ensures next { OnErr result (self.new.next ≡ None) }
     {
@@ -75,15 +82,23 @@ impl<T: Drop> Note<T> {
         ensures log { self.new.log ≡ None }
         ensures next { self.new.next ≡ None }
         ensures own { self.new.text.own ≡ None }
+        ensures paths { self.new.paths ≡ self.old.paths }
     {
         self.log = None;
         self.next = None;
         self.text = Text::new();
     }
 
+    /// The same, where nothing is open. Where that fails the files that were locked may stay so.
     fn try_load<F: Folder<File = T>>(&mut self, folder: &mut F, alloc: Global) -> io::Result<Found>
-        ensures { IfOk result (λ found. IfSome found.log (λ bytes. IfSome self.new.log
-            (λ log. log.left.stamp.length ≡ length bytes))) }
+        ensures read { IfOk result (λ found. IfSome found.log (λ bytes. IsSomeAnd self.new.log
+            (λ log. LoadsLog (string_bytes self.old.paths.log)
+            (string_bytes self.old.paths.next_log) bytes log.left (F.steps folder.new)))) }
+        ensures none { IfOk result
+            (λ found. found.log ≡ None → self.new.log ≡ self.old.log) }
+        ensures held { IfOk result (λ found. found.log ≡ None → IfSome self.new.next (λ _.
+            KeepsPlace (string_bytes self.old.paths.next_log)
+            (string_bytes self.old.paths.log) (F.steps folder.new))) }
     {
         let (log, next) = lock_log(folder, alloc, &self.paths)?;
         self.next = next;
@@ -113,6 +128,8 @@ impl<T: Drop> Note<T> {
         ensures added { OnOk result (IfSome self.old.log (λ old. IfSome self.new.log (λ log.
             IsAdded (string_bytes self.old.paths.log) old.left lines.now log.left
             (F.steps folder.old) (F.steps folder.new)))) }
+        ensures begun { self.old.log ≢ None → OnErr result
+            (AddsFront lines.now (F.steps folder.old) (F.steps folder.new)) }
         ensures made { self.old.log ≡ None → OnOk result (IfSome self.new.log (λ log.
             MakesLog (string_bytes self.old.paths.next_log) (string_bytes self.old.paths.log)
             (string_bytes self.old.paths.text) None lines.now log.left (F.steps folder.new))) }
@@ -202,7 +219,7 @@ impl<T: Drop> Note<T> {
 
     /// Closes the file whose name the text took last, if it is open.
     pub(crate) fn close_replaced(&mut self)
-        ensures { self.new.text.replaced ≡ None }
+        ensures { self.new ≡ closed self.old }
     {
         self.text.replaced = None;
     }

@@ -1,4 +1,6 @@
 //! Files that are written at length.
+ghost use Rattle.std.specs.Prelude.{◌≡◌, None};
+
 use std::fs::File;
 use std::io;
 use std::io::{ErrorKind, Write};
@@ -20,7 +22,10 @@ pub(crate) struct Patient<'a> {
 
 impl<'a> Patient<'a> {
     /// A file that is written at its end.
-    pub(crate) fn new(file: &'a mut File) -> Patient<'a> {
+    pub(crate) fn new(file: &'a mut File) -> Patient<'a>
+        ensures failed { result.failed ≡ None }
+        ensures waiting { result.waiting ≡ 0 }
+    {
         Patient {
             file,
             failed: None,

@@ -1,14 +1,17 @@
 //! A port of files and sockets.
-ghost use Rattle.std.specs.Prelude.{◌≡◌, ◌≢◌, ◌<◌, [], ◌∷◌, Err, IfOk, length};
+ghost use Rattle.std.specs.Prelude.{◌≡◌, ◌≢◌, [], ◌∷◌, Err, IfOk, map};
 ghost use Rattle.std.specs.Net.Addr.{ipv4_octets};
 ghost use Rattle.std.specs.Net.Socket.{v4_ip, v4_port};
 ghost use Rattle.mg_files.specs.Calls.{failures_after, failures_after_link};
 ghost use Rattle.mg_files.specs.declared.port.LinkFault.TheVariants.{NoPort};
 ghost use Rattle.mgr_port.specs.Logs.{raised};
+ghost use Rattle.mgr_port.specs.Names.{ArePathsOf};
+ghost use Rattle.mgr_port.specs.Notes.{closed};
 
 use crate::logs::Logs;
 use crate::names::Paths;
 use crate::note::Note;
+use crate::notes::{close_replaced, index_of};
 use crate::rewriting::OpenLog;
 use crate::system::System;
 use crate::vacating::remove_open;
@@ -105,32 +108,11 @@ fn failures_with(failures: u64, more: u64) -> u64
     failures.saturating_add(more)
 }
 
-/// The index of the note of a name, which need not be loaded.
-fn index_of<R: Files<File = File> + AllocGlobal>(
-    rt: &R,
-    notes: &mut Vec<Note<File>>,
-    name: &str,
-) -> Result<usize, OutOfMemory>
-    ensures { IfOk result (λ i. i < length notes.new.items) }
+/// The paths of a note's files.
+fn paths_of<R: Files<File = File> + AllocGlobal>(rt: &R, name: &str) -> Result<Paths, OutOfMemory>
+    ensures { IfOk result (ArePathsOf name.now) }
 {
-    let known = notes
-        .iter()
-        .position(|note| note.paths.text.as_str() == name);
-    if let Some(index) = known {
-        return Ok(index);
-    }
-    let paths = Paths::new(rt, name)?;
-    let index = notes.as_slice().len();
-    notes.push(Note::new(paths))?;
-    Ok(index)
-}
-
-/// Closes the files whose names texts took. It is done where a peer is awaited, since it may take as
-/// long as a sync.
-fn close_replaced(notes: &mut Vec<Note<File>>) {
-    for note in notes.iter_mut() {
-        note.close_replaced();
-    }
+    Paths::new(&mut System { rt }, rt.alloc(), name)
 }
 
 /// The address at which peers are met: that of this machine alone, 127.0.0.1, and the number.
@@ -146,7 +128,9 @@ fn await_peer<R: Files<File = File> + Net>(
     rt: &R,
     notes: &mut Vec<Note<File>>,
     number: u16,
-) -> io::Result<R::Stream> {
+) -> io::Result<R::Stream>
+    ensures { map closed notes.new.items ≡ map closed notes.old.items }
+{
     let listener = TcpListener::bind(rt, own_address(number))?;
     close_replaced(notes);
     let (stream, _) = listener.accept()?;
@@ -174,8 +158,8 @@ impl<R: Files<File = File> + Net + AllocGlobal + Drop> Port for FilePort<R> {
         ensures device { self.new.failures ≡ failures_after result self.old.failures }
         ensures number { self.new.number ≡ self.old.number }
     {
-        let index = index_of(&self.rt, &mut self.notes, name)?;
         let alloc = self.rt.alloc();
+        let index = index_of(&mut System { rt: &self.rt }, alloc, &mut self.notes, name)?;
         let found = self.notes[index].load(&mut System { rt: &self.rt }, alloc);
         told(&mut self.failures, found)
     }
@@ -186,8 +170,8 @@ impl<R: Files<File = File> + Net + AllocGlobal + Drop> Port for FilePort<R> {
         ensures device { self.new.failures ≡ failures_after result self.old.failures }
         ensures number { self.new.number ≡ self.old.number }
     {
-        let index = index_of(&self.rt, &mut self.notes, name)?;
         let alloc = self.rt.alloc();
+        let index = index_of(&mut System { rt: &self.rt }, alloc, &mut self.notes, name)?;
         let answer = self.notes[index].append(&mut System { rt: &self.rt }, alloc, lines);
         told(&mut self.failures, answer)
     }
@@ -198,8 +182,8 @@ impl<R: Files<File = File> + Net + AllocGlobal + Drop> Port for FilePort<R> {
         ensures device { self.new.failures ≡ failures_after result self.old.failures }
         ensures number { self.new.number ≡ self.old.number }
     {
-        let index = index_of(&self.rt, &mut self.notes, name)?;
         let alloc = self.rt.alloc();
+        let index = index_of(&mut System { rt: &self.rt }, alloc, &mut self.notes, name)?;
         let answer = self.notes[index].replace(&mut System { rt: &self.rt }, alloc, lines);
         told(&mut self.failures, answer)
     }
@@ -210,8 +194,8 @@ impl<R: Files<File = File> + Net + AllocGlobal + Drop> Port for FilePort<R> {
         ensures device { self.new.failures ≡ failures_after result self.old.failures }
         ensures number { self.new.number ≡ self.old.number }
     {
-        let index = index_of(&self.rt, &mut self.notes, name)?;
         let alloc = self.rt.alloc();
+        let index = index_of(&mut System { rt: &self.rt }, alloc, &mut self.notes, name)?;
         let answer = self.notes[index].put_text(&mut System { rt: &self.rt }, alloc, bytes);
         told(&mut self.failures, answer)
     }
@@ -276,7 +260,7 @@ impl<R: Files<File = File> + Net + AllocGlobal + Drop> Logs for FilePort<R> {
 
     /// A log that may not be written is refused.
     fn open_log(&mut self, name: &str) -> Result<OpenLog<File>, PortFault> {
-        let paths = Paths::new(&self.rt, name)?;
+        let paths = paths_of(&self.rt, name)?;
         let opened = OpenLog::at(&mut System { rt: &self.rt }, paths.log.as_str());
         told(&mut self.failures, opened)
     }
@@ -296,13 +280,13 @@ impl<R: Files<File = File> + Net + AllocGlobal + Drop> Logs for FilePort<R> {
         log: &mut OpenLog<File>,
         bytes: &[u8],
     ) -> Result<(), PortFault> {
-        let path = Paths::new(&self.rt, name)?.refused(self.rt.alloc())?;
+        let path = paths_of(&self.rt, name)?.refused(self.rt.alloc())?;
         let kept = log.keep_refused(&mut System { rt: &self.rt }, path.as_str(), bytes);
         told(&mut self.failures, kept)
     }
 
     fn make_next(&mut self, name: &str, log: &OpenLog<File>) -> Result<File, PortFault> {
-        let paths = Paths::new(&self.rt, name)?;
+        let paths = paths_of(&self.rt, name)?;
         let alloc = self.rt.alloc();
         let path = paths.next_log.as_str();
         let made = log.make_next(&mut System { rt: &self.rt }, alloc, path);
@@ -320,7 +304,7 @@ impl<R: Files<File = File> + Net + AllocGlobal + Drop> Logs for FilePort<R> {
     {
         self.failures = failures_with(self.failures, log.failures());
         self.failures = failures_with(self.failures, next.failures());
-        let paths = Paths::new(&self.rt, name)?;
+        let paths = paths_of(&self.rt, name)?;
         let alloc = self.rt.alloc();
         let (log, next) = (log.into_inner(), next.into_inner());
         let named = log.name_next(&mut System { rt: &self.rt }, alloc, &paths, next);
@@ -333,7 +317,7 @@ impl<R: Files<File = File> + Net + AllocGlobal + Drop> Logs for FilePort<R> {
     {
         self.failures = failures_with(self.failures, log.failures());
         self.failures = failures_with(self.failures, next.failures());
-        if let Ok(paths) = Paths::new(&self.rt, name) {
+        if let Ok(paths) = paths_of(&self.rt, name) {
             let folder = &mut System { rt: &self.rt };
             let _ = remove_open(folder, paths.next_log.as_str(), &next.into_inner());
         }

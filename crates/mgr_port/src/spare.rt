@@ -1,5 +1,6 @@
 //! Paths that may go, or be given to another file, and why nothing is lost then of what stands there.
 ghost use Rattle.std.specs.Prelude.{◌≡◌, ◌≢◌, ◌↔◌, None, Some, IfSome, IsSome, true, nat_eq, if◌then◌else◌};
+ghost use Rattle.std.specs.Fs.{IsFile, file_type, metadata_len, metadata_mode};
 ghost use Rattle.mgr_port.specs.declared.spare.Loss.TheVariants as Loss;
 ghost use Rattle.mgr_port.specs.declared.spare.Reason.TheVariants as Reason;
 ghost use Rattle.mgr_port.specs.Spares.{IsFor, IsNoFile, IsNothing, IsOfFile, IsOneOfMore, path_of};
@@ -56,7 +57,12 @@ impl Look {
         }
     }
 
-    pub(crate) fn of(metadata: &Metadata) -> Look {
+    /// What the system says of a file.
+    pub(crate) fn of(metadata: &Metadata) -> Look
+        ensures kind { (result.is_plain ≡ true) ↔ IsFile (file_type metadata.now) }
+        ensures length { result.stamp.length ≡ metadata_len metadata.now }
+        ensures mode { result.mode ≡ metadata_mode metadata.now }
+    {
         Look {
             is_plain: metadata.is_file(),
             names: metadata.nlink(),

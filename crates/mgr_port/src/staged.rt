@@ -67,7 +67,7 @@ impl Named {
 /// new one, whole (`laws`). `io::Error` is that of the step that failed, and the old file has the name
 /// then; of the last step it is in `Unsettled`. The log is the one by which it is dated, or that was
 /// read.
-#[tactic(auto, using(crate::proofs::FolderLaws::idle_none, crate::proofs::StagingLaws::stops_here, crate::proofs::StagingLaws::stops_unnamed))]
+#[tactic(auto, using(crate::proofs::FolderLaws::only_none, crate::proofs::StagingLaws::stops_here, crate::proofs::StagingLaws::stops_unnamed))]
 pub fn put_whole<F: Folder>(
     folder: &mut F,
     alloc: Global,
@@ -87,7 +87,7 @@ pub fn put_whole<F: Folder>(
 }
 
 /// Makes these lines the whole of it, as `put_whole` does bytes.
-#[tactic(auto, using(crate::proofs::FolderLaws::idle_none, crate::proofs::StagingLaws::stops_here, crate::proofs::StagingLaws::stops_unnamed))]
+#[tactic(auto, using(crate::proofs::FolderLaws::only_none, crate::proofs::StagingLaws::stops_here, crate::proofs::StagingLaws::stops_unnamed))]
 pub(crate) fn put_log<F: Folder>(
     folder: &mut F,
     alloc: Global,
@@ -209,7 +209,7 @@ pub(crate) fn spare_text<'p, F: Folder>(
 }
 
 /// `WouldBlock` unless a path stands for a log, which has the length that was read.
-#[tactic(auto, using(crate::proofs::FolderLaws::idle_none, crate::proofs::FolderLaws::idle_follow, crate::proofs::FolderLaws::idle_follow_look_at))]
+#[tactic(auto, using(crate::proofs::FolderLaws::only_none, crate::proofs::FolderLaws::idle_follow, crate::proofs::FolderLaws::idle_follow_look_at))]
 fn check_as_read<F: Folder>(
     folder: &mut F,
     path: &str,

@@ -1,5 +1,5 @@
 //! Which file a name stands for, and whether it is as it was left.
-ghost use Rattle.std.specs.Prelude.{◌≡◌, ◌⊎◌, ◌↔◌, true};
+ghost use Rattle.std.specs.Prelude.{◌≡◌, ◌⊎◌, ◌↔◌, true, pos, ◌+ℤ◌, ◌<ℤ◌, ◌≤ℤ◌};
 ghost use Rattle.mgr_port.specs.Verdicts.{AreOfOneFile, IsDatedBy, IsLater, WasGiven};
 
 use crate::spare::Look;
@@ -66,7 +66,10 @@ fn is_dated(changed: Time, touched: Time, log: Time, put: Time) -> bool
 impl Time {
     /// Later by what this port dates a text later.
     fn later(self) -> Time
-        ensures { IsLater self result }
+        ensures tick { IsLater self result }
+        ensures second { pos 999999900 ≤ℤ self.nanos
+            → self.seconds <ℤ pos 9223372036854775807
+            → result.seconds ≡ self.seconds +ℤ pos 1 }
     {
         if self.nanos < LAST_TICK {
             return Time {

@@ -63,6 +63,10 @@ impl<'r, R: Files<File = File> + AllocGlobal> Folder for System<'r, R> {
         standing(path, fs::metadata(self.rt, path))
     }
 
+    fn resolve(&mut self, path: &str) -> io::Result<String> {
+        Ok(fs::canonicalize(self.rt, path)?.into_string())
+    }
+
     fn look_at(&mut self, file: &File) -> io::Result<Look> {
         Ok(Look::of(&file.metadata()?))
     }

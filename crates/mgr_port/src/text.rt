@@ -1,5 +1,6 @@
 //! A text, as this port found and left it.
 ghost use Rattle.std.specs.Prelude.{◌≡◌, ◌≤◌, None, IfOk, IfSome, OnOk, string_bytes};
+ghost use Rattle.mgr_port.specs.Folder.{IsQuiet};
 ghost use Rattle.mgr_port.specs.Locks.{IsOwnRead};
 ghost use Rattle.mgr_port.specs.Texts.{IsOwnBeside, MakesLike, MakesNextText, NamesText, PutsBeside, PutsInPlace, PutsText};
 
@@ -46,13 +47,15 @@ impl<T: Drop> Text<T> {
 
     /// Locks and reads the text, which is this port's own then. `InvalidInput` where it is no plain
     /// file, and `WouldBlock` where something else has it locked.
+    #[tactic(auto, using(crate::proofs::FolderLaws::quiet_then_look_at, crate::proofs::FolderLaws::quiet_then_read, crate::proofs::FolderLaws::quiet_then_look_at_read))]
     pub(crate) fn load<F: Folder<File = T>>(
         &mut self,
         folder: &mut F,
         path: &str,
     ) -> io::Result<Option<Vec<u8>>>
-        ensures { IfOk result (λ o. IfSome o (λ bytes.
+        ensures read { IfOk result (λ o. IfSome o (λ bytes.
             IsOwnRead self.new.own path.now bytes.items (F.steps folder.new))) }
+        ensures quiet { IsQuiet (F.steps folder.old) (F.steps folder.new) }
     {
         self.file = open_again(folder, path, false)?;
         self.own = None;
@@ -74,14 +77,16 @@ impl<T: Drop> Text<T> {
     /// Locks the text beside a log that was read, where it is there. `WouldBlock` where something else
     /// has it locked; else it need not be readable. It is this port's own where it was put beside this
     /// log; else it is read, and stays what another program left.
+    #[tactic(auto, using(crate::proofs::FolderLaws::quiet_then_look_at, crate::proofs::FolderLaws::quiet_then_look_at_read))]
     pub(crate) fn take_beside<F: Folder<File = T>>(
         &mut self,
         folder: &mut F,
         path: &str,
         log: LeftLog,
     ) -> io::Result<Option<Vec<u8>>>
-        ensures { IfOk result (IsOwnBeside path.now log.stamp self.old.own self.new.own
+        ensures own { IfOk result (IsOwnBeside path.now log.stamp self.old.own self.new.own
             (F.steps folder.new)) }
+        ensures quiet { IsQuiet (F.steps folder.old) (F.steps folder.new) }
     {
         match open_again(folder, path, false) {
             Ok(file) => self.file = file,

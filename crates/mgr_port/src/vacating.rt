@@ -76,7 +76,7 @@ pub(crate) fn remove_second_name<F: Folder>(
 /// Gives a file a name that nothing has, in place of its own, which it may keep if that cannot be
 /// taken. `AlreadyExists` if something has got the name meanwhile; if the file system gives no
 /// second name, that is looked at right before.
-#[tactic(auto, using(crate::proofs::FolderLaws::idle_none, crate::proofs::FolderLaws::idle_look))]
+#[tactic(auto, using(crate::proofs::FolderLaws::only_none, crate::proofs::FolderLaws::idle_look))]
 pub fn give_free_name<F: Folder>(folder: &mut F, path: &str, name: &str) -> io::Result<()>
     ensures named { OnOk result
         (GivesFreeName path.now name.now (F.steps folder.old) (F.steps folder.new)) }

@@ -8,6 +8,7 @@ use Rattle.test_ports.specs.declared.files.Step.TheVariants as step
 abbrev pub folder_step_of : Step → FolderStep
 folder_step_of (step.Looks path found) = told.Looks (string_bytes path) found
 folder_step_of (step.Follows path found) = told.Follows (string_bytes path) found
+folder_step_of (step.Resolves path target) = told.Resolves (string_bytes path) (string_bytes target)
 folder_step_of (step.LooksAt look) = told.LooksAt look
 folder_step_of (step.Opens path opening) = told.Opens (string_bytes path) opening
 folder_step_of (step.Locks lock) = told.Locks lock

@@ -14,6 +14,7 @@ use std::marker::Model;
 pub(crate) enum Step {
     Looks(String, Option<Look>),
     Follows(String, Option<Look>),
+    Resolves(String, String),
     LooksAt(Look),
     Opens(String, Opening),
     Locks(Lock),
@@ -233,6 +234,13 @@ impl Folder for MemoryFiles {
         let found = self.found(path);
         self.note(Step::Follows(self.copy_of(path)?, found))?;
         Ok(Standing { path, found })
+    }
+
+    /// There are no links.
+    fn resolve(&mut self, path: &str) -> io::Result<String> {
+        let target = self.copy_of(path)?;
+        self.note(Step::Resolves(self.copy_of(path)?, self.copy_of(path)?))?;
+        Ok(target)
     }
 
     fn look_at(&mut self, file: &usize) -> io::Result<Look> {
