@@ -1,7 +1,7 @@
 -- Lines that are put behind a log, or a beginning of them.
-use Rattle.std.proofs.Common.{◌≡◌, ◌⊎◌, inl, inr, ℕ, List, [], ◌++◌, Bool, Option, refl, sym}
+use Rattle.std.proofs.Common.{◌≡◌, ◌⊎◌, inl, inr, ℕ, List, [], ◌++◌, Bool, Option, Result, Ok, Err, refl, sym}
 use Rattle.std.proofs.lemmas.List.{append-nil}
-use Rattle.mgr_port.specs.Folder.{History, Adds, Ends, EndsInNewline, Follows, IsQuiet, LooksAt, Syncs, after}
+use Rattle.mgr_port.specs.Folder.{History, Adds, Ends, EndsInNewline, Follows, IsQuiet, LooksAt, Steps, Syncs, after}
 use Rattle.mgr_port.specs.Growth.{AddsFront}
 use Rattle.mgr_port.specs.declared.log.End.{End}
 use Rattle.mgr_port.specs.declared.spare.Look.{Look}
@@ -22,9 +22,15 @@ quiet_sync a b is = quiet_one a b Syncs is tt
 pub quiet_sync_look_at : (a b c : History) (look : Look) → b ≡ after Syncs a → c ≡ after (LooksAt look) b → IsQuiet a c
 quiet_sync_look_at a b c look one two = only_more a b c (LooksAt look) (quiet_sync a b one) two tt
 
+synced : {A E : Type 0} (r : Result A E) (a b : History) → Steps r (λ _. Syncs) a b → IsQuiet a b
+synced (Ok x) a b is = quiet_sync a b is
+synced (Err e) a b is = only_none a b is
+
 -- the lines are on the device, and the log was looked at again
-pub quiet_longer : (a b c d e : History) (look : Look) (size : ℕ) (end : Option End) → b ≡ after Syncs a → c ≡ after (LooksAt look) b → d ≡ after (Ends size end) c → IsQuiet d e → IsQuiet a e
-quiet_longer a b c d e look size end one two three quiet = only_chain a d e (only_more a c d (Ends size end) (quiet_sync_look_at a b c look one two) three tt) quiet
+pub quiet_longer : {A E : Type 0} (r : Result A E) (a b c d e : History) (look : Look) (size : ℕ) (end : Option End) → Steps r (λ _. Syncs) a b → c ≡ after (LooksAt look) b
+    → d ≡ after (Ends size end) c → IsQuiet d e → IsQuiet a e
+quiet_longer r a b c d e look size end one two three quiet =
+    only_chain a d e (only_more a c d (Ends size end) (only_more a b c (LooksAt look) (synced r a b one) two tt) three tt) quiet
 
 -- ---- an append that failed
 

@@ -1,5 +1,5 @@
 -- What is lost of a path that goes.
-use Rattle.std.proofs.Common.{◌≡◌, ◌≢◌, ◌⊎◌, inl, inr, ℕ, zero, List, [], ◌∷◌, ◌++◌, Bool, true, false, Option, Some, None, IfSome, refl, sym, ap, subst, ◌∙◌, length, take, append_assoc, arith}
+use Rattle.std.proofs.Common.{◌≡◌, ◌≢◌, ◌⊎◌, inl, inr, ℕ, zero, List, [], ◌∷◌, ◌++◌, Bool, true, false, Option, Some, None, IfSome, refl, sym, ap, subst, ◌∙◌, length, take, arith}
 use Rattle.std.proofs.lemmas.List.{append-nil, length-append}
 use Rattle.mgr_port.specs.Spares.{IsNothing}
 use Rattle.mgr_port.specs.Verdicts.{MayGrow}

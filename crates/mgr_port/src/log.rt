@@ -144,7 +144,7 @@ fn check_growth<F: Folder>(
 }
 
 /// What a log is left as, once the lines that were added are on the device.
-#[tactic(auto, using(crate::proofs::FolderLaws::only_none, crate::proofs::GrowthLaws::quiet_sync, crate::proofs::GrowthLaws::quiet_sync_look_at, crate::proofs::GrowthLaws::quiet_longer))]
+#[tactic(auto, using(crate::proofs::FolderLaws::only_none, crate::proofs::GrowthLaws::quiet_sync, crate::proofs::GrowthLaws::quiet_sync_look_at))]
 fn left_longer<F: Folder>(
     folder: &mut F,
     path: &str,
