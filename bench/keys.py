@@ -5,7 +5,7 @@ Prints a row a figure, with what is wanted of it: the microseconds of user time 
 is typed with motions, kills, yanks and undos in a text of 100,000 characters, without frames and
 with one a key; the milliseconds of user and system time of a yank of a tenth of such a text; the
 microseconds of a character that is typed in the middle of 900,000, and of one that is typed there and
-undone; the seconds of 260,000 keys that write a text of 100,000 characters; the loading of a log of a
+undone, and the milliseconds of user and system time of one that is saved; the seconds of 260,000 keys that write a text of 100,000 characters; the loading of a log of a
 million operations, over `mgr show` of it, and its peak memory; that of a text of a million characters
 without a log; a save of that, over the writing and syncing of the same bytes; and the peak memory of
 it. The time of the same run without keys is taken off where a key is told, and the least of the
@@ -28,7 +28,7 @@ MEASUREMENTS = 3
 LINE = 60
 TRACED = 20  # of so many keys one is measured with frames
 YANKS = 20
-TYPED, UNDONE = 20_000, 5_000
+TYPED, UNDONE, SAVED = 20_000, 5_000, 100
 SAVE = b"\x18\x13"
 
 # The program is the shell's only child, so the peak is its own; the times are of one run.
@@ -165,6 +165,8 @@ def measure_middle(editor, size):
     print_row(f"a character typed in the middle of {size:,}, of {TYPED:,}", typed * 1e6, "us", 50)
     undone = (editor.edit(go + b"x\x1f" * UNDONE, files).user - none) / UNDONE
     print_row(f"one typed there and undone, of {UNDONE:,}", undone * 1e6, "us", 150)
+    none, saved = (editor.edit(go + b"x" + SAVE + (b"x" + SAVE) * count, files).processor for count in (0, SAVED))
+    print_row(f"one typed there and saved, of {SAVED}, but for the sync", (saved - none) / SAVED * 1e3, "ms", 1.0)
 
 
 def down(lines):

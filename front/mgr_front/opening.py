@@ -25,7 +25,7 @@ LARGE, TIMES = 1_000_000, 20
 # How many lines of a log may have come between its text and the note that was taken of its length.
 LATE = 20
 # At most so many texts of the log are held against one that was put before a kill.
-TRIED = 200
+TRIED = 50
 NEW = "New: C-x C-s saves, C-x C-c leaves, C-_ undoes, C-h helps"
 
 
