@@ -106,8 +106,9 @@ def a_plain_text(server, mgr):
         asked(bob, "t, f or q?")
         answer(bob, "f")
         bob.write("x")
-        rows = lambda: sorted(row for row in bob.terminal.shown()[:-2] if row)  # noqa: E731
-        bob.terminal.expect("both", rows, ["theirs", "xmine"])
+        # Their numbers say which of the texts is the first.
+        rows = lambda: sorted(row.removeprefix("x") for row in bob.terminal.shown()[:-2] if row)  # noqa: E731
+        bob.terminal.expect("both", rows, ["mine", "theirs"])
         print(f"fused: {trial.settle()!r}")
 
 
