@@ -1,5 +1,6 @@
 -- What a note asks of the folder that its files stand in.
-use Rattle.std.specs.Prelude.{◌≡◌, ◌⊎◌, ℕ, List, Option, Some, None, length}
+use Rattle.std.specs.Prelude.{◌≡◌, ◌⊎◌, ℕ, Bool, List, Option, Some, None, length}
+use Rattle.std.specs.Bool.{MatchBool}
 use Rattle.mgr_port.specs.Disk.{DiskStep, whole_steps}
 use Rattle.mgr_port.specs.Folder.{History, Ends, Follows, IsQuiet, LooksAt, ReadsAll, SetsMode, after}
 use Rattle.mgr_port.specs.Locks.{HoldsNext, IsTaken, OpensLocked, StandsFor, StandsForAnother}
@@ -49,6 +50,10 @@ MakesRoom path before now =
     (removed : History) × RemovesIf IsOneOfMore path before removed
     × (StandsForAnother path removed now ⊎ ((stood : History) × StandsFor path removed stood × MakesWay path stood now))
 
+-- the same if a log is open; else nothing is done
+abbrev pub MakesRoomIf : Bool → List ℕ → History → History → Type 0
+MakesRoomIf is_open path before now = MatchBool is_open (MakesRoom path before now) (now ≡ before)
+
 -- with no text by its owner alone, and else as it
 abbrev pub TakesTextRights : Option Look → History → History → Type 0
 TakesTextRights None followed now = now ≡ after (SetsMode 384) followed
@@ -72,8 +77,8 @@ NamesLog path name text standing steps before now =
     × (s.path.now ≡ path) × (s.name.now ≡ name) × (s.later ≡ None) × (s.old ≡ old_for standing) × DoesAll s steps righted now
 
 -- the next log is held, gets all of its bytes, and then the name, which is on the device; and it is left so
-abbrev pub MakesLog : List ℕ → List ℕ → List ℕ → Option Look → List ℕ → LeftLog → History → Type 0
-MakesLog path name text standing lines left now =
+abbrev pub MakesLog : Bool → List ℕ → List ℕ → List ℕ → Option Look → List ℕ → LeftLog → History → History → Type 0
+MakesLog is_open path name text standing lines left before now =
     (roomy : History) × (taken : History) × (put : History) × (look : Look) × (looked : History)
-    × IsTaken path roomy taken × NamesLog path name text standing (whole_steps lines) taken put
+    × MakesRoomIf is_open path before roomy × IsTaken path roomy taken × NamesLog path name text standing (whole_steps lines) taken put
     × (looked ≡ after (LooksAt look) put) × IsLeftAt left look.stamp.length looked now

@@ -1,9 +1,10 @@
 //! The files of one note, as this port found and left them.
-ghost use Rattle.std.specs.Prelude.{◌≡◌, ◌≢◌, Option, None, IfOk, IfSome, IsSomeAnd, OnErr, OnOk, string_bytes};
+ghost use Rattle.std.specs.Prelude.{◌≡◌, ◌≢◌, Option, None, IfOk, IfSome, IsSomeAnd, OnErr, OnOk, false, is_some, string_bytes};
 ghost use Rattle.mgr_port.specs.Disk.{steps_to};
+ghost use Rattle.mgr_port.specs.Folder.{Follows, after};
 ghost use Rattle.mgr_port.specs.Growth.{AddsFront, IsAdded};
 ghost use Rattle.mgr_port.specs.Locks.{HoldsInItsPlace, HoldsNext, IsTaken, OpensLocked};
-ghost use Rattle.mgr_port.specs.Notes.{KeepsPlace, Leaves, LoadsLog, MakesLog, MakesRoom, NamesLog};
+ghost use Rattle.mgr_port.specs.Notes.{KeepsPlace, Leaves, LoadsLog, MakesLog, MakesRoomIf, NamesLog};
 ghost use Rattle.mgr_port.specs.Notes.{ReadsLog, TakesRights, closed, old_for};
 ghost use Rattle.mgr_port.specs.Spares.{IsOfFile, MayRemove};
 ghost use Rattle.mgr_port.specs.Texts.{PutsText};
@@ -130,9 +131,11 @@ impl<T: Drop> Note<T> {
             (F.steps folder.old) (F.steps folder.new)))) }
         ensures begun { self.old.log ≢ None → OnErr result
             (AddsFront lines.now (F.steps folder.old) (F.steps folder.new)) }
-        ensures made { self.old.log ≡ None → OnOk result (IfSome self.new.log (λ log.
-            MakesLog (string_bytes self.old.paths.next_log) (string_bytes self.old.paths.log)
-            (string_bytes self.old.paths.text) None lines.now log.left (F.steps folder.new))) }
+        ensures made { self.old.log ≡ None → OnOk result (IsSomeAnd self.new.log (λ log.
+            MakesLog false (string_bytes self.old.paths.next_log)
+            (string_bytes self.old.paths.log) (string_bytes self.old.paths.text) None
+            lines.now log.left (after (Follows (string_bytes self.old.paths.log) None)
+            (F.steps folder.old)) (F.steps folder.new))) }
     {
         let path = self.paths.log.as_str();
         if let Some(log) = &mut self.log {
@@ -151,9 +154,11 @@ impl<T: Drop> Note<T> {
         alloc: Global,
         lines: &LogLines,
     ) -> io::Result<()>
-        ensures { OnOk result (IfSome self.new.log (λ log. (standing : Option Look) × MakesLog
-            (string_bytes self.old.paths.next_log) (string_bytes self.old.paths.log)
-            (string_bytes self.old.paths.text) standing lines.now log.left (F.steps folder.new))) }
+        ensures { OnOk result (IsSomeAnd self.new.log (λ log. (standing : Option Look)
+            × MakesLog (is_some self.old.log) (string_bytes self.old.paths.next_log)
+            (string_bytes self.old.paths.log) (string_bytes self.old.paths.text) standing
+            lines.now log.left (after (Follows (string_bytes self.old.paths.log) standing)
+            (F.steps folder.old)) (F.steps folder.new))) }
     {
         let standing = folder.follow(self.paths.log.as_str())?.found;
         self.make_log(folder, alloc, lines, standing)
@@ -168,9 +173,10 @@ impl<T: Drop> Note<T> {
         lines: &LogLines,
         standing: Option<Look>,
     ) -> io::Result<()>
-        ensures { OnOk result (IfSome self.new.log (λ log.
-            MakesLog (string_bytes self.old.paths.next_log) (string_bytes self.old.paths.log)
-            (string_bytes self.old.paths.text) standing lines.now log.left (F.steps folder.new))) }
+        ensures { OnOk result (IsSomeAnd self.new.log (λ log.
+            MakesLog (is_some self.old.log) (string_bytes self.old.paths.next_log)
+            (string_bytes self.old.paths.log) (string_bytes self.old.paths.text) standing
+            lines.now log.left (F.steps folder.old) (F.steps folder.new))) }
     {
         self.make_room(folder, alloc)?;
         let path = self.paths.next_log.as_str();
@@ -191,9 +197,8 @@ impl<T: Drop> Note<T> {
 
     /// Takes the path of the next log from the log, if it has that.
     fn make_room<F: Folder<File = T>>(&self, folder: &mut F, alloc: Global) -> io::Result<()>
-        ensures { OnOk result (IfSome self.now.log (λ _.
-            MakesRoom (string_bytes self.now.paths.next_log)
-            (F.steps folder.old) (F.steps folder.new))) }
+        ensures { OnOk result (MakesRoomIf (is_some self.now.log)
+            (string_bytes self.now.paths.next_log) (F.steps folder.old) (F.steps folder.new)) }
     {
         match &self.log {
             Some(log) => log.make_room(folder, alloc, self.paths.next_log.as_str()),
