@@ -83,7 +83,8 @@ class Opening:
         is_put = self.copy.is_put(text)
         if not (is_put and self.copy.has_grown(log)):
             begin = self._begin()
-            is_put = is_put and begin is not None or not self.options.takes_file and self._is_made(text)
+            is_put = is_put and begin is not None
+            is_put = is_put or (not self.options.takes_file and self._is_made(text))
         if is_put or self.options.keeps_file or not self._takes_file(begin):
             self.remarks += mend(self.mgr, self.note)[0]
         self.put()
