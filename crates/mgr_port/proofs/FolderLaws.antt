@@ -1,5 +1,5 @@
 -- Steps that change nothing, one behind another.
-use Rattle.std.proofs.Common.{◌≡◌, ◌⊎◌, inl, inr, ◌∙◌, ℕ, List, [], ◌∷◌, ◌++◌, Option, Some, None, Result, Ok, Err, IfOk, OnOk, OnErr, refl, sym, ap, subst, append_assoc}
+use Rattle.std.proofs.Common.{◌≡◌, inl, inr, ◌∙◌, ℕ, List, [], ◌∷◌, ◌++◌, Option, Some, None, Result, Ok, Err, IfOk, OnOk, OnErr, refl, sym, ap, subst, append_assoc}
 use Rattle.std.specs.Option.{option_map}
 use Rattle.mgr_port.specs.Folder.{History, FolderStep, Dates, Follows, Locks, Looks, LooksAt, Opens, Reads, IsIdleStep, IsQuietStep, AreAll, IsIdle, IsQuiet, Only, Steps, after}
 use Rattle.mgr_port.specs.Spares.{IsKept, IsSpare, IsSpareFor, SparesText}
@@ -47,10 +47,10 @@ only_chain {P} a b c i j = record {
 }
 
 -- a date may have been given, and nothing else was
-pub idle_date : (a b c : History) (later : Option ℕ) → MayDate later a b → c ≡ b → IsIdle a c
-idle_date a b c None is same = only_none a c (same ∙ is)
-idle_date a b c (Some later) (inl is) same = only_none a c (same ∙ is)
-idle_date a b c (Some later) (inr is) same = only_more a a c (Dates later) (only_none a a refl) (same ∙ is) tt
+pub idle_date : (file : ℕ) (log : Option ℕ) (a b c : History) (later : Option ℕ) → MayDate file log later a b → c ≡ b → IsIdle a c
+idle_date file log a b c None is same = only_none a c (same ∙ is)
+idle_date file log a b c (Some later) (inl is) same = only_none a c (same ∙ is)
+idle_date file log a b c (Some later) (inr (of, known, is)) same = only_more a a c (Dates file of later) (only_none a a refl) (same ∙ is) tt
 
 -- what was kept later on
 pub kept_later : (why : Reason) (path : List ℕ) (a b c : History) → IsIdle a b → IsKept why path b c → IsKept why path a c
@@ -72,8 +72,8 @@ idle_look a b path found is = idle_one a b (Looks path found) is tt
 pub idle_follow : (a b : History) (path : List ℕ) (found : Option Look) → b ≡ after (Follows path found) a → IsIdle a b
 idle_follow a b path found is = idle_one a b (Follows path found) is tt
 
-pub idle_look_at : (a b : History) (look : Look) → b ≡ after (LooksAt look) a → IsIdle a b
-idle_look_at a b look is = idle_one a b (LooksAt look) is tt
+pub idle_look_at : (a b : History) (file : ℕ) (look : Look) → b ≡ after (LooksAt file look) a → IsIdle a b
+idle_look_at a b file look is = idle_one a b (LooksAt file look) is tt
 
 pub idle_read : (a b : History) (path bytes : List ℕ) → b ≡ after (Reads path bytes) a → IsIdle a b
 idle_read a b path bytes is = idle_one a b (Reads path bytes) is tt
@@ -82,17 +82,17 @@ idle_read a b path bytes is = idle_one a b (Reads path bytes) is tt
 pub idle_follow_read : (a b c : History) (path bytes : List ℕ) (found : Option Look) → b ≡ after (Follows path found) a → c ≡ after (Reads path bytes) b → IsIdle a c
 idle_follow_read a b c path bytes found one two = only_more a b c (Reads path bytes) (idle_follow a b path found one) two tt
 
-pub idle_follow_look_at : (a b c : History) (path : List ℕ) (found : Option Look) (look : Look) → b ≡ after (Follows path found) a → c ≡ after (LooksAt look) b → IsIdle a c
-idle_follow_look_at a b c path found look one two = only_more a b c (LooksAt look) (idle_follow a b path found one) two tt
+pub idle_follow_look_at : (a b c : History) (path : List ℕ) (found : Option Look) (file : ℕ) (look : Look) → b ≡ after (Follows path found) a → c ≡ after (LooksAt file look) b → IsIdle a c
+idle_follow_look_at a b c path found file look one two = only_more a b c (LooksAt file look) (idle_follow a b path found one) two tt
 
 pub on_err : {A E P : Type 0} (r : Result A E) → P → OnErr r P
 on_err (Ok a) p = tt
 on_err (Err e) p = p
 
 -- a date may have been given, and the file is not on the device
-pub sync_idle : {A E : Type 0} (r : Result A E) (a b c : History) (step : A → FolderStep) (later : Option ℕ) → MayDate later a b → Steps r step b c → OnErr r (IsIdle a c)
-sync_idle (Ok x) a b c step later may is = tt
-sync_idle (Err e) a b c step later may is = idle_date a b c later may is
+pub sync_idle : {A E : Type 0} (r : Result A E) (file : ℕ) (log : Option ℕ) (a b c : History) (step : A → FolderStep) (later : Option ℕ) → MayDate file log later a b → Steps r step b c → OnErr r (IsIdle a c)
+sync_idle (Ok x) file log a b c step later may is = tt
+sync_idle (Err e) file log a b c step later may is = idle_date file log a b c later may is
 
 -- a text of which something would be lost was kept, or could not be
 pub text_kept : {E : Type 0} (r : Result Spare E) (o : Option Spare) (path : List ℕ) (own : Option Stamp) (bytes : List ℕ) (a b c : History) → o ≡ None → IsSpareFor path own bytes a b o
@@ -119,29 +119,29 @@ quiet_one a b step is quiet = only_more a a b step (only_none a a refl) is quiet
 pub quiet_follow : (a b : History) (path : List ℕ) (found : Option Look) → b ≡ after (Follows path found) a → IsQuiet a b
 quiet_follow a b path found is = quiet_one a b (Follows path found) is tt
 
-pub quiet_follow_look_at : (a b c : History) (path : List ℕ) (found : Option Look) (look : Look) → b ≡ after (Follows path found) a → c ≡ after (LooksAt look) b → IsQuiet a c
-quiet_follow_look_at a b c path found look one two = only_more a b c (LooksAt look) (quiet_follow a b path found one) two tt
+pub quiet_follow_look_at : (a b c : History) (path : List ℕ) (found : Option Look) (file : ℕ) (look : Look) → b ≡ after (Follows path found) a → c ≡ after (LooksAt file look) b → IsQuiet a c
+quiet_follow_look_at a b c path found file look one two = only_more a b c (LooksAt file look) (quiet_follow a b path found one) two tt
 
-pub quiet_lock : (a b : History) (lock : Lock) → b ≡ after (Locks lock) a → IsQuiet a b
-quiet_lock a b lock is = quiet_one a b (Locks lock) is tt
+pub quiet_lock : (a b : History) (file : ℕ) (lock : Lock) → b ≡ after (Locks file lock) a → IsQuiet a b
+quiet_lock a b file lock is = quiet_one a b (Locks file lock) is tt
 
-pub quiet_hold : (a b c : History) (lock : Lock) → b ≡ after (Locks lock) a → IsQuiet b c → IsQuiet a c
-quiet_hold a b c lock is quiet = only_chain a b c (quiet_lock a b lock is) quiet
+pub quiet_hold : (a b c : History) (file : ℕ) (lock : Lock) → b ≡ after (Locks file lock) a → IsQuiet b c → IsQuiet a c
+quiet_hold a b c file lock is quiet = only_chain a b c (quiet_lock a b file lock is) quiet
 
-pub quiet_open_to_read : (a b : History) (path : List ℕ) → b ≡ after (Opens path opening.Read) a → IsQuiet a b
-quiet_open_to_read a b path is = quiet_one a b (Opens path opening.Read) is tt
+pub quiet_open_to_read : (a b : History) (file : ℕ) (path : List ℕ) → b ≡ after (Opens file path opening.Read) a → IsQuiet a b
+quiet_open_to_read a b file path is = quiet_one a b (Opens file path opening.Read) is tt
 
-pub quiet_open_to_add : (a b : History) (path : List ℕ) → b ≡ after (Opens path opening.Add) a → IsQuiet a b
-quiet_open_to_add a b path is = quiet_one a b (Opens path opening.Add) is tt
+pub quiet_open_to_add : (a b : History) (file : ℕ) (path : List ℕ) → b ≡ after (Opens file path opening.Add) a → IsQuiet a b
+quiet_open_to_add a b file path is = quiet_one a b (Opens file path opening.Add) is tt
 
 pub quiet_follow_open : (a b c : History) (path : List ℕ) (found : Option Look) → b ≡ after (Follows path found) a → IsQuiet b c → IsQuiet a c
 quiet_follow_open a b c path found is quiet = only_chain a b c (quiet_follow a b path found is) quiet
 
-pub quiet_then_look_at : (a b c : History) (look : Look) → IsQuiet a b → c ≡ after (LooksAt look) b → IsQuiet a c
-quiet_then_look_at a b c look quiet is = only_more a b c (LooksAt look) quiet is tt
+pub quiet_then_look_at : (a b c : History) (file : ℕ) (look : Look) → IsQuiet a b → c ≡ after (LooksAt file look) b → IsQuiet a c
+quiet_then_look_at a b c file look quiet is = only_more a b c (LooksAt file look) quiet is tt
 
 pub quiet_then_read : (a b c : History) (path bytes : List ℕ) → IsQuiet a b → c ≡ after (Reads path bytes) b → IsQuiet a c
 quiet_then_read a b c path bytes quiet is = only_more a b c (Reads path bytes) quiet is tt
 
-pub quiet_then_look_at_read : (a b c d : History) (look : Look) (path bytes : List ℕ) → IsQuiet a b → c ≡ after (LooksAt look) b → d ≡ after (Reads path bytes) c → IsQuiet a d
-quiet_then_look_at_read a b c d look path bytes quiet one two = quiet_then_read a c d path bytes (quiet_then_look_at a b c look quiet one) two
+pub quiet_then_look_at_read : (a b c d : History) (file : ℕ) (look : Look) (path bytes : List ℕ) → IsQuiet a b → c ≡ after (LooksAt file look) b → d ≡ after (Reads path bytes) c → IsQuiet a d
+quiet_then_look_at_read a b c d file look path bytes quiet one two = quiet_then_read a c d path bytes (quiet_then_look_at a b c file look quiet one) two

@@ -1,3 +1,4 @@
+pub mod BytesLaws
 pub mod DiskLaws
 pub mod FolderLaws
 pub mod GrowthLaws

@@ -1,40 +1,63 @@
 -- What a note asks of the folder that its files stand in.
-use Rattle.std.proofs.Common.{◌≡◌, ℕ, Bool, true, false, List, Option, Some, None, Result, Ok, Err, IfSome, OnOk, refl, ap, subst, sym, ◌∙◌}
+use Rattle.std.proofs.Common.{◌≡◌, inr, ℕ, false, List, Option, Some, None, Result, Ok, Err, IfOk, IfSome, OnOk, refl, ap, subst, sym, ◌∙◌}
+use Rattle.std.specs.Option.{option_map}
 use Rattle.std.specs.Prelude.{IsSomeAnd, is_some, string_bytes}
-use Rattle.mgr_port.specs.Disk.{steps_to}
+use Rattle.mgr_port.specs.Disk.{steps_to, whole_steps}
 use Rattle.mgr_port.specs.Folder.{History, Follows, IsQuiet, LooksAt, after}
 use Rattle.mgr_port.specs.Growth.{IsAdded}
 use Rattle.mgr_port.specs.Locks.{IsTaken, OpensLocked}
-use Rattle.mgr_port.specs.Notes.{IsLeftAt, LoadsLog, MakesLog, MakesRoom, MakesRoomIf, NamesLog, ReadsLog}
-use Rattle.mgr_port.specs.Staging.{IsSettled}
+use Rattle.mgr_port.specs.Notes.{IsLeftAt, LoadsLog, MakesLog, MakesRoom, MakesRoomIf, NamesLog, ReadsLog, TakesRights, old_for}
+use Rattle.mgr_port.specs.Staging.{DoesAll, IsSettled}
+use Rattle.mgr_port.specs.Texts.{NamesText, PutsBeside, PutsInPlace, PutsText}
 use Rattle.mgr_port.specs.declared.log.LeftLog.{LeftLog}
 use Rattle.mgr_port.specs.declared.names.Paths.{Paths}
 use Rattle.mgr_port.specs.declared.spare.Look.{Look}
 use Rattle.mgr_port.specs.declared.staged.Named.{Named}
 use Rattle.mgr_port.specs.declared.staged.Named.TheVariants as named
+use Rattle.mgr_port.specs.declared.staged.Staged.{Staged}
+use Rattle.mgr_port.specs.declared.stamp.Stamp.{Stamp}
+
+-- the next log has its rights, and the name
+pub named_log : {E : Type 0} (r : Result Named E) (file : ℕ) (log : Option ℕ) (s : Staged) (path name text spelled : List ℕ) (standing : Option Look) (lines : List ℕ) (before righted now : History)
+    → spelled ≡ text → TakesRights file standing spelled before righted → s.path.now ≡ path → s.name.now ≡ name → s.later ≡ None → s.old ≡ old_for standing
+    → IfOk r (λ named. DoesAll file log s (steps_to named lines) righted now) → IfOk r (λ named. NamesLog file log path name text standing (steps_to named lines) before now)
+named_log (Err e) file log s path name text spelled standing lines before righted now is rights is_path is_name is_later is_old does = tt
+named_log (Ok n) file log s path name text spelled standing lines before righted now is rights is_path is_name is_later is_old does =
+    (righted, s, subst (λ t. TakesRights file standing t before righted) is rights, is_path, is_name, is_later, is_old, does)
 
 -- the log has its name, on the device
-pub made_log : {A E : Type 0} (r : Result A E) (n : Named) (is_open : Bool) (path spelled name text : List ℕ) (standing : Option Look) (lines : List ℕ) (left : LeftLog) (before roomy taken put looked now : History) (look : Look)
-    → OnOk r (IsSettled n) → spelled ≡ path → MakesRoomIf is_open path before roomy → IsTaken spelled roomy taken → NamesLog path name text standing (steps_to n lines) taken put
-    → looked ≡ after (LooksAt look) put → IsLeftAt left look.stamp.length looked now → OnOk r (MakesLog is_open path name text standing lines left before now)
-made_log (Err e) n is_open path spelled name text standing lines left before roomy taken put looked now look settled is room took named step leaves = tt
-made_log (Ok x) named.Settled is_open path spelled name text standing lines left before roomy taken put looked now look settled is room took named step (seen, at, one, two, same) =
-    (roomy, taken, put, look, looked, room, subst (λ p. IsTaken p roomy taken) is took, named, step, (seen, at, one, two, same))
-made_log (Ok x) (named.Unsettled error) is_open path spelled name text standing lines left before roomy taken put looked now look settled is room took named step leaves = absurd settled
+pub made_log : {A E : Type 0} (r : Result A E) (n : Named) (was log : Option ℕ) (file : ℕ) (path spelled name text : List ℕ) (standing : Option Look) (lines : List ℕ) (left : LeftLog) (before roomy taken put looked now : History) (look : Look)
+    → OnOk r (IsSettled n) → spelled ≡ path → log ≡ was → MakesRoomIf was path before roomy → IsTaken file spelled roomy taken → NamesLog file log path name text standing (steps_to n lines) taken put
+    → looked ≡ after (LooksAt file look) put → IsLeftAt file left look.stamp.length looked now → OnOk r (MakesLog was file path name text standing lines left before now)
+made_log (Err e) n was log file path spelled name text standing lines left before roomy taken put looked now look settled is known room took named step leaves = tt
+made_log (Ok x) named.Settled was log file path spelled name text standing lines left before roomy taken put looked now look settled is known room took named step (seen, at, one, two, same) = (
+  roomy,
+  taken,
+  put,
+  look,
+  looked,
+  room,
+  subst (λ p. IsTaken file p roomy taken) is took,
+  subst (λ l. NamesLog file l path name text standing (whole_steps lines) taken put) known named,
+  step,
+  (seen, at, one, two, same),
+)
+made_log (Ok x) (named.Unsettled error) was log file path spelled name text standing lines left before roomy taken put looked now look settled is known room took named step leaves = absurd settled
 
 -- the log that is open has made room
-pub room_made : {A B E : Type 0} (r : Result A E) (o : Option B) (log : B) (path spelled : List ℕ) (a b : History) → o ≡ Some log → spelled ≡ path → OnOk r (MakesRoom spelled a b)
-    → OnOk r (MakesRoomIf (is_some o) path a b)
-room_made r o log path spelled a b is same made =
-    subst (λ (p : Option _). OnOk r (MakesRoomIf (is_some p) path a b)) (sym is) (subst (λ p. OnOk r (MakesRoom p a b)) same made)
+pub room_made : {A B E : Type 0} (r : Result A E) (o : Option B) (log : B) (file_of : B → ℕ) (path spelled : List ℕ) (a b : History) → o ≡ Some log → spelled ≡ path
+    → OnOk r (MakesRoom (file_of log) spelled a b) → OnOk r (MakesRoomIf (option_map file_of o) path a b)
+room_made r o log file_of path spelled a b is same made =
+    subst (λ (p : Option _). OnOk r (MakesRoomIf (option_map file_of p) path a b)) (sym is) (subst (λ p. OnOk r (MakesRoom (file_of log) p a b)) same made)
 
 -- the same once it was looked at what stands there
-pub made_after_look : {A B E : Type 0} (r : Result A E) (o : Option B) (left_of : B → LeftLog) (is_open was : Bool) (path name spelled text : List ℕ) (found standing : Option Look) (lines : List ℕ) (before looked now : History)
-    → was ≡ is_open → spelled ≡ name → found ≡ standing → looked ≡ after (Follows spelled found) before → OnOk r (IsSomeAnd o (λ log. MakesLog was path name text standing lines (left_of log) looked now))
-    → OnOk r (IsSomeAnd o (λ log. MakesLog is_open path name text standing lines (left_of log) (after (Follows name standing) before) now))
-made_after_look r o left_of is_open was path name spelled text found standing lines before looked now known same seen step made =
-    subst (λ b. OnOk r (IsSomeAnd o (λ log. MakesLog b path name text standing lines (left_of log) (after (Follows name standing) before) now))) known
-    (subst (λ h. OnOk r (IsSomeAnd o (λ log. MakesLog was path name text standing lines (left_of log) h now))) (step ∙ ap (λ p. after (Follows p found) before) same ∙ ap (λ l. after (Follows name l) before) seen) made)
+pub made_after_look : {A B E : Type 0} (r : Result A E) (o : Option B) (file_of : B → ℕ) (left_of : B → LeftLog) (was known : Option ℕ) (path name spelled text : List ℕ) (found standing : Option Look) (lines : List ℕ) (before looked now : History)
+    → was ≡ known → spelled ≡ name → found ≡ standing → looked ≡ after (Follows spelled found) before
+    → OnOk r (IsSomeAnd o (λ log. MakesLog was (file_of log) path name text standing lines (left_of log) looked now))
+    → OnOk r (IsSomeAnd o (λ log. MakesLog known (file_of log) path name text standing lines (left_of log) (after (Follows name standing) before) now))
+made_after_look r o file_of left_of was known path name spelled text found standing lines before looked now is same seen step made =
+    subst (λ b. OnOk r (IsSomeAnd o (λ log. MakesLog b (file_of log) path name text standing lines (left_of log) (after (Follows name standing) before) now))) is
+    (subst (λ h. OnOk r (IsSomeAnd o (λ log. MakesLog was (file_of log) path name text standing lines (left_of log) h now))) (step ∙ ap (λ p. after (Follows p found) before) same ∙ ap (λ l. after (Follows name l) before) seen) made)
 
 -- whatever stood there
 pub made_of_what_stands : {A B E : Type 0} (r : Result A E) (o : Option B) (P : Option Look → B → Type 0) (standing : Option Look) → OnOk r (IsSomeAnd o (P standing)) → OnOk r (IsSomeAnd o (λ log. (found : Option Look) × P found log))
@@ -47,21 +70,42 @@ none_stands None e = refl
 none_stands (Some x) e = absurd cc
 
 -- lines are added to the log that is open
-pub added_to : {A B E : Type 0} (r : Result A E) (o : Option B) (log : B) (left_of : B → LeftLog) (longer : LeftLog) (path spelled lines : List ℕ) (a b : History) → o ≡ Some log → spelled ≡ path
-    → OnOk r (IsAdded spelled (left_of log) lines longer a b) → OnOk r (IfSome o (λ old. IsAdded path (left_of old) lines longer a b))
-added_to (Err e) o log left_of longer path spelled lines a b is same added = tt
-added_to (Ok x) o log left_of longer path spelled lines a b is same added =
-    subst (λ p. IfSome p (λ old. IsAdded path (left_of old) lines longer a b)) (sym is) (subst (λ p. IsAdded p (left_of log) lines longer a b) same added)
+pub added_to : {T A B E : Type 0} (r : Result A E) (o : Option B) (log : B) (file : B → T) (file_of : T → ℕ) (left_of : B → LeftLog) (kept : T) (longer : LeftLog) (path spelled lines : List ℕ) (a b : History)
+    → o ≡ Some log → spelled ≡ path → kept ≡ file log → OnOk r (IsAdded (file_of (file log)) spelled (left_of log) lines longer a b)
+    → OnOk r (IfSome o (λ old. (kept ≡ file old) × IsAdded (file_of (file old)) path (left_of old) lines longer a b))
+added_to (Err e) o log file file_of left_of kept longer path spelled lines a b is same stays added = tt
+added_to (Ok x) o log file file_of left_of kept longer path spelled lines a b is same stays added =
+    subst (λ p. IfSome p (λ old. (kept ≡ file old) × IsAdded (file_of (file old)) path (left_of old) lines longer a b)) (sym is)
+    (stays, subst (λ p. IsAdded (file_of (file log)) p (left_of log) lines longer a b) same added)
 
 -- a log was opened and held, and all of it read
-pub loaded : {A : Type 0} (o : Option A) (file : A) (path next spelled bytes : List ℕ) (left : LeftLog) (a b c : History) → o ≡ Some file → IfSome o (λ _. OpensLocked path a) → spelled ≡ next
-    → ReadsLog spelled bytes left a b → IsQuiet b c → LoadsLog path next bytes left c
-loaded o file path next spelled bytes left a b c there opened is read quiet =
-    (a, b, subst (λ f. IfSome f (λ _. OpensLocked path a)) there opened, subst (λ n. ReadsLog n bytes left a b) is read, quiet)
+pub loaded : {A : Type 0} (o : Option A) (file read : A) (file_of : A → ℕ) (path next spelled bytes : List ℕ) (left : LeftLog) (a b c : History) → o ≡ Some file
+    → IfSome o (λ f. OpensLocked (file_of f) path a) → spelled ≡ next → read ≡ file → ReadsLog (file_of file) spelled bytes left a b → IsQuiet b c
+    → LoadsLog (file_of read) path next bytes left c
+loaded o file read file_of path next spelled bytes left a b c there opened is same reads quiet =
+    subst (λ f. LoadsLog (file_of f) path next bytes left c) (sym same)
+    (a, b, subst (λ p. IfSome p (λ f. OpensLocked (file_of f) path a)) there opened, subst (λ n. ReadsLog (file_of file) n bytes left a b) is reads, quiet)
 
 -- under the paths that the note still has
-pub loaded_there : {B : Type 0} (o : Option (List ℕ)) (l : Option B) (left_of : B → LeftLog) (p q : Paths) (now : History) → p ≡ q
-    → IfSome o (λ bytes. IsSomeAnd l (λ log. LoadsLog (string_bytes p.log) (string_bytes p.next_log) bytes (left_of log) now))
-    → IfSome o (λ bytes. IsSomeAnd l (λ log. LoadsLog (string_bytes q.log) (string_bytes q.next_log) bytes (left_of log) now))
-loaded_there o l left_of p q now is read =
-    subst (λ (r : Paths). IfSome o (λ bytes. IsSomeAnd l (λ log. LoadsLog (string_bytes r.log) (string_bytes r.next_log) bytes (left_of log) now))) is read
+pub loaded_there : {B : Type 0} (o : Option (List ℕ)) (l : Option B) (file_of : B → ℕ) (left_of : B → LeftLog) (p q : Paths) (now : History) → p ≡ q
+    → IfSome o (λ bytes. IsSomeAnd l (λ log. LoadsLog (file_of log) (string_bytes p.log) (string_bytes p.next_log) bytes (left_of log) now))
+    → IfSome o (λ bytes. IsSomeAnd l (λ log. LoadsLog (file_of log) (string_bytes q.log) (string_bytes q.next_log) bytes (left_of log) now))
+loaded_there o l file_of left_of p q now is read =
+    subst (λ (r : Paths). IfSome o (λ bytes. IsSomeAnd l (λ log. LoadsLog (file_of log) (string_bytes r.log) (string_bytes r.next_log) bytes (left_of log) now))) is read
+
+-- ---- a text
+
+-- it has its name, on the device
+pub put_beside : {A E : Type 0} (r : Result A E) (n : Named) (file : ℕ) (log : Option ℕ) (path name bytes : List ℕ) (own : Option Stamp) (before put now : History) (look : Look) → OnOk r (IsSettled n)
+    → NamesText file log path name bytes own before put n → now ≡ after (LooksAt file look) put → OnOk r (PutsBeside file log path name bytes own (Some look.stamp) before now)
+put_beside (Err e) n file log path name bytes own before put now look settled named step = tt
+put_beside (Ok x) named.Settled file log path name bytes own before put now look settled (answer, locked, s, free, tried, is, does) step =
+    (answer, locked, put, s, look, free, tried, is, does, step, refl)
+put_beside (Ok x) (named.Unsettled error) file log path name bytes own before put now look settled named step = absurd settled
+
+-- it was written where it stands
+pub put_in_place : {A E : Type 0} (r : Result A E) (log : Option ℕ) (path name spelled bytes : List ℕ) (known own now_own : Option Stamp) (seen now : History) → spelled ≡ name
+    → OnOk r (PutsInPlace log spelled bytes known now_own seen now) → OnOk r (PutsText log path name bytes own now_own now)
+put_in_place (Err e) log path name spelled bytes known own now_own seen now same puts = tt
+put_in_place (Ok x) log path name spelled bytes known own now_own seen now same puts =
+    inr (known, seen, subst (λ p. PutsInPlace log p bytes known now_own seen now) same puts)

@@ -1,5 +1,5 @@
 -- Failures that are counted all at once, or one by one.
-use Rattle.std.proofs.Common.{◌≡◌, ◌∙◌, ℕ, zero, suc, ◌+◌, ◌≤◌, min, ap, sym, arith}
+use Rattle.std.proofs.Common.{◌≡◌, ◌∙◌, ℕ, zero, suc, ◌+◌, ◌≤◌, min, ap, arith}
 use Rattle.rga_exchange.specs.Counting.{one_more, max_failures}
 use Rattle.mgr_port.specs.Logs.{raised}
 

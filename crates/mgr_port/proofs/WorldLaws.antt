@@ -81,7 +81,3 @@ grown file before a b left found ends long may shown =
     let here : EndsAt (b.bytes file) left.stamp.length left.end before =
     subst (λ o. IfSome o (λ end. EndsAt (b.bytes file) left.stamp.length end before)) may.same_end shown in
     same_front (a.bytes file) (b.bytes file) before left.end ends (subst (λ n. EndsAt (b.bytes file) n left.end before) long here)
-
-pub kept_in_front : (file : ℕ) (lines : List ℕ) (a b c d : World) → Grows file a b → c.bytes file ≡ b.bytes file ++ lines → Grows file c d
-    → (more : List ℕ) × (rest : List ℕ) × (d.bytes file ≡ a.bytes file ++ more ++ lines ++ rest)
-kept_in_front file lines a b c d (more, is) added (rest, becomes) = (more, rest, becomes ∙ ap (λ l. l ++ rest) (added ∙ ap (λ l. l ++ lines) is))

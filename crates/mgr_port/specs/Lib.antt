@@ -1,3 +1,4 @@
+pub mod Bytes
 pub mod Disk
 pub mod Folder
 pub mod Growth

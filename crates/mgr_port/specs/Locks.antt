@@ -10,28 +10,28 @@ use Rattle.mgr_port.specs.declared.folder.Opening.TheVariants as opening
 use Rattle.mgr_port.specs.declared.spare.Look.{Look}
 use Rattle.mgr_port.specs.declared.stamp.Stamp.{Stamp}
 
--- the path stands for the file that is open
-abbrev pub StandsFor : List ℕ → History → History → Type 0
-StandsFor path old now =
+-- the path stands for this file, which is open
+abbrev pub StandsFor : ℕ → List ℕ → History → History → Type 0
+StandsFor file path old now =
     (found : Look) × (opened : Look) × (followed : History)
-    × (followed ≡ after (Follows path (Some found)) old) × (now ≡ after (LooksAt opened) followed) × AreOfOneFile found.stamp opened.stamp
+    × (followed ≡ after (Follows path (Some found)) old) × (now ≡ after (LooksAt file opened) followed) × AreOfOneFile found.stamp opened.stamp
 
 -- it stands for nothing, or for another file
-abbrev pub StandsForAnother : List ℕ → History → History → Type 0
-StandsForAnother path old now =
+abbrev pub StandsForAnother : ℕ → List ℕ → History → History → Type 0
+StandsForAnother file path old now =
     (now ≡ after (Follows path None) old) ⊎ ((found : Look) × (opened : Look) × (followed : History)
-    × (followed ≡ after (Follows path (Some found)) old) × (now ≡ after (LooksAt opened) followed) × (AreOfOneFile found.stamp opened.stamp → ⊥))
+    × (followed ≡ after (Follows path (Some found)) old) × (now ≡ after (LooksAt file opened) followed) × (AreOfOneFile found.stamp opened.stamp → ⊥))
 
 -- whether it does
-abbrev pub ShowsStanding : List ℕ → History → History → Bool → Type 0
-ShowsStanding path old now true = StandsFor path old now
-ShowsStanding path old now false = StandsForAnother path old now
+abbrev pub ShowsStanding : ℕ → List ℕ → History → History → Bool → Type 0
+ShowsStanding file path old now true = StandsFor file path old now
+ShowsStanding file path old now false = StandsForAnother file path old now
 
--- the same, of a file that is so long
-abbrev pub StandsAsRead : List ℕ → ℕ → History → History → Type 0
-StandsAsRead path length old now =
-    (found : Look) × (opened : Look) × (followed : History)
-    × (followed ≡ after (Follows path (Some found)) old) × (now ≡ after (LooksAt opened) followed) × AreOfOneFile found.stamp opened.stamp
+-- the same of a log that was read, which is so long
+abbrev pub StandsAsRead : Option ℕ → List ℕ → ℕ → History → History → Type 0
+StandsAsRead log path length old now =
+    (file : ℕ) × (found : Look) × (opened : Look) × (followed : History) × (log ≡ Some file)
+    × (followed ≡ after (Follows path (Some found)) old) × (now ≡ after (LooksAt file opened) followed) × AreOfOneFile found.stamp opened.stamp
     × (found.stamp.length ≡ length)
 
 -- whether a plain file stands under the path itself, and nothing if not
@@ -40,54 +40,57 @@ ShowsPlain path old now true = (look : Look) × (look.is_plain ≡ true) × (now
 ShowsPlain path old now false = now ≡ after (Looks path None) old
 
 -- Nothing else has the open file locked, and after that was tried the path stands for it.
-abbrev pub Holds : List ℕ → History → History → Type 0
-Holds path old now = (answer : Lock) × (locked : History) × (answer ≢ lock.Others) × (locked ≡ after (Locks answer) old) × StandsFor path locked now
+abbrev pub Holds : ℕ → List ℕ → History → History → Type 0
+Holds file path old now = (answer : Lock) × (locked : History) × (answer ≢ lock.Others) × (locked ≡ after (Locks file answer) old) × StandsFor file path locked now
 
 -- it is opened
-abbrev pub IsOpened : List ℕ → History → History → Type 0
-IsOpened path old now = (how : Opening) × (now ≡ after (Opens path how) old)
+abbrev pub IsOpened : ℕ → List ℕ → History → History → Type 0
+IsOpened file path old now = (how : Opening) × (now ≡ after (Opens file path how) old)
 
 -- a plain file is
-abbrev pub OpensPlain : List ℕ → History → Type 0
-OpensPlain path now = (look : Look) × (old : History) × (followed : History) × (look.is_plain ≡ true) × (followed ≡ after (Follows path (Some look)) old) × IsOpened path followed now
+abbrev pub OpensPlain : ℕ → List ℕ → History → Type 0
+OpensPlain file path now =
+    (look : Look) × (old : History) × (followed : History) × (look.is_plain ≡ true) × (followed ≡ after (Follows path (Some look)) old)
+    × IsOpened file path followed now
 
 -- A plain file is opened, and held.
-abbrev pub OpensLocked : List ℕ → History → Type 0
-OpensLocked path now = (opened : History) × OpensPlain path opened × Holds path opened now
+abbrev pub OpensLocked : ℕ → List ℕ → History → Type 0
+OpensLocked file path now = (opened : History) × OpensPlain file path opened × Holds file path opened now
 
 -- It is held, and empty.
-unfoldable pub HoldsEmpty : List ℕ → History → History → Type 0
-HoldsEmpty path old now = (look : Look) × (held : History) × Holds path old held × (now ≡ after (LooksAt look) held) × (look.stamp.length ≡ 0)
+unfoldable pub HoldsEmpty : ℕ → List ℕ → History → History → Type 0
+HoldsEmpty file path old now = (look : Look) × (held : History) × Holds file path old held × (now ≡ after (LooksAt file look) held) × (look.stamp.length ≡ 0)
 
 -- What stood there was a plain file or nothing, or is gone: so nothing is written through a link.
-abbrev pub OpensBeside : List ℕ → History → History → Type 0
-OpensBeside path old now =
+abbrev pub OpensBeside : ℕ → List ℕ → History → History → Type 0
+OpensBeside file path old now =
     (found : Option Look) × (looked : History) × (cleared : History)
     × (looked ≡ after (Looks path found) old) × (((IsNoFile found → ⊥) × (cleared ≡ looked)) ⊎ (cleared ≡ after (Removes path) looked))
-    × (now ≡ after (Opens path opening.Beside) cleared)
+    × (now ≡ after (Opens file path opening.Beside) cleared)
 
 -- such a file was opened, and is held, and empty
-abbrev pub IsHeldEmpty : List ℕ → History → Type 0
-IsHeldEmpty path now = (old : History) × (opened : History) × OpensBeside path old opened × HoldsEmpty path opened now
+abbrev pub IsHeldEmpty : ℕ → List ℕ → History → Type 0
+IsHeldEmpty file path now = (old : History) × (opened : History) × OpensBeside file path old opened × HoldsEmpty file path opened now
 
 -- What stood there has made way, and a new file is there.
-abbrev pub MakesBeside : List ℕ → ℕ → History → History → Type 0
-MakesBeside path mode old now = (cleared : History) × MakesWay path old cleared × (now ≡ after (Opens path (opening.New mode)) cleared)
+abbrev pub MakesBeside : ℕ → List ℕ → ℕ → History → History → Type 0
+MakesBeside file path mode old now = (cleared : History) × MakesWay path old cleared × (now ≡ after (Opens file path (opening.New mode)) cleared)
 
 -- The next log is held, and empty, and after that no log is there.
-abbrev pub HoldsInItsPlace : List ℕ → List ℕ → History → History → Type 0
-HoldsInItsPlace path log old now = (held : History) × HoldsEmpty path old held × (now ≡ after (Follows log None) held)
+abbrev pub HoldsInItsPlace : ℕ → List ℕ → List ℕ → History → History → Type 0
+HoldsInItsPlace file path log old now = (held : History) × HoldsEmpty file path old held × (now ≡ after (Follows log None) held)
 
 -- the same, whatever came before
-abbrev pub HoldsNext : List ℕ → List ℕ → History → Type 0
-HoldsNext path log now = (old : History) × HoldsInItsPlace path log old now
+abbrev pub HoldsNext : ℕ → List ℕ → List ℕ → History → Type 0
+HoldsNext file path log now = (old : History) × HoldsInItsPlace file path log old now
 
 -- the path stands for the file that was open, or for one that was opened, and is held, and empty
-abbrev pub IsTaken : List ℕ → History → History → Type 0
-IsTaken path old now = StandsFor path old now ⊎ IsHeldEmpty path now
+abbrev pub IsTaken : ℕ → List ℕ → History → History → Type 0
+IsTaken file path old now = StandsFor file path old now ⊎ IsHeldEmpty file path now
 
--- These bytes were read; if the text is this port's own, after it was looked at.
-abbrev pub IsOwnRead : Option Stamp → List ℕ → List ℕ → History → Type 0
-IsOwnRead None path bytes now = (old : History) × (now ≡ after (Reads path bytes) old)
-IsOwnRead (Some stamp) path bytes now =
-    (look : Look) × (old : History) × (looked : History) × (stamp ≡ look.stamp) × (looked ≡ after (LooksAt look) old) × (now ≡ after (Reads path bytes) looked)
+-- These bytes were read; if the text is this port's own, after it was opened, held and looked at.
+abbrev pub IsOwnRead : Option ℕ → Option Stamp → List ℕ → List ℕ → History → Type 0
+IsOwnRead text None path bytes now = (old : History) × (now ≡ after (Reads path bytes) old)
+IsOwnRead text (Some stamp) path bytes now =
+    (file : ℕ) × (look : Look) × (old : History) × (looked : History) × (text ≡ Some file) × (stamp ≡ look.stamp)
+    × OpensLocked file path old × (looked ≡ after (LooksAt file look) old) × (now ≡ after (Reads path bytes) looked)

@@ -1,5 +1,5 @@
 -- What a log that is written anew asks of a folder.
-use Rattle.std.specs.Prelude.{◌≡◌, ◌⊎◌, ℕ, List, [], ◌∷◌, Bool, true, false, Option, Some, None, if◌then◌else◌}
+use Rattle.std.specs.Prelude.{◌≡◌, ◌⊎◌, ℕ, List, [], ◌∷◌, Bool, true, false, Some, None, if◌then◌else◌}
 use Rattle.mgr_port.specs.Disk as disk
 use Rattle.mgr_port.specs.Folder.{History, Adds, EndsInNewline, LooksAt, Opens, Syncs, SyncsFolder, after}
 use Rattle.mgr_port.specs.Locks.{IsHeldEmpty, OpensBeside, OpensLocked, ShowsPlain}
@@ -11,43 +11,44 @@ use Rattle.mgr_port.specs.declared.staged.Old.TheVariants as old
 use Rattle.mgr_port.specs.declared.staged.Staged.{Staged}
 
 -- a log is opened and locked, may be written, and nothing of it is read or refused
-abbrev pub OpensToRewrite : List ℕ → ℕ → Bool → History → Type 0
-OpensToRewrite path read refused now =
-    (opened : History) × OpensLocked path opened × (now ≡ after (Opens path opening.Write) opened) × (read ≡ 0) × (refused ≡ false)
+abbrev pub OpensToRewrite : ℕ → List ℕ → ℕ → Bool → History → Type 0
+OpensToRewrite file path read refused now =
+    (other : ℕ) × (opened : History) × OpensLocked file path opened × (now ≡ after (Opens other path opening.Write) opened) × (read ≡ 0) × (refused ≡ false)
 
 -- a file has the owner and the rights of another, if it is new
-abbrev pub TakesIfNew : Bool → History → History → Type 0
-TakesIfNew true before now = now ≡ before
-TakesIfNew false before now = (like : Look) × (looked : History) × (looked ≡ after (LooksAt like) before) × TakesMode like looked now
+abbrev pub TakesIfNew : ℕ → ℕ → Bool → History → History → Type 0
+TakesIfNew file log true before now = now ≡ before
+TakesIfNew file log false before now = (like : Look) × (looked : History) × (looked ≡ after (LooksAt log like) before) × TakesMode file like looked now
 
 -- what was refused of a log has a plain file, or gets a new one, like the log
-unfoldable pub OpensRefused : List ℕ → History → History → Type 0
-OpensRefused path before now =
+unfoldable pub OpensRefused : ℕ → ℕ → List ℕ → History → History → Type 0
+OpensRefused file log path before now =
     (is_there : Bool) × (shown : History) × (opened : History)
-    × ShowsPlain path before shown is_there × OpensBeside path shown opened × TakesIfNew is_there opened now
+    × ShowsPlain path before shown is_there × OpensBeside file path shown opened × TakesIfNew file log is_there opened now
 
 -- the last line of a file has its newline
-unfoldable pub EndsLine : History → History → Type 0
-EndsLine before now =
-    (look : Look) × (looked : History) × (looked ≡ after (LooksAt look) before)
-    × (((look.stamp.length ≡ 0) × (now ≡ looked)) ⊎ (now ≡ after (EndsInNewline look.stamp.length true) looked)
-    ⊎ ((asked : History) × (asked ≡ after (EndsInNewline look.stamp.length false) looked) × (now ≡ after (Adds (10 ∷ [])) asked)))
+unfoldable pub EndsLine : ℕ → History → History → Type 0
+EndsLine file before now =
+    (look : Look) × (looked : History) × (looked ≡ after (LooksAt file look) before)
+    × (((look.stamp.length ≡ 0) × (now ≡ looked)) ⊎ (now ≡ after (EndsInNewline file look.stamp.length true) looked)
+    ⊎ ((asked : History) × (asked ≡ after (EndsInNewline file look.stamp.length false) looked) × (now ≡ after (Adds file (10 ∷ [])) asked)))
 
 -- they are behind it, and on the device under its name
-abbrev pub KeepsRefused : List ℕ → List ℕ → History → History → Type 0
-KeepsRefused path bytes before now =
-    (opened : History) × (ended : History) × (written : History) × (synced : History)
-    × OpensRefused path before opened × EndsLine opened ended × (written ≡ after (Adds bytes) ended)
-    × (synced ≡ after Syncs written) × (now ≡ after (SyncsFolder path) synced)
+abbrev pub KeepsRefused : ℕ → List ℕ → List ℕ → History → History → Type 0
+KeepsRefused log path bytes before now =
+    (file : ℕ) × (opened : History) × (ended : History) × (written : History) × (synced : History)
+    × OpensRefused file log path before opened × EndsLine file opened ended × (written ≡ after (Adds file bytes) ended)
+    × (synced ≡ after (Syncs file) written) × (now ≡ after (SyncsFolder path) synced)
 
 -- an empty file is held beside, like a log
-abbrev pub MakesNextLog : List ℕ → History → Type 0
-MakesNextLog path now =
-    (held : History) × (like : Look) × (looked : History) × IsHeldEmpty path held × (looked ≡ after (LooksAt like) held) × TakesMode like looked now
+abbrev pub MakesNextLog : ℕ → ℕ → List ℕ → History → Type 0
+MakesNextLog file log path now =
+    (held : History) × (like : Look) × (looked : History) × IsHeldEmpty file path held
+    × (looked ≡ after (LooksAt log like) held) × TakesMode file like looked now
 
 -- What was written beside is on the device, with the date of the log if nothing of that is refused. The log stands there as
 -- it was read, and is kept; then the file has its name, on the device too.
-abbrev pub NamesRead : List ℕ → List ℕ → ℕ → Bool → History → History → Type 0
-NamesRead path name read refused before now =
+abbrev pub NamesRead : ℕ → ℕ → List ℕ → List ℕ → ℕ → Bool → History → History → Type 0
+NamesRead file log path name read refused before now =
     (s : Staged) × (s.path.now ≡ path) × (s.name.now ≡ name) × (s.later ≡ (if refused then None else Some 0)) × (s.old ≡ old.Read read)
-    × DoesAll s (disk.Syncs ∷ disk.Keeps ∷ disk.TakesName ∷ disk.SyncsFolder ∷ []) before now
+    × DoesAll file (Some log) s (disk.Syncs ∷ disk.Keeps ∷ disk.TakesName ∷ disk.SyncsFolder ∷ []) before now

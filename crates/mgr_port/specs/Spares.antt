@@ -96,16 +96,16 @@ abbrev pub MakesWay : List ℕ → History → History → Type 0
 MakesWay path old now = (now ≡ after (Looks path None) old) ⊎ ((spare : History) × IsSpare path old spare × (now ≡ after (Removes path) spare))
 
 -- The path is gone, if it stood for such a file that is open; and else it stays.
-abbrev pub RemovesIf : (Stamp → Option Look → Type 0) → List ℕ → History → History → Type 0
-RemovesIf P path old now =
+abbrev pub RemovesIf : (Stamp → Option Look → Type 0) → ℕ → List ℕ → History → History → Type 0
+RemovesIf P file path old now =
     (opened : Look) × (found : Option Look) × (looked : History) × (followed : History)
-    × (looked ≡ after (LooksAt opened) old) × (followed ≡ after (Follows path found) looked)
+    × (looked ≡ after (LooksAt file opened) old) × (followed ≡ after (Follows path found) looked)
     × ((P opened.stamp found × (now ≡ after (Removes path) followed)) ⊎ ((P opened.stamp found → ⊥) × (now ≡ followed)))
 
 -- The same was tried, and may have failed.
-abbrev pub MayRemove : (Stamp → Option Look → Type 0) → List ℕ → History → History → Type 0
-MayRemove P path old now =
-    (now ≡ old) ⊎ ((opened : Look) × (looked : History) × (looked ≡ after (LooksAt opened) old)
+abbrev pub MayRemove : (Stamp → Option Look → Type 0) → ℕ → List ℕ → History → History → Type 0
+MayRemove P file path old now =
+    (now ≡ old) ⊎ ((opened : Look) × (looked : History) × (looked ≡ after (LooksAt file opened) old)
     × ((now ≡ looked) ⊎ ((found : Option Look) × (followed : History) × (followed ≡ after (Follows path found) looked)
     × ((now ≡ followed) ⊎ (P opened.stamp found × (now ≡ after (Removes path) followed))))))
 

@@ -22,31 +22,33 @@ FollowsPlain path before now None = now ≡ after (Follows path None) before
 FollowsPlain path before now (Some look) = (look.is_plain ≡ true) × (now ≡ after (Follows path (Some look)) before)
 
 -- whether an open file has an owner and a group: it had them, or they were given to it
-abbrev pub TakesOwner : Owner → History → History → Bool → Type 0
-TakesOwner owner before now true =
-    (look : Look) × (looked : History) × (looked ≡ after (LooksAt look) before)
-    × (((look.owner ≡ owner) × (now ≡ looked)) ⊎ (now ≡ after (GivesTo owner) looked))
-TakesOwner owner before now false = (look : Look) × (look.owner ≢ owner) × (now ≡ after (LooksAt look) before)
+abbrev pub TakesOwner : ℕ → Owner → History → History → Bool → Type 0
+TakesOwner file owner before now true =
+    (look : Look) × (looked : History) × (looked ≡ after (LooksAt file look) before)
+    × (((look.owner ≡ owner) × (now ≡ looked)) ⊎ (now ≡ after (GivesTo file owner) looked))
+TakesOwner file owner before now false = (look : Look) × (look.owner ≢ owner) × (now ≡ after (LooksAt file look) before)
 
 -- the mode is that of another file, but that nobody else is let in
-abbrev pub TakesMode : Look → History → History → Type 0
-TakesMode like before now =
-    (owned : History) × (is_owned : Bool) × TakesOwner like.owner before owned is_owned × (now ≡ after (SetsMode (mode_like like.mode is_owned)) owned)
+abbrev pub TakesMode : ℕ → Look → History → History → Type 0
+TakesMode file like before now =
+    (owned : History) × (is_owned : Bool) × TakesOwner file like.owner before owned is_owned
+    × (now ≡ after (SetsMode file (mode_like like.mode is_owned)) owned)
 
 -- a new file is there, whose owner, group and mode are those of another
-abbrev pub MakesLike : List ℕ → Look → History → History → Type 0
-MakesLike path like before now =
-    (made : History) × (owned : History) × MakesBeside path 0 before made × TakesOwner like.owner made owned true × (now ≡ after (SetsMode like.mode) owned)
+abbrev pub MakesLike : ℕ → List ℕ → Look → History → History → Type 0
+MakesLike file path like before now =
+    (made : History) × (owned : History) × MakesBeside file path 0 before made × TakesOwner file like.owner made owned true
+    × (now ≡ after (SetsMode file like.mode) owned)
 
 -- a new file is there: for all whom the mask lets in where nothing stood, or like the plain file that stands there
-abbrev pub MakesFor : List ℕ → Option Look → Bool → History → History → Type 0
-MakesFor path None is_there looked now = MakesBeside path 438 looked now
-MakesFor path (Some look) is_there looked now = (look.is_plain ≡ true) × (is_there ≡ true) × MakesLike path look looked now
+abbrev pub MakesFor : ℕ → List ℕ → Option Look → Bool → History → History → Type 0
+MakesFor file path None is_there looked now = MakesBeside file path 438 looked now
+MakesFor file path (Some look) is_there looked now = (look.is_plain ≡ true) × (is_there ≡ true) × MakesLike file path look looked now
 
 -- the same, after a look at the name
-abbrev pub MakesNextText : List ℕ → List ℕ → Bool → History → History → Type 0
-MakesNextText path name is_there before now =
-    (found : Option Look) × (looked : History) × (looked ≡ after (Looks name found) before) × MakesFor path found is_there looked now
+abbrev pub MakesNextText : ℕ → List ℕ → List ℕ → Bool → History → History → Type 0
+MakesNextText file path name is_there before now =
+    (found : Option Look) × (looked : History) × (looked ≡ after (Looks name found) before) × MakesFor file path found is_there looked now
 
 -- what takes the place of a text
 abbrev pub IsText : Option Stamp → List ℕ → Old → Type 0
@@ -61,32 +63,33 @@ pub record IsNextText (path name bytes : List ℕ) (own : Option Stamp) (s : Sta
   pub is_text : IsText own bytes s.old
 
 -- nothing else has it locked, and it got all of its bytes and then the name
-abbrev pub NamesText : List ℕ → List ℕ → List ℕ → Option Stamp → History → History → Named → Type 0
-NamesText path name bytes own before now named =
-    (answer : Lock) × (locked : History) × (s : Staged) × (answer ≢ lock.Others) × (locked ≡ after (Locks answer) before)
-    × IsNextText path name bytes own s × DoesAll s (steps_to named bytes) locked now
+abbrev pub NamesText : ℕ → Option ℕ → List ℕ → List ℕ → List ℕ → Option Stamp → History → History → Named → Type 0
+NamesText file log path name bytes own before now named =
+    (answer : Lock) × (locked : History) × (s : Staged) × (answer ≢ lock.Others) × (locked ≡ after (Locks file answer) before)
+    × IsNextText path name bytes own s × DoesAll file log s (steps_to named bytes) locked now
 
 -- the same, with the name on the device; and it is this port's own
-abbrev pub PutsBeside : List ℕ → List ℕ → List ℕ → Option Stamp → Option Stamp → History → History → Type 0
-PutsBeside path name bytes own now_own before now =
+abbrev pub PutsBeside : ℕ → Option ℕ → List ℕ → List ℕ → List ℕ → Option Stamp → Option Stamp → History → History → Type 0
+PutsBeside file log path name bytes own now_own before now =
     (answer : Lock) × (locked : History) × (put : History) × (s : Staged) × (look : Look)
-    × (answer ≢ lock.Others) × (locked ≡ after (Locks answer) before) × IsNextText path name bytes own s
-    × DoesAll s (whole_steps bytes) locked put × (now ≡ after (LooksAt look) put) × (now_own ≡ Some look.stamp)
+    × (answer ≢ lock.Others) × (locked ≡ after (Locks file answer) before) × IsNextText path name bytes own s
+    × DoesAll file log s (whole_steps bytes) locked put × (now ≡ after (LooksAt file look) put) × (now_own ≡ Some look.stamp)
 
 -- nothing of the old text is lost, then it is written over, and it is this port's own
-abbrev pub PutsInPlace : List ℕ → List ℕ → Option Stamp → Option Stamp → History → History → Type 0
-PutsInPlace path bytes own now_own before now =
-    (spared : History) × (emptied : History) × (written : History) × (synced : History) × (look : Look)
-    × SparesText path own bytes before spared × (emptied ≡ after (Overwrites path) spared) × (written ≡ after (Adds bytes) emptied)
-    × SyncsDated (Some 100) written synced × (now ≡ after (LooksAt look) synced) × (now_own ≡ Some look.stamp)
+abbrev pub PutsInPlace : Option ℕ → List ℕ → List ℕ → Option Stamp → Option Stamp → History → History → Type 0
+PutsInPlace log path bytes own now_own before now =
+    (file : ℕ) × (spared : History) × (emptied : History) × (written : History) × (synced : History) × (look : Look)
+    × SparesText path own bytes before spared × (emptied ≡ after (Overwrites file path) spared)
+    × (written ≡ after (Adds file bytes) emptied) × SyncsDated file log (Some 100) written synced × (now ≡ after (LooksAt file look) synced) × (now_own ≡ Some look.stamp)
 
 -- a new file for the text is made, gets its bytes and then the name; or the text is written where it stands
-abbrev pub PutsText : List ℕ → List ℕ → List ℕ → Option Stamp → Option Stamp → History → Type 0
-PutsText path name bytes own now_own now =
-    ((is_there : Bool) × (seen : History) × (made : History) × MakesNextText path name is_there seen made × PutsBeside path name bytes own now_own made now)
-    ⊎ ((known : Option Stamp) × (seen : History) × PutsInPlace name bytes known now_own seen now)
+abbrev pub PutsText : Option ℕ → List ℕ → List ℕ → List ℕ → Option Stamp → Option Stamp → History → Type 0
+PutsText log path name bytes own now_own now =
+    ((file : ℕ) × (is_there : Bool) × (seen : History) × (made : History) × MakesNextText file path name is_there seen made
+    × PutsBeside file log path name bytes own now_own made now)
+    ⊎ ((known : Option Stamp) × (seen : History) × PutsInPlace log name bytes known now_own seen now)
 
 -- a text beside a log is this port's own if it is dated by that log; or what it was stays
-abbrev pub IsOwnBeside : {A : Type 0} → List ℕ → Stamp → Option Stamp → Option Stamp → History → A → Type 0
-IsOwnBeside path log own now_own now read =
-    (now_own ≡ own) ⊎ ((look : Look) × (opened : History) × OpensLocked path opened × (now ≡ after (LooksAt look) opened) × IsDatedBy look log.changed × (now_own ≡ Some look.stamp))
+abbrev pub IsOwnBeside : {A : Type 0} → Option ℕ → List ℕ → Stamp → Option Stamp → Option Stamp → History → A → Type 0
+IsOwnBeside text path log own now_own now read =
+    (now_own ≡ own) ⊎ ((file : ℕ) × (look : Look) × (opened : History) × (text ≡ Some file) × OpensLocked file path opened × (now ≡ after (LooksAt file look) opened) × IsDatedBy look log.changed × (now_own ≡ Some look.stamp))

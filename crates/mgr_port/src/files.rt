@@ -1,5 +1,5 @@
 //! What files are, and who may do what with them.
-ghost use Rattle.std.specs.Prelude.{◌≡◌, IfOk, OnOk, ℕ};
+ghost use Rattle.std.specs.Prelude.{◌≡◌, IfOk, OnOk};
 ghost use Rattle.mgr_port.specs.Texts.{FollowsPlain, TakesMode, TakesOwner};
 ghost use Rattle.mgr_port.specs.Verdicts.{mode_like};
 
@@ -26,7 +26,8 @@ pub(crate) fn plain_if_there<F: Folder>(folder: &mut F, path: &str) -> io::Resul
 /// Gives a new log the owner and the group of another file, where that is allowed, and its mode, but
 /// that nobody runs it and its owner can add to it.
 pub(crate) fn take_mode<F: Folder>(folder: &mut F, log: &F::File, like: Look) -> io::Result<()>
-    ensures { OnOk result (TakesMode like (F.steps folder.old) (F.steps folder.new)) }
+    ensures { OnOk result
+        (TakesMode (F.file_of log.now) like (F.steps folder.old) (F.steps folder.new)) }
 {
     let is_owned = take_owner(folder, log, like.owner)?;
     folder.set_mode(log, mode_like(like.mode, is_owned))
@@ -47,7 +48,8 @@ pub(crate) fn take_owner<F: Folder>(
     file: &F::File,
     owner: Owner,
 ) -> io::Result<bool>
-    ensures { IfOk result (TakesOwner owner (F.steps folder.old) (F.steps folder.new)) }
+    ensures { IfOk result
+        (TakesOwner (F.file_of file.now) owner (F.steps folder.old) (F.steps folder.new)) }
 {
     if folder.look_at(file)?.owner == owner {
         return Ok(true);

@@ -1,8 +1,8 @@
 //! The steps by which a folder is looked at and changed.
-ghost use Rattle.std.specs.Prelude.{◌≡◌, IfOk, string_bytes};
+ghost use Rattle.std.specs.Prelude.{◌≡◌, IfOk, ℕ, string_bytes};
 ghost use Rattle.mgr_port.specs.Folder.{History, Looks, Follows, Resolves, LooksAt, Opens, Locks, Ends, EndsInNewline};
-ghost use Rattle.mgr_port.specs.Folder.{Adds, Empties, SetsMode, GivesTo, Dates, Syncs, SyncsFolder, ReadsAll, Reads, Links};
-ghost use Rattle.mgr_port.specs.Folder.{Makes, Removes, Renames, Overwrites, Steps, Writes, after};
+ghost use Rattle.mgr_port.specs.Folder.{Empties, SetsMode, GivesTo, Dates, Syncs, SyncsFolder, ReadsAll, Reads, Links};
+ghost use Rattle.mgr_port.specs.Folder.{Makes, Removes, Renames, Overwrites, Steps, Writes};
 ghost use Rattle.mgr_port.specs.Growth.{MayAdd};
 ghost use Rattle.mgr_port.specs.Spares.{MayBeOverwritten, path_of};
 
@@ -46,6 +46,9 @@ pub trait Folder {
     /// The steps so far, the last one first, where they are told.
     ghost steps: { Self → History };
 
+    /// Which file an open one is.
+    ghost file_of: { Self.File → ℕ };
+
     /// What stands under a path itself.
     fn look<'p>(&mut self, path: &'p str) -> io::Result<Standing<'p>>
         ensures path { IfOk result (λ standing. standing.path.now ≡ path.now) }
@@ -65,73 +68,84 @@ pub trait Folder {
 
     /// What an open file is.
     fn look_at(&mut self, file: &Self::File) -> io::Result<Look>
-        ensures step { Steps result (λ look. LooksAt look) (steps self.old) (steps self.new) };
+        ensures step { Steps result (λ look. LooksAt (file_of file.now) look)
+            (steps self.old) (steps self.new) };
 
     /// Opens the file that a path leads to.
     fn open(&mut self, path: &str, opening: Opening) -> io::Result<Self::File>
-        ensures step { Steps result (λ _. Opens path.now opening)
+        ensures step { Steps result (λ file. Opens (file_of file) path.now opening)
             (steps self.old) (steps self.new) };
 
     /// Tries to lock an open file.
     fn lock(&mut self, file: &Self::File) -> io::Result<Lock>
-        ensures step { Steps result Locks (steps self.old) (steps self.new) };
+        ensures step { Steps result (Locks (file_of file.now)) (steps self.old) (steps self.new) };
 
     /// How an open file ends at such a length. None if it is not that long, or can't be read.
     fn end_of(&mut self, file: &Self::File, length: u64) -> io::Result<Option<End>>
-        ensures step { Steps result (Ends length) (steps self.old) (steps self.new) };
+        ensures step { Steps result (Ends (file_of file.now) length)
+            (steps self.old) (steps self.new) };
 
     /// Whether the last byte of an open file of such a length is a newline. No, if there is none, or
     /// it can't be read.
     fn ends_in_newline(&mut self, file: &Self::File, length: u64) -> io::Result<bool>
-        ensures step { Steps result (EndsInNewline length) (steps self.old) (steps self.new) };
+        ensures step { Steps result (EndsInNewline (file_of file.now) length)
+            (steps self.old) (steps self.new) };
 
     /// Puts lines at the end of a log that is open and was left so, and to which lines may be added
     /// by what was seen of it last, under this path. If it fails, a beginning of them may be there.
     fn add_lines(
         &mut self,
         path: &str,
-        log: &mut Self::File,
+        log: &Self::File,
         left: &LeftLog,
         lines: &LogLines,
     ) -> io::Result<()>
-        requires { MayAdd path.now left.now (steps self.old) }
-        ensures step { Writes result lines.now (steps self.old) (steps self.new) };
+        requires { MayAdd (file_of log.now) path.now left.now (steps self.old) }
+        ensures step { Writes result (file_of log.now) lines.now
+            (steps self.old) (steps self.new) };
 
     /// Leaves nothing in an open file.
     fn empty(&mut self, file: &Self::File) -> io::Result<()>
-        ensures step { Steps result (λ _. Empties) (steps self.old) (steps self.new) };
+        ensures step { Steps result (λ _. Empties (file_of file.now))
+            (steps self.old) (steps self.new) };
 
     /// Puts bytes at the end of an open file. If it fails, a beginning of them may be there.
-    fn write(&mut self, file: &mut Self::File, bytes: &[u8]) -> io::Result<()>
-        ensures step { Writes result bytes.now (steps self.old) (steps self.new) };
+    fn write(&mut self, file: &Self::File, bytes: &[u8]) -> io::Result<()>
+        ensures step { Writes result (file_of file.now) bytes.now
+            (steps self.old) (steps self.new) };
 
     /// The same of lines.
-    fn write_lines(&mut self, file: &mut Self::File, lines: &LogLines) -> io::Result<()>
-        ensures step { Writes result lines.now (steps self.old) (steps self.new) };
+    fn write_lines(&mut self, file: &Self::File, lines: &LogLines) -> io::Result<()>
+        ensures step { Writes result (file_of file.now) lines.now
+            (steps self.old) (steps self.new) };
 
     /// Gives an open file these permissions, without those of its kind.
     fn set_mode(&mut self, file: &Self::File, mode: u32) -> io::Result<()>
-        ensures step { Steps result (λ _. SetsMode mode) (steps self.old) (steps self.new) };
+        ensures step { Steps result (λ _. SetsMode (file_of file.now) mode)
+            (steps self.old) (steps self.new) };
 
     /// Gives an open file this owner and group.
     fn give_to(&mut self, file: &Self::File, owner: Owner) -> io::Result<()>
-        ensures step { Steps result (λ _. GivesTo owner) (steps self.old) (steps self.new) };
+        ensures step { Steps result (λ _. GivesTo (file_of file.now) owner)
+            (steps self.old) (steps self.new) };
 
     /// Dates an open file by when another one was changed, and so many nanoseconds later.
     fn date(&mut self, file: &Self::File, of: &Self::File, later: u64) -> io::Result<()>
-        ensures step { Steps result (λ _. Dates later) (steps self.old) (steps self.new) };
+        ensures step { Steps result (λ _. Dates (file_of file.now) (file_of of.now) later)
+            (steps self.old) (steps self.new) };
 
     /// Waits until an open file is on the device.
     fn sync(&mut self, file: &Self::File) -> io::Result<()>
-        ensures step { Steps result (λ _. Syncs) (steps self.old) (steps self.new) };
+        ensures step { Steps result (λ _. Syncs (file_of file.now))
+            (steps self.old) (steps self.new) };
 
     /// Waits until the names in the folder of a path are on the device.
     fn sync_folder(&mut self, path: &str) -> io::Result<()>
         ensures step { Steps result (λ _. SyncsFolder path.now) (steps self.old) (steps self.new) };
 
     /// The bytes of an open file that were not read yet.
-    fn read_all(&mut self, file: &mut Self::File) -> io::Result<Vec<u8>>
-        ensures step { Steps result (λ bytes. ReadsAll bytes.items)
+    fn read_all(&mut self, file: &Self::File) -> io::Result<Vec<u8>>
+        ensures step { Steps result (λ bytes. ReadsAll (file_of file.now) bytes.items)
             (steps self.old) (steps self.new) };
 
     /// The bytes of the file that a path leads to.
@@ -163,6 +177,6 @@ pub trait Folder {
     /// Opens the file that a path leads to, with nothing in it.
     fn overwrite(&mut self, spare: Spare<'_>) -> io::Result<Self::File>
         requires { MayBeOverwritten spare }
-        ensures step { Steps result (λ _. Overwrites (path_of spare.entry))
+        ensures step { Steps result (λ file. Overwrites (file_of file) (path_of spare.entry))
             (steps self.old) (steps self.new) };
 }

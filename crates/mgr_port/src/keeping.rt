@@ -1,8 +1,7 @@
 //! What stands under a path is kept before that goes.
-ghost use Rattle.std.specs.Prelude.{◌≡◌, IfOk, IfSome, OnErr, OnOk, string_bytes};
+ghost use Rattle.std.specs.Prelude.{◌≡◌, IfOk, IfSome, OnErr, string_bytes};
 ghost use Rattle.mgr_port.specs.Folder.{IsIdle};
 ghost use Rattle.mgr_port.specs.declared.keeping.Keeping.TheVariants as Keeping;
-ghost use Rattle.mgr_port.specs.declared.spare.Reason.TheVariants as Reason;
 ghost use Rattle.mgr_port.specs.Spares.{EndsInTilde, IsKept, IsSpareFor, MayBeOverwritten, path_of};
 
 use crate::folder::Folder;

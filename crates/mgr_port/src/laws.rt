@@ -4,6 +4,10 @@ ghost use Rattle.std.specs.Prelude.{◌≡◌, ◌⊎◌, ℕ, List, ◌++◌, t
 ghost use Rattle.mgr_port.specs.declared.log.FoundLog.{FoundLog};
 ghost use Rattle.mgr_port.specs.declared.log.LeftLog.{LeftLog};
 ghost use Rattle.mgr_port.specs.declared.spare.Look.{Look};
+ghost use Rattle.mgr_port.specs.Folder.{History, IsQuiet};
+ghost use Rattle.mgr_port.specs.Bytes.{HadFront, HasFrontOf, HasLines, IsOnDevice, MayHave, MayStand};
+ghost use Rattle.mgr_port.specs.Growth.{AddsFront, IsAdded};
+ghost use Rattle.mgr_port.specs.Notes.{LoadsLog};
 ghost use Rattle.mgr_port.specs.Spares.{IsNothing};
 ghost use Rattle.mgr_port.specs.Verdicts.{MayGrow};
 ghost use Rattle.mgr_port.specs.Worlds.{World, Has, Shows, IsLinked, IsMade, IsLeftAlone, IsBare, StoodUnder, Locks};
@@ -51,17 +55,37 @@ pub fn a_note_has_one_session()
         → one ≡ two }
 {}
 
-/// A log that was read still has all of it when lines may be put behind it, if other programs changed
-/// nothing in place of what stands before its last bytes: these were looked at. So what was read, and
-/// then the lines, are a beginning of what stands in the file later, unless somebody changes that in
-/// place, or gives the path to another file. `load` and `append` take these steps.
+/// If others only put something behind a log, what was read of it, and then each lines that were added,
+/// are a beginning of what it has later, so of what it is read as. Whatever else they do, a log of
+/// which lines may be added still has all that was read, if nothing was changed in place before its
+/// last bytes: these are looked at. `load` and `append` take these steps.
 pub fn a_log_that_was_read_only_grows()
     ensures grown { (file : ℕ) (before : List ℕ) (a b : World) (left : LeftLog) (found : FoundLog)
         → EndsAt (a.bytes file) (length (a.bytes file)) left.end before
         → left.stamp.length ≡ length (a.bytes file) → MayGrow left found
         → IfSome found.end (λ end. EndsAt (b.bytes file) left.stamp.length end before)
         → Grows file a b }
-    ensures kept { (file : ℕ) (lines : List ℕ) (a b c d : World) → Grows file a b
-        → c.bytes file ≡ b.bytes file ++ lines → Grows file c d
-        → (more rest : List ℕ) × (d.bytes file ≡ a.bytes file ++ more ++ lines ++ rest) }
+    ensures read { (file : ℕ) (path next read bytes : List ℕ) (left : LeftLog) (now : History)
+        → LoadsLog file path next read left now → MayHave file now bytes
+        → (more : List ℕ) × (bytes ≡ read ++ more) }
+    ensures added { (file : ℕ) (path lines bytes : List ℕ) (left longer : LeftLog)
+        (old now : History) → IsAdded file path left lines longer old now
+        → MayHave file now bytes → HasLines file old lines bytes }
+    ensures failed { (file : ℕ) (lines bytes : List ℕ) (old now : History)
+        → AddsFront file lines old now → MayHave file now bytes → HadFront file old bytes }
+    ensures quiet { (file : ℕ) (bytes : List ℕ) (old now : History) → IsQuiet old now
+        → MayHave file now bytes → HadFront file old bytes }
+{}
+
+/// If all that a log had is on the device, and nobody else writes into it, it has that whenever the
+/// machine stops in an append, and behind it a beginning of the lines; after one that answered `Ok`
+/// all of them are on the device. Such a log stands for the first of its operations
+/// (`rga_exchange::laws::cut_logs_stand_for_their_first_operations`).
+pub fn a_log_is_torn_only_at_its_end()
+    ensures torn { (file : ℕ) (lines bytes found : List ℕ) (old now : History)
+        → AddsFront file lines old now → IsOnDevice file old bytes
+        → MayStand file now found → HasFrontOf lines bytes found }
+    ensures added { (file : ℕ) (path lines bytes : List ℕ) (left longer : LeftLog)
+        (old now : History) → IsAdded file path left lines longer old now
+        → IsOnDevice file old bytes → IsOnDevice file now (bytes ++ lines) }
 {}

@@ -1,5 +1,5 @@
 //! Files that are opened and locked.
-ghost use Rattle.std.specs.Prelude.{◌≡◌, ◌≢◌, IfOk, IfSome, OnOk};
+ghost use Rattle.std.specs.Prelude.{◌≢◌, IfOk, IfSome, OnOk};
 ghost use Rattle.mgr_port.specs.declared.folder.Lock.TheVariants as Lock;
 ghost use Rattle.mgr_port.specs.Folder.{IsQuiet};
 ghost use Rattle.mgr_port.specs.Locks.{Holds, HoldsEmpty, IsHeldEmpty, IsOpened};
@@ -18,7 +18,7 @@ pub(crate) const TRIES: u32 = 16;
 #[tactic(auto, using(crate::proofs::FolderLaws::only_none, crate::proofs::FolderLaws::quiet_follow, crate::proofs::FolderLaws::quiet_follow_look_at))]
 pub(crate) fn stands_for<F: Folder>(folder: &mut F, path: &str, file: &F::File) -> io::Result<bool>
     ensures shown { IfOk result
-        (ShowsStanding path.now (F.steps folder.old) (F.steps folder.new)) }
+        (ShowsStanding (F.file_of file.now) path.now (F.steps folder.old) (F.steps folder.new)) }
     ensures quiet { IsQuiet (F.steps folder.old) (F.steps folder.new) }
 {
     let Some(found) = folder.follow(path)?.found else {
@@ -43,7 +43,8 @@ pub(crate) fn check_lock(lock: Lock) -> io::Result<()>
 /// it after that.
 #[tactic(auto, using(crate::proofs::FolderLaws::only_none))]
 pub(crate) fn hold<F: Folder>(folder: &mut F, path: &str, file: &F::File) -> io::Result<()>
-    ensures held { OnOk result (Holds path.now (F.steps folder.old) (F.steps folder.new)) }
+    ensures held { OnOk result
+        (Holds (F.file_of file.now) path.now (F.steps folder.old) (F.steps folder.new)) }
     ensures quiet { IsQuiet (F.steps folder.old) (F.steps folder.new) }
 {
     check_lock(folder.lock(file)?)?;
@@ -57,7 +58,7 @@ pub(crate) fn hold<F: Folder>(folder: &mut F, path: &str, file: &F::File) -> io:
 #[tactic(auto, using(crate::proofs::FolderLaws::only_none, crate::proofs::FolderLaws::quiet_open_to_read, crate::proofs::FolderLaws::quiet_open_to_add))]
 fn open_as<F: Folder>(folder: &mut F, path: &str, adds: bool) -> io::Result<F::File>
     ensures opened { IfOk result
-        (λ _. IsOpened path.now (F.steps folder.old) (F.steps folder.new)) }
+        (λ file. IsOpened (F.file_of file) path.now (F.steps folder.old) (F.steps folder.new)) }
     ensures quiet { IsQuiet (F.steps folder.old) (F.steps folder.new) }
 {
     if !adds {
@@ -75,7 +76,7 @@ fn open_as<F: Folder>(folder: &mut F, path: &str, adds: bool) -> io::Result<F::F
 #[tactic(auto, using(crate::proofs::FolderLaws::only_none, crate::proofs::FolderLaws::quiet_follow))]
 fn open_plain<F: Folder>(folder: &mut F, path: &str, adds: bool) -> io::Result<Option<F::File>>
     ensures opened { IfOk result
-        (λ o. IfSome o (λ _. OpensPlain path.now (F.steps folder.new))) }
+        (λ o. IfSome o (λ file. OpensPlain (F.file_of file) path.now (F.steps folder.new))) }
     ensures quiet { IsQuiet (F.steps folder.old) (F.steps folder.new) }
 {
     let Some(look) = folder.follow(path)?.found else {
@@ -97,7 +98,7 @@ fn open_plain<F: Folder>(folder: &mut F, path: &str, adds: bool) -> io::Result<O
 #[tactic(auto, using(crate::proofs::FolderLaws::only_chain))]
 pub fn open_locked<F: Folder>(folder: &mut F, path: &str, adds: bool) -> io::Result<Option<F::File>>
     ensures locked { IfOk result
-        (λ o. IfSome o (λ _. OpensLocked path.now (F.steps folder.new))) }
+        (λ o. IfSome o (λ file. OpensLocked (F.file_of file) path.now (F.steps folder.new))) }
     ensures quiet { IsQuiet (F.steps folder.old) (F.steps folder.new) }
 {
     let Some(file) = open_plain(folder, path, adds)? else {
@@ -115,7 +116,7 @@ pub(crate) fn open_again<F: Folder>(
     adds: bool,
 ) -> io::Result<Option<F::File>>
     ensures locked { IfOk result
-        (λ o. IfSome o (λ _. OpensLocked path.now (F.steps folder.new))) }
+        (λ o. IfSome o (λ file. OpensLocked (F.file_of file) path.now (F.steps folder.new))) }
     ensures quiet { IsQuiet (F.steps folder.old) (F.steps folder.new) }
 {
     for _ in 0..TRIES {
@@ -131,7 +132,8 @@ pub(crate) fn open_again<F: Folder>(
 /// read it. What is written goes to its end. What stands there and is no plain file makes way, so
 /// that nothing is written through a link.
 pub(crate) fn open_beside<F: Folder>(folder: &mut F, path: &str) -> io::Result<F::File>
-    ensures { IfOk result (λ _. OpensBeside path.now (F.steps folder.old) (F.steps folder.new)) }
+    ensures { IfOk result (λ file.
+        OpensBeside (F.file_of file) path.now (F.steps folder.old) (F.steps folder.new)) }
 {
     if let Some(spare) = folder.look(path)?.if_no_file() {
         folder.remove(spare)?;
@@ -150,7 +152,8 @@ pub(crate) fn hold_empty<F: Folder>(
     path: &str,
     next: &F::File,
 ) -> io::Result<()>
-    ensures { OnOk result (HoldsEmpty path.now (F.steps folder.old) (F.steps folder.new)) }
+    ensures { OnOk result
+        (HoldsEmpty (F.file_of next.now) path.now (F.steps folder.old) (F.steps folder.new)) }
 {
     hold(folder, path, next)?;
     if folder.look_at(next)?.stamp.length == 0 {
@@ -165,7 +168,7 @@ pub(crate) fn hold_empty<F: Folder>(
 
 /// A file of a path that is still to get its name, empty and locked.
 fn try_beside<F: Folder>(folder: &mut F, alloc: Global, path: &str) -> io::Result<F::File>
-    ensures { IfOk result (λ _. IsHeldEmpty path.now (F.steps folder.new)) }
+    ensures { IfOk result (λ file. IsHeldEmpty (F.file_of file) path.now (F.steps folder.new)) }
 {
     let next = open_beside(folder, path)?;
     hold_empty(folder, alloc, path, &next)?;
@@ -175,7 +178,7 @@ fn try_beside<F: Folder>(folder: &mut F, alloc: Global, path: &str) -> io::Resul
 /// The same, tried anew if the path stood for another file meanwhile. `WouldBlock` if it always
 /// does.
 pub fn take_beside<F: Folder>(folder: &mut F, alloc: Global, path: &str) -> io::Result<F::File>
-    ensures { IfOk result (λ _. IsHeldEmpty path.now (F.steps folder.new)) }
+    ensures { IfOk result (λ file. IsHeldEmpty (F.file_of file) path.now (F.steps folder.new)) }
 {
     for _ in 0..TRIES {
         match try_beside(folder, alloc, path) {

@@ -55,7 +55,8 @@ impl<T: Drop> Log<T> {
         file: T,
         length: u64,
     ) -> io::Result<Log<T>>
-        ensures { IfOk result (λ log. IsLeftAt log.left length
+        ensures file { IfOk result (λ log. log.file ≡ file) }
+        ensures left { IfOk result (λ log. IsLeftAt (F.file_of file) log.left length
             (F.steps folder.old) (F.steps folder.new)) }
     {
         let mut stamp = folder.look_at(&file)?.stamp;
@@ -72,7 +73,8 @@ impl<T: Drop> Log<T> {
     /// Takes another name from it, if it has that beside its own: one that was killed when it gave the
     /// log its name may have left it both.
     pub(crate) fn give_up<F: Folder<File = T>>(&self, folder: &mut F, path: &str)
-        ensures { MayRemove IsOneOfMore path.now (F.steps folder.old) (F.steps folder.new) }
+        ensures { MayRemove IsOneOfMore (F.file_of self.now.file) path.now
+            (F.steps folder.old) (F.steps folder.new) }
     {
         let _ = remove_second_name(folder, path, &self.file);
     }
@@ -85,7 +87,8 @@ impl<T: Drop> Log<T> {
         alloc: Global,
         path: &str,
     ) -> io::Result<()>
-        ensures { OnOk result (MakesRoom path.now (F.steps folder.old) (F.steps folder.new)) }
+        ensures { OnOk result (MakesRoom (F.file_of self.now.file) path.now
+            (F.steps folder.old) (F.steps folder.new)) }
     {
         remove_second_name(folder, path, &self.file)?;
         if stands_for(folder, path, &self.file)? {
@@ -104,14 +107,15 @@ impl<T: Drop> Log<T> {
         path: &str,
         lines: &LogLines,
     ) -> io::Result<()>
-        ensures added { OnOk result (IsAdded path.now self.old.left lines.now self.new.left
+        ensures added { OnOk result (IsAdded (F.file_of self.old.file) path.now self.old.left
+            lines.now self.new.left (F.steps folder.old) (F.steps folder.new)) }
+        ensures begun { OnErr result (AddsFront (F.file_of self.old.file) lines.now
             (F.steps folder.old) (F.steps folder.new)) }
-        ensures begun { OnErr result (AddsFront lines.now
-            (F.steps folder.old) (F.steps folder.new)) }
+        ensures file { self.new.file ≡ self.old.file }
         ensures same { OnErr result (self.new.left ≡ self.old.left) }
     {
         check_growth(folder, path, &self.file, &self.left)?;
-        folder.add_lines(path, &mut self.file, &self.left, lines)?;
+        folder.add_lines(path, &self.file, &self.left, lines)?;
         self.left = left_longer(folder, path, &self.file, &self.left)?;
         Ok(())
     }
@@ -126,7 +130,8 @@ fn check_growth<F: Folder>(
     left: &LeftLog,
 ) -> io::Result<()>
     ensures shown { OnOk result
-        (ShowsGrowth path.now left.now (F.steps folder.old) (F.steps folder.new)) }
+        (ShowsGrowth (F.file_of log.now) path.now left.now
+        (F.steps folder.old) (F.steps folder.new)) }
     ensures quiet { IsQuiet (F.steps folder.old) (F.steps folder.new) }
 {
     let Some(there) = folder.follow(path)?.found else {
@@ -151,7 +156,7 @@ fn left_longer<F: Folder>(
     log: &F::File,
     left: &LeftLog,
 ) -> io::Result<LeftLog>
-    ensures longer { IfOk result (λ longer. IsLonger path.now left.now longer
+    ensures longer { IfOk result (λ longer. IsLonger (F.file_of log.now) path.now left.now longer
         (F.steps folder.old) (F.steps folder.new)) }
     ensures quiet { IsQuiet (F.steps folder.old) (F.steps folder.new) }
 {

@@ -1,12 +1,13 @@
 //! The files of one note, as this port found and left them.
-ghost use Rattle.std.specs.Prelude.{◌≡◌, ◌≢◌, Option, None, IfOk, IfSome, IsSomeAnd, OnErr, OnOk, false, is_some, string_bytes};
+ghost use Rattle.std.specs.Option.{option_map};
+ghost use Rattle.std.specs.Prelude.{◌≡◌, ℕ, Option, None, IfOk, IfSome, IsSomeAnd, OnErr, OnOk, string_bytes};
 ghost use Rattle.mgr_port.specs.Disk.{steps_to};
 ghost use Rattle.mgr_port.specs.Folder.{Follows, after};
 ghost use Rattle.mgr_port.specs.Growth.{AddsFront, IsAdded};
 ghost use Rattle.mgr_port.specs.Locks.{HoldsInItsPlace, HoldsNext, IsTaken, OpensLocked};
-ghost use Rattle.mgr_port.specs.Notes.{KeepsPlace, Leaves, LoadsLog, MakesLog, MakesRoomIf, NamesLog};
+ghost use Rattle.mgr_port.specs.Notes.{KeepsPlace, Leaves, LoadsLog, MakesLog, MakesRoomIf, MayRemoveIf, NamesLog};
 ghost use Rattle.mgr_port.specs.Notes.{ReadsLog, TakesRights, closed, old_for};
-ghost use Rattle.mgr_port.specs.Spares.{IsOfFile, MayRemove};
+ghost use Rattle.mgr_port.specs.Spares.{IsOfFile};
 ghost use Rattle.mgr_port.specs.Texts.{PutsText};
 ghost use Rattle.mgr_port.specs.declared.spare.Look.{Look};
 
@@ -58,11 +59,11 @@ impl<T: Drop> Note<T> {
         alloc: Global,
     ) -> io::Result<Found>
         ensures read { IfOk result (λ found. IfSome found.log (λ bytes. IsSomeAnd self.new.log
-            (λ log. LoadsLog (string_bytes self.old.paths.log)
+            (λ log. LoadsLog (F.file_of log.file) (string_bytes self.old.paths.log)
             (string_bytes self.old.paths.next_log) bytes log.left (F.steps folder.new)))) }
         ensures none { IfOk result (λ found. found.log ≡ None → self.new.log ≡ None) }
-        ensures held { IfOk result (λ found. found.log ≡ None → IfSome self.new.next (λ _.
-            KeepsPlace (string_bytes self.old.paths.next_log)
+        ensures held { IfOk result (λ found. found.log ≡ None → IfSome self.new.next (λ next.
+            KeepsPlace (F.file_of next) (string_bytes self.old.paths.next_log)
             (string_bytes self.old.paths.log) (F.steps folder.new))) }
         ensures log { OnErr result (self.new.log ≡ None) }
         ensures next { OnErr result (self.new.next ≡ None) }
@@ -93,12 +94,12 @@ impl<T: Drop> Note<T> {
     /// The same, where nothing is open. Where that fails the files that were locked may stay so.
     fn try_load<F: Folder<File = T>>(&mut self, folder: &mut F, alloc: Global) -> io::Result<Found>
         ensures read { IfOk result (λ found. IfSome found.log (λ bytes. IsSomeAnd self.new.log
-            (λ log. LoadsLog (string_bytes self.old.paths.log)
+            (λ log. LoadsLog (F.file_of log.file) (string_bytes self.old.paths.log)
             (string_bytes self.old.paths.next_log) bytes log.left (F.steps folder.new)))) }
         ensures none { IfOk result
             (λ found. found.log ≡ None → self.new.log ≡ self.old.log) }
-        ensures held { IfOk result (λ found. found.log ≡ None → IfSome self.new.next (λ _.
-            KeepsPlace (string_bytes self.old.paths.next_log)
+        ensures held { IfOk result (λ found. found.log ≡ None → IfSome self.new.next (λ next.
+            KeepsPlace (F.file_of next) (string_bytes self.old.paths.next_log)
             (string_bytes self.old.paths.log) (F.steps folder.new))) }
     {
         let (log, next) = lock_log(folder, alloc, &self.paths)?;
@@ -127,12 +128,13 @@ impl<T: Drop> Note<T> {
         lines: &LogLines,
     ) -> io::Result<()>
         ensures added { OnOk result (IfSome self.old.log (λ old. IfSome self.new.log (λ log.
-            IsAdded (string_bytes self.old.paths.log) old.left lines.now log.left
+            (log.file ≡ old.file) × IsAdded (F.file_of old.file)
+            (string_bytes self.old.paths.log) old.left lines.now log.left
             (F.steps folder.old) (F.steps folder.new)))) }
-        ensures begun { self.old.log ≢ None → OnErr result
-            (AddsFront lines.now (F.steps folder.old) (F.steps folder.new)) }
+        ensures begun { IfSome self.old.log (λ old. OnErr result (AddsFront
+            (F.file_of old.file) lines.now (F.steps folder.old) (F.steps folder.new))) }
         ensures made { self.old.log ≡ None → OnOk result (IsSomeAnd self.new.log (λ log.
-            MakesLog false (string_bytes self.old.paths.next_log)
+            MakesLog None (F.file_of log.file) (string_bytes self.old.paths.next_log)
             (string_bytes self.old.paths.log) (string_bytes self.old.paths.text) None
             lines.now log.left (after (Follows (string_bytes self.old.paths.log) None)
             (F.steps folder.old)) (F.steps folder.new))) }
@@ -155,7 +157,8 @@ impl<T: Drop> Note<T> {
         lines: &LogLines,
     ) -> io::Result<()>
         ensures { OnOk result (IsSomeAnd self.new.log (λ log. (standing : Option Look)
-            × MakesLog (is_some self.old.log) (string_bytes self.old.paths.next_log)
+            × MakesLog (option_map (λ log. F.file_of log.file) self.old.log) (F.file_of log.file)
+            (string_bytes self.old.paths.next_log)
             (string_bytes self.old.paths.log) (string_bytes self.old.paths.text) standing
             lines.now log.left (after (Follows (string_bytes self.old.paths.log) standing)
             (F.steps folder.old)) (F.steps folder.new))) }
@@ -174,15 +177,16 @@ impl<T: Drop> Note<T> {
         standing: Option<Look>,
     ) -> io::Result<()>
         ensures { OnOk result (IsSomeAnd self.new.log (λ log.
-            MakesLog (is_some self.old.log) (string_bytes self.old.paths.next_log)
+            MakesLog (option_map (λ log. F.file_of log.file) self.old.log) (F.file_of log.file)
+            (string_bytes self.old.paths.next_log)
             (string_bytes self.old.paths.log) (string_bytes self.old.paths.text) standing
             lines.now log.left (F.steps folder.old) (F.steps folder.new))) }
     {
         self.make_room(folder, alloc)?;
         let path = self.paths.next_log.as_str();
-        let mut next = take_next(folder, alloc, path, &mut self.next)?;
-        let log = self.log.as_ref().map(|log| &log.file);
-        match name_next(folder, alloc, &self.paths, &mut next, log, lines, standing) {
+        let next = take_next(folder, alloc, path, &mut self.next)?;
+        let log = file_of(&self.log);
+        match name_next(folder, alloc, &self.paths, &next, log, lines, standing) {
             Ok(named) => {
                 let length = folder.look_at(&next)?.stamp.length;
                 self.log = Some(Log::read_to(folder, next, length)?);
@@ -197,7 +201,7 @@ impl<T: Drop> Note<T> {
 
     /// Takes the path of the next log from the log, if it has that.
     fn make_room<F: Folder<File = T>>(&self, folder: &mut F, alloc: Global) -> io::Result<()>
-        ensures { OnOk result (MakesRoomIf (is_some self.now.log)
+        ensures { OnOk result (MakesRoomIf (option_map (λ log. F.file_of log.file) self.now.log)
             (string_bytes self.now.paths.next_log) (F.steps folder.old) (F.steps folder.new)) }
     {
         match &self.log {
@@ -214,12 +218,13 @@ impl<T: Drop> Note<T> {
         alloc: Global,
         bytes: &[u8],
     ) -> io::Result<()>
-        ensures { OnOk result (PutsText (string_bytes self.old.paths.next_text)
-            (string_bytes self.old.paths.text) bytes.now self.old.text.own self.new.text.own
+        ensures { OnOk result (PutsText (option_map (λ log. F.file_of log.file) self.old.log)
+            (string_bytes self.old.paths.next_text) (string_bytes self.old.paths.text)
+            bytes.now self.old.text.own self.new.text.own
             (F.steps folder.new)) }
     {
-        let log = self.log.as_ref().map(|log| &log.file);
-        self.text.put(folder, alloc, &self.paths, bytes, log)
+        self.text
+            .put(folder, alloc, &self.paths, bytes, file_of(&self.log))
     }
 
     /// Closes the file whose name the text took last, if it is open.
@@ -232,7 +237,9 @@ impl<T: Drop> Note<T> {
     /// Removes what was only locked in the place of a log that was never made, and a name that the log
     /// may have kept beside its own.
     pub(crate) fn leave<F: Folder<File = T>>(&self, folder: &mut F)
-        ensures { Leaves (string_bytes self.now.paths.next_log)
+        ensures { Leaves (option_map F.file_of self.now.next)
+            (option_map (λ log. F.file_of log.file) self.now.log)
+            (string_bytes self.now.paths.next_log)
             (F.steps folder.old) (F.steps folder.new) }
     {
         self.leave_next(folder);
@@ -242,12 +249,23 @@ impl<T: Drop> Note<T> {
     }
 
     fn leave_next<F: Folder<File = T>>(&self, folder: &mut F)
-        ensures { MayRemove IsOfFile (string_bytes self.now.paths.next_log)
-            (F.steps folder.old) (F.steps folder.new) }
+        ensures { MayRemoveIf IsOfFile (option_map F.file_of self.now.next)
+            (string_bytes self.now.paths.next_log) (F.steps folder.old) (F.steps folder.new) }
     {
         if let Some(next) = &self.next {
             let _ = remove_open(folder, self.paths.next_log.as_str(), next);
         }
+    }
+}
+
+/// The file of a log, if it is open.
+fn file_of<T: Drop>(log: &Option<Log<T>>) -> Option<&T>
+    ensures { (f : T → ℕ) → option_map (λ file. f file.now) result
+        ≡ option_map (λ log. f log.file) log.now }
+{
+    match log {
+        Some(log) => Some(&log.file),
+        None => None,
     }
 }
 
@@ -258,10 +276,10 @@ fn lock_log<F: Folder>(
     alloc: Global,
     paths: &Paths,
 ) -> io::Result<(Option<F::File>, Option<F::File>)>
-    ensures log { IfOk result (λ locked. IfSome locked.0 (λ _.
-        OpensLocked (string_bytes paths.now.log) (F.steps folder.new))) }
-    ensures next { IfOk result (λ locked. IfSome locked.1 (λ _.
-        HoldsNext (string_bytes paths.now.next_log) (string_bytes paths.now.log)
+    ensures log { IfOk result (λ locked. IfSome locked.0 (λ file.
+        OpensLocked (F.file_of file) (string_bytes paths.now.log) (F.steps folder.new))) }
+    ensures next { IfOk result (λ locked. IfSome locked.1 (λ file.
+        HoldsNext (F.file_of file) (string_bytes paths.now.next_log) (string_bytes paths.now.log)
         (F.steps folder.new))) }
 {
     for _ in 0..TRIES {
@@ -278,10 +296,10 @@ fn try_log<F: Folder>(
     alloc: Global,
     paths: &Paths,
 ) -> io::Result<(Option<F::File>, Option<F::File>)>
-    ensures log { IfOk result (λ locked. IfSome locked.0 (λ _.
-        OpensLocked (string_bytes paths.now.log) (F.steps folder.new))) }
-    ensures next { IfOk result (λ locked. IfSome locked.1 (λ _.
-        HoldsNext (string_bytes paths.now.next_log) (string_bytes paths.now.log)
+    ensures log { IfOk result (λ locked. IfSome locked.0 (λ file.
+        OpensLocked (F.file_of file) (string_bytes paths.now.log) (F.steps folder.new))) }
+    ensures next { IfOk result (λ locked. IfSome locked.1 (λ file.
+        HoldsNext (F.file_of file) (string_bytes paths.now.next_log) (string_bytes paths.now.log)
         (F.steps folder.new))) }
 {
     let log = paths.log.as_str();
@@ -304,13 +322,14 @@ fn try_log<F: Folder>(
 /// path of the next one too.
 fn read_log<T: Drop, F: Folder<File = T>>(
     folder: &mut F,
-    mut file: T,
+    file: T,
     path: &str,
 ) -> io::Result<(Log<T>, Vec<u8>)>
-    ensures { IfOk result (λ read. ReadsLog path.now read.1.items read.0.left
+    ensures file { IfOk result (λ read. read.0.file ≡ file) }
+    ensures read { IfOk result (λ read. ReadsLog (F.file_of file) path.now read.1.items read.0.left
         (F.steps folder.old) (F.steps folder.new)) }
 {
-    let bytes = folder.read_all(&mut file)?;
+    let bytes = folder.read_all(&file)?;
     let log = Log::read_to(folder, file, bytes.len() as u64)?;
     log.give_up(folder, path);
     Ok((log, bytes))
@@ -326,7 +345,8 @@ fn lock_next<F: Folder>(
     log: &str,
 ) -> io::Result<()>
     ensures { OnOk result
-        (HoldsInItsPlace path.now log.now (F.steps folder.old) (F.steps folder.new)) }
+        (HoldsInItsPlace (F.file_of next.now) path.now log.now
+        (F.steps folder.old) (F.steps folder.new)) }
 {
     hold_empty(folder, alloc, path, next)?;
     if folder.follow(log)?.found.is_some() {
@@ -344,7 +364,7 @@ fn take_next<F: Folder>(
     open: &mut Option<F::File>,
 ) -> io::Result<F::File>
     ensures { IfOk result
-        (λ _. IsTaken path.now (F.steps folder.old) (F.steps folder.new)) }
+        (λ file. IsTaken (F.file_of file) path.now (F.steps folder.old) (F.steps folder.new)) }
 {
     if let Some(next) = open.take() {
         if stands_for(folder, path, &next)? {
@@ -359,12 +379,13 @@ fn name_next<F: Folder>(
     folder: &mut F,
     alloc: Global,
     paths: &Paths,
-    next: &mut F::File,
+    next: &F::File,
     log: Option<&F::File>,
     lines: &LogLines,
     standing: Option<Look>,
 ) -> io::Result<Named>
-    ensures { IfOk result (λ named. NamesLog (string_bytes paths.now.next_log)
+    ensures { IfOk result (λ named. NamesLog (F.file_of next.now)
+        (option_map (λ l. F.file_of l.now) log.entry) (string_bytes paths.now.next_log)
         (string_bytes paths.now.log) (string_bytes paths.now.text) standing
         (steps_to named lines.now) (F.steps folder.old) (F.steps folder.new)) }
 {
@@ -397,7 +418,8 @@ fn take_rights<F: Folder>(
     text: &str,
 ) -> io::Result<()>
     ensures { OnOk result
-        (TakesRights standing text.now (F.steps folder.old) (F.steps folder.new)) }
+        (TakesRights (F.file_of log.now) standing text.now
+        (F.steps folder.old) (F.steps folder.new)) }
 {
     if let Some(like) = standing {
         return take_mode(folder, log, like);

@@ -13,7 +13,7 @@ const STRETCH: u64 = 4194304;
 /// is to begin with a stretch of bytes while further ones are made: then a sync waits for less.
 #[derive(Drop)]
 pub(crate) struct Patient<'a> {
-    file: &'a mut File,
+    file: &'a File,
     /// Of which kind a failure was, where one was.
     pub(crate) failed: Option<ErrorKind>,
     /// How many bytes were written since the device was asked.
@@ -22,7 +22,7 @@ pub(crate) struct Patient<'a> {
 
 impl<'a> Patient<'a> {
     /// A file that is written at its end.
-    pub(crate) fn new(file: &'a mut File) -> Patient<'a>
+    pub(crate) fn new(file: &'a File) -> Patient<'a>
         ensures failed { result.failed ≡ None }
         ensures waiting { result.waiting ≡ 0 }
     {
@@ -40,7 +40,8 @@ impl<'a> Write for Patient<'a> {
     ghost contents = { λ _. None };
 
     fn write(&mut self, buf: &[u8]) -> io::Result<usize> {
-        if let Err(error) = self.file.write_all(buf) {
+        let mut file = self.file;
+        if let Err(error) = file.write_all(buf) {
             self.failed = Some(error.kind());
             return Err(error);
         }

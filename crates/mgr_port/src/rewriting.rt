@@ -42,8 +42,8 @@ impl<T: Drop> OpenLog<T> {
     /// The log of a path, locked. `NotFound` where there is none, and `WouldBlock` where something
     /// else has it locked.
     pub(crate) fn at<F: Folder<File = T>>(folder: &mut F, path: &str) -> io::Result<OpenLog<T>>
-        ensures { IfOk result (λ log. OpensToRewrite path.now log.read log.refused
-            (F.steps folder.new)) }
+        ensures { IfOk result (λ log. OpensToRewrite (F.file_of log.file) path.now log.read
+            log.refused (F.steps folder.new)) }
     {
         let Some(file) = open_again(folder, path, true)? else {
             return Err(io::Error::from(ErrorKind::NotFound));
@@ -78,13 +78,14 @@ impl<T: Drop> OpenLog<T> {
         bytes: &[u8],
     ) -> io::Result<()>
         ensures refused { self.new.refused ≡ true }
-        ensures kept { OnOk result (KeepsRefused path.now bytes.now
+        ensures file { self.new.file ≡ self.old.file }
+        ensures kept { OnOk result (KeepsRefused (F.file_of self.old.file) path.now bytes.now
             (F.steps folder.old) (F.steps folder.new)) }
     {
         self.refused = true;
-        let mut refused = open_refused(folder, path, &self.file)?;
-        end_line(folder, &mut refused)?;
-        folder.write(&mut refused, bytes)?;
+        let refused = open_refused(folder, path, &self.file)?;
+        end_line(folder, &refused)?;
+        folder.write(&refused, bytes)?;
         folder.sync(&refused)?;
         // One that was killed may have left it without a name on the device.
         folder.sync_folder(path)
@@ -97,7 +98,8 @@ impl<T: Drop> OpenLog<T> {
         alloc: Global,
         path: &str,
     ) -> io::Result<T>
-        ensures { IfOk result (λ _. MakesNextLog path.now (F.steps folder.new)) }
+        ensures { IfOk result (λ next. MakesNextLog (F.file_of next) (F.file_of self.now.file)
+            path.now (F.steps folder.new)) }
     {
         // One that was killed when it gave the log its name may have left it this one too.
         let _ = remove_second_name(folder, path, &self.file);
@@ -116,7 +118,8 @@ impl<T: Drop> OpenLog<T> {
         paths: &Paths,
         next: T,
     ) -> io::Result<()>
-        ensures { OnOk result (NamesRead (string_bytes paths.now.next_log)
+        ensures { OnOk result (NamesRead (F.file_of next) (F.file_of self.now.file)
+            (string_bytes paths.now.next_log)
             (string_bytes paths.now.log) self.now.read self.now.refused
             (F.steps folder.old) (F.steps folder.new)) }
     {
@@ -152,7 +155,8 @@ fn is_plain_there<F: Folder>(folder: &mut F, path: &str) -> io::Result<bool>
 #[tactic(auto, unfolding(crate::specs::Rewriting::OpensRefused))]
 fn open_refused<F: Folder>(folder: &mut F, path: &str, log: &F::File) -> io::Result<F::File>
     ensures { IfOk result
-        (λ _. OpensRefused path.now (F.steps folder.old) (F.steps folder.new)) }
+        (λ file. OpensRefused (F.file_of file) (F.file_of log.now) path.now
+        (F.steps folder.old) (F.steps folder.new)) }
 {
     if is_plain_there(folder, path)? {
         return open_beside(folder, path);
@@ -165,8 +169,9 @@ fn open_refused<F: Folder>(folder: &mut F, path: &str, log: &F::File) -> io::Res
 
 /// Ends the last line of a file that was cut off, so that nothing is read as a part of it.
 #[tactic(auto, unfolding(crate::specs::Rewriting::EndsLine))]
-fn end_line<F: Folder>(folder: &mut F, file: &mut F::File) -> io::Result<()>
-    ensures { OnOk result (EndsLine (F.steps folder.old) (F.steps folder.new)) }
+fn end_line<F: Folder>(folder: &mut F, file: &F::File) -> io::Result<()>
+    ensures { OnOk result
+        (EndsLine (F.file_of file.now) (F.steps folder.old) (F.steps folder.new)) }
 {
     let length = folder.look_at(file)?.stamp.length;
     if length == 0 {

@@ -1,5 +1,6 @@
 //! A file that is written whole beside another, and then takes its name.
-ghost use Rattle.std.specs.Prelude.{◌≡◌, ◌∷◌, [], IfOk, OnOk, OnErr};
+ghost use Rattle.std.specs.Option.{option_map};
+ghost use Rattle.std.specs.Prelude.{◌≡◌, ◌∷◌, [], ℕ, IfOk, OnOk, OnErr};
 ghost use Rattle.mgr_port.specs.Disk.{Keeps, Syncs, TakesName, last_steps, steps_to, unnamed_steps};
 ghost use Rattle.mgr_port.specs.Folder.{IsIdle};
 ghost use Rattle.mgr_port.specs.Locks.{StandsAsRead};
@@ -71,14 +72,16 @@ impl Named {
 pub fn put_whole<F: Folder>(
     folder: &mut F,
     alloc: Global,
-    next: &mut F::File,
+    next: &F::File,
     log: Option<&F::File>,
     staged: Staged<'_>,
     bytes: &[u8],
 ) -> io::Result<Named>
-    ensures named { IfOk result (λ named. DoesAll staged.entry (steps_to named bytes.now)
+    ensures named { IfOk result (λ named. DoesAll (F.file_of next.now)
+        (option_map (λ l. F.file_of l.now) log.entry) staged.entry (steps_to named bytes.now)
         (F.steps folder.old) (F.steps folder.new)) }
-    ensures unnamed { OnErr result (StopsBefore staged.entry (unnamed_steps bytes.now)
+    ensures unnamed { OnErr result (StopsBefore (F.file_of next.now)
+        (option_map (λ l. F.file_of l.now) log.entry) staged.entry (unnamed_steps bytes.now)
         (F.steps folder.old) (F.steps folder.new)) }
 {
     folder.empty(next)?;
@@ -91,14 +94,16 @@ pub fn put_whole<F: Folder>(
 pub(crate) fn put_log<F: Folder>(
     folder: &mut F,
     alloc: Global,
-    next: &mut F::File,
+    next: &F::File,
     log: Option<&F::File>,
     staged: Staged<'_>,
     lines: &LogLines,
 ) -> io::Result<Named>
-    ensures named { IfOk result (λ named. DoesAll staged.entry (steps_to named lines.now)
+    ensures named { IfOk result (λ named. DoesAll (F.file_of next.now)
+        (option_map (λ l. F.file_of l.now) log.entry) staged.entry (steps_to named lines.now)
         (F.steps folder.old) (F.steps folder.new)) }
-    ensures unnamed { OnErr result (StopsBefore staged.entry (unnamed_steps lines.now)
+    ensures unnamed { OnErr result (StopsBefore (F.file_of next.now)
+        (option_map (λ l. F.file_of l.now) log.entry) staged.entry (unnamed_steps lines.now)
         (F.steps folder.old) (F.steps folder.new)) }
 {
     folder.empty(next)?;
@@ -115,9 +120,11 @@ pub(crate) fn name_written<F: Folder>(
     log: Option<&F::File>,
     staged: Staged<'_>,
 ) -> io::Result<Named>
-    ensures named { IfOk result (λ named. DoesAll staged.entry (last_steps named)
+    ensures named { IfOk result (λ named. DoesAll (F.file_of next.now)
+        (option_map (λ l. F.file_of l.now) log.entry) staged.entry (last_steps named)
         (F.steps folder.old) (F.steps folder.new)) }
-    ensures unnamed { OnErr result (StopsBefore staged.entry (Syncs ∷ Keeps ∷ [])
+    ensures unnamed { OnErr result (StopsBefore (F.file_of next.now)
+        (option_map (λ l. F.file_of l.now) log.entry) staged.entry (Syncs ∷ Keeps ∷ [])
         (F.steps folder.old) (F.steps folder.new)) }
 {
     sync_dated(folder, next, log, staged.later)?;
@@ -135,8 +142,9 @@ pub(crate) fn sync_dated<F: Folder>(
     log: Option<&F::File>,
     later: Option<u64>,
 ) -> io::Result<()>
-    ensures synced { OnOk result
-        (SyncsDated later (F.steps folder.old) (F.steps folder.new)) }
+    ensures synced { OnOk result (SyncsDated (F.file_of file.now)
+        (option_map (λ l. F.file_of l.now) log.entry)
+        later (F.steps folder.old) (F.steps folder.new)) }
     ensures idle { OnErr result (IsIdle (F.steps folder.old) (F.steps folder.new)) }
 {
     give_date(folder, file, log, later);
@@ -146,7 +154,8 @@ pub(crate) fn sync_dated<F: Folder>(
 /// Dates a file by a log, by which a later session knows beside which log a text was put. A file
 /// system that keeps no such times is no reason to stop.
 fn give_date<F: Folder>(folder: &mut F, file: &F::File, log: Option<&F::File>, later: Option<u64>)
-    ensures { MayDate later (F.steps folder.old) (F.steps folder.new) }
+    ensures { MayDate (F.file_of file.now) (option_map (λ l. F.file_of l.now) log.entry) later
+        (F.steps folder.old) (F.steps folder.new) }
 {
     let Some(later) = later else {
         return;
@@ -164,9 +173,11 @@ fn give_name<F: Folder>(
     log: Option<&F::File>,
     staged: Staged<'_>,
 ) -> io::Result<()>
-    ensures named { OnOk result (DoesAll staged.entry (Keeps ∷ TakesName ∷ [])
+    ensures named { (file : ℕ) → OnOk result (DoesAll file
+        (option_map (λ l. F.file_of l.now) log.entry) staged.entry (Keeps ∷ TakesName ∷ [])
         (F.steps folder.old) (F.steps folder.new)) }
-    ensures unnamed { OnErr result (StopsBefore staged.entry (Keeps ∷ [])
+    ensures unnamed { (file : ℕ) → OnErr result (StopsBefore file
+        (option_map (λ l. F.file_of l.now) log.entry) staged.entry (Keeps ∷ [])
         (F.steps folder.old) (F.steps folder.new)) }
 {
     match staged.old {
@@ -217,7 +228,8 @@ fn check_as_read<F: Folder>(
     length: u64,
 ) -> io::Result<()>
     ensures shown { OnOk result
-        (StandsAsRead path.now length (F.steps folder.old) (F.steps folder.new)) }
+        (StandsAsRead (option_map (λ l. F.file_of l.now) log.entry) path.now length
+        (F.steps folder.old) (F.steps folder.new)) }
     ensures idle { OnErr result (IsIdle (F.steps folder.old) (F.steps folder.new)) }
 {
     let Some(log) = log else {

@@ -55,6 +55,8 @@ impl<'r, R: Files<File = File> + AllocGlobal> Folder for System<'r, R> {
 
     ghost steps = { λ _. None };
 
+    ghost file_of = { λ _. 0 };
+
     fn look<'p>(&mut self, path: &'p str) -> io::Result<Standing<'p>> {
         standing(path, fs::symlink_metadata(self.rt, path))
     }
@@ -111,7 +113,7 @@ impl<'r, R: Files<File = File> + AllocGlobal> Folder for System<'r, R> {
     fn add_lines(
         &mut self,
         _path: &str,
-        log: &mut File,
+        log: &File,
         _left: &LeftLog,
         lines: &LogLines,
     ) -> io::Result<()> {
@@ -122,12 +124,12 @@ impl<'r, R: Files<File = File> + AllocGlobal> Folder for System<'r, R> {
         file.set_len(0)
     }
 
-    fn write(&mut self, file: &mut File, bytes: &[u8]) -> io::Result<()> {
+    fn write(&mut self, mut file: &File, bytes: &[u8]) -> io::Result<()> {
         file.write_all(bytes)
     }
 
     /// Where memory is wanting, nothing is written.
-    fn write_lines(&mut self, file: &mut File, lines: &LogLines) -> io::Result<()> {
+    fn write_lines(&mut self, file: &File, lines: &LogLines) -> io::Result<()> {
         let mut writer = Counted::new(Patient::new(file));
         let written = lines.write_to(&mut writer);
         let failed = writer.into_inner().failed;
@@ -167,7 +169,7 @@ impl<'r, R: Files<File = File> + AllocGlobal> Folder for System<'r, R> {
         fs::open(self.rt, folder)?.sync_all()
     }
 
-    fn read_all(&mut self, file: &mut File) -> io::Result<Vec<u8>> {
+    fn read_all(&mut self, mut file: &File) -> io::Result<Vec<u8>> {
         let mut bytes = Vec::new(self.rt.alloc());
         file.read_to_end(&mut bytes)?;
         Ok(bytes)
@@ -182,8 +184,8 @@ impl<'r, R: Files<File = File> + AllocGlobal> Folder for System<'r, R> {
     }
 
     fn make(&mut self, name: &str, bytes: &[u8]) -> io::Result<()> {
-        let mut file = self.open(name, Opening::New(OWN))?;
-        self.write(&mut file, bytes)?;
+        let file = self.open(name, Opening::New(OWN))?;
+        self.write(&file, bytes)?;
         self.sync(&file)?;
         self.sync_folder(name)
     }

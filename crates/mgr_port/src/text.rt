@@ -1,4 +1,5 @@
 //! A text, as this port found and left it.
+ghost use Rattle.std.specs.Option.{option_map};
 ghost use Rattle.std.specs.Prelude.{◌≡◌, ◌≤◌, None, IfOk, IfSome, OnOk, string_bytes};
 ghost use Rattle.mgr_port.specs.Folder.{IsQuiet};
 ghost use Rattle.mgr_port.specs.Locks.{IsOwnRead};
@@ -54,7 +55,8 @@ impl<T: Drop> Text<T> {
         path: &str,
     ) -> io::Result<Option<Vec<u8>>>
         ensures read { IfOk result (λ o. IfSome o (λ bytes.
-            IsOwnRead self.new.own path.now bytes.items (F.steps folder.new))) }
+            IsOwnRead (option_map F.file_of self.new.file) self.new.own path.now bytes.items
+            (F.steps folder.new))) }
         ensures quiet { IsQuiet (F.steps folder.old) (F.steps folder.new) }
     {
         self.file = open_again(folder, path, false)?;
@@ -84,8 +86,8 @@ impl<T: Drop> Text<T> {
         path: &str,
         log: LeftLog,
     ) -> io::Result<Option<Vec<u8>>>
-        ensures own { IfOk result (IsOwnBeside path.now log.stamp self.old.own self.new.own
-            (F.steps folder.new)) }
+        ensures own { IfOk result (IsOwnBeside (option_map F.file_of self.new.file) path.now
+            log.stamp self.old.own self.new.own (F.steps folder.new)) }
         ensures quiet { IsQuiet (F.steps folder.old) (F.steps folder.new) }
     {
         match open_again(folder, path, false) {
@@ -119,8 +121,9 @@ impl<T: Drop> Text<T> {
         bytes: &[u8],
         log: Option<&T>,
     ) -> io::Result<()>
-        ensures { OnOk result (PutsText (string_bytes paths.now.next_text)
-            (string_bytes paths.now.text) bytes.now self.old.own self.new.own
+        ensures { OnOk result (PutsText (option_map (λ l. F.file_of l.now) log.entry)
+            (string_bytes paths.now.next_text) (string_bytes paths.now.text)
+            bytes.now self.old.own self.new.own
             (F.steps folder.new)) }
     {
         self.replaced = None;
@@ -149,15 +152,16 @@ impl<T: Drop> Text<T> {
         folder: &mut F,
         alloc: Global,
         paths: &Paths,
-        mut next: T,
+        next: T,
         bytes: &[u8],
         log: Option<&T>,
     ) -> io::Result<()>
-        ensures { OnOk result (PutsBeside (string_bytes paths.now.next_text)
+        ensures { OnOk result (PutsBeside (F.file_of next)
+            (option_map (λ l. F.file_of l.now) log.entry) (string_bytes paths.now.next_text)
             (string_bytes paths.now.text) bytes.now self.old.own self.new.own
             (F.steps folder.old) (F.steps folder.new)) }
     {
-        let answer = name_next(folder, alloc, paths, &mut next, self.own, bytes, log);
+        let answer = name_next(folder, alloc, paths, &next, self.own, bytes, log);
         let named = match answer {
             Ok(named) => named,
             Err(error) => {
@@ -180,12 +184,13 @@ impl<T: Drop> Text<T> {
         bytes: &[u8],
         log: Option<&T>,
     ) -> io::Result<()>
-        ensures { OnOk result (PutsInPlace path.now bytes.now self.old.own self.new.own
+        ensures { OnOk result (PutsInPlace (option_map (λ l. F.file_of l.now) log.entry)
+            path.now bytes.now self.old.own self.new.own
             (F.steps folder.old) (F.steps folder.new)) }
     {
         let spare = spare_text(folder, alloc, path, self.own, bytes, Keeping::ByCopy)?;
-        let mut file = folder.overwrite(spare)?;
-        folder.write(&mut file, bytes)?;
+        let file = folder.overwrite(spare)?;
+        folder.write(&file, bytes)?;
         sync_dated(folder, &file, log, Some(LATER))?;
         self.own = Some(folder.look_at(&file)?.stamp);
         Ok(())
@@ -197,12 +202,13 @@ fn name_next<F: Folder>(
     folder: &mut F,
     alloc: Global,
     paths: &Paths,
-    next: &mut F::File,
+    next: &F::File,
     own: Option<Stamp>,
     bytes: &[u8],
     log: Option<&F::File>,
 ) -> io::Result<Named>
-    ensures { IfOk result (NamesText (string_bytes paths.now.next_text)
+    ensures { IfOk result (NamesText (F.file_of next.now)
+        (option_map (λ l. F.file_of l.now) log.entry) (string_bytes paths.now.next_text)
         (string_bytes paths.now.text) bytes.now own (F.steps folder.old) (F.steps folder.new)) }
 {
     check_lock(folder.lock(next)?)?;
@@ -224,7 +230,8 @@ fn make_next<F: Folder>(
     paths: &Paths,
     is_there: bool,
 ) -> io::Result<Option<F::File>>
-    ensures { IfOk result (λ o. IfSome o (λ _. MakesNextText (string_bytes paths.now.next_text)
+    ensures { IfOk result (λ o. IfSome o (λ file. MakesNextText (F.file_of file)
+        (string_bytes paths.now.next_text)
         (string_bytes paths.now.text) is_there (F.steps folder.old) (F.steps folder.new))) }
 {
     let path = paths.next_text.as_str();
@@ -242,8 +249,8 @@ fn make_like<F: Folder>(
     path: &str,
     like: Look,
 ) -> io::Result<Option<F::File>>
-    ensures { IfOk result (λ o. IfSome o (λ _.
-        MakesLike path.now like (F.steps folder.old) (F.steps folder.new))) }
+    ensures { IfOk result (λ o. IfSome o (λ file.
+        MakesLike (F.file_of file) path.now like (F.steps folder.old) (F.steps folder.new))) }
 {
     let Ok(next) = make_beside(folder, alloc, path, 0) else {
         return only_name(like);

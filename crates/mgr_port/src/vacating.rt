@@ -1,5 +1,5 @@
 //! Paths that go, or are given to another file.
-ghost use Rattle.std.specs.Prelude.{◌≡◌, IfOk, OnErr, OnOk};
+ghost use Rattle.std.specs.Prelude.{IfOk, OnErr, OnOk};
 ghost use Rattle.mgr_port.specs.Folder.{IsIdle};
 ghost use Rattle.mgr_port.specs.Locks.{MakesBeside};
 ghost use Rattle.mgr_port.specs.Spares.{GivesFreeName, IsOfFile, IsOneOfMore, IsVacated, MakesWay};
@@ -46,8 +46,10 @@ pub fn make_way<F: Folder>(folder: &mut F, alloc: Global, path: &str) -> io::Res
 /// Removes a path, if it stands for a file that is open.
 pub fn remove_open<F: Folder>(folder: &mut F, path: &str, file: &F::File) -> io::Result<()>
     ensures removed { OnOk result
-        (RemovesIf IsOfFile path.now (F.steps folder.old) (F.steps folder.new)) }
-    ensures tried { MayRemove IsOfFile path.now (F.steps folder.old) (F.steps folder.new) }
+        (RemovesIf IsOfFile (F.file_of file.now) path.now
+        (F.steps folder.old) (F.steps folder.new)) }
+    ensures tried { MayRemove IsOfFile (F.file_of file.now) path.now
+        (F.steps folder.old) (F.steps folder.new) }
 {
     let open = folder.look_at(file)?;
     match folder.follow(path)?.if_open(open) {
@@ -63,8 +65,10 @@ pub(crate) fn remove_second_name<F: Folder>(
     file: &F::File,
 ) -> io::Result<()>
     ensures removed { OnOk result
-        (RemovesIf IsOneOfMore path.now (F.steps folder.old) (F.steps folder.new)) }
-    ensures tried { MayRemove IsOneOfMore path.now (F.steps folder.old) (F.steps folder.new) }
+        (RemovesIf IsOneOfMore (F.file_of file.now) path.now
+        (F.steps folder.old) (F.steps folder.new)) }
+    ensures tried { MayRemove IsOneOfMore (F.file_of file.now) path.now
+        (F.steps folder.old) (F.steps folder.new) }
 {
     let open = folder.look_at(file)?;
     match folder.follow(path)?.if_second_name(open) {
@@ -103,8 +107,8 @@ pub(crate) fn make_beside<F: Folder>(
     path: &str,
     mode: u32,
 ) -> io::Result<F::File>
-    ensures { IfOk result (λ _.
-        MakesBeside path.now mode (F.steps folder.old) (F.steps folder.new)) }
+    ensures { IfOk result (λ file.
+        MakesBeside (F.file_of file) path.now mode (F.steps folder.old) (F.steps folder.new)) }
 {
     make_way(folder, alloc, path)?;
     folder.open(path, Opening::New(mode))

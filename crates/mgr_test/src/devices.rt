@@ -1,5 +1,5 @@
-//! Devices whose calls are counted.
-use rga_exchange::Counted;
+//! Devices whose calls are counted, and that fail from some call on.
+use rga_exchange::{Counted, Fuse};
 use std::alloc::Global;
 use std::io;
 use std::io::{ErrorKind, Read, Write};
@@ -143,13 +143,32 @@ enum Request {
     Flush,
 }
 
-/// How many calls a request makes of a device that answers so.
-fn calls_of(request: Request, fault: Option<ErrorKind>) -> u64 {
-    let mut device = Counted::new(Recording { calls: 0, fault });
+fn ask<D: Read + Write>(device: &mut D, request: Request) {
     match request {
         Request::Read => drop(device.read(&mut [0u8; 2])),
         Request::Write => drop(device.write(b"ab")),
         Request::Flush => drop(device.flush()),
+    }
+}
+
+/// How many calls a request makes of a device that answers so.
+fn calls_of(request: Request, fault: Option<ErrorKind>) -> u64 {
+    let mut device = Counted::new(Recording { calls: 0, fault });
+    ask(&mut device, request);
+    device.into_inner().calls
+}
+
+/// How many calls come through a fuse for so many, if one of each kind is made.
+fn calls_through(calls: u64) -> u64 {
+    let mut device = Fuse::new(
+        Recording {
+            calls: 0,
+            fault: None,
+        },
+        calls,
+    );
+    for request in [Request::Flush, Request::Read, Request::Write] {
+        ask(&mut device, request);
     }
     device.into_inner().calls
 }
@@ -165,5 +184,17 @@ fn a_call_is_one_call_of_the_device(rt: HostRuntime) {
         assert!(rt; calls_of(Request::Read, *fault) == 1, "a read, {fault:?}");
         assert!(rt; calls_of(Request::Write, *fault) == 1, "a write, {fault:?}");
         assert!(rt; calls_of(Request::Flush, *fault) == 1, "a flush, {fault:?}");
+    }
+}
+
+#[test]
+fn a_fuse_passes_on_its_calls_and_no_more(rt: HostRuntime) {
+    const ROWS: &[(u64, u64, &str)] = &[
+        (0, 0, "nothing"),
+        (1, 2, "a flush, and a read"),
+        (2, 3, "a flush, a read and a write"),
+    ];
+    for (calls, passed, what) in ROWS {
+        assert!(rt; calls_through(*calls) == *passed, "{what}");
     }
 }

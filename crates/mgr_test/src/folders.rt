@@ -144,7 +144,7 @@ fn put(folder: &mut MemoryFiles, alloc: Global, old: Old<'_>) -> io::Result<Name
         later: None,
         old,
     };
-    put_whole(folder, alloc, &mut 0, None, staged, b"text")
+    put_whole(folder, alloc, &0, None, staged, b"text")
 }
 
 /// What is done, what stands before, what is answered, and names with what they have then, if

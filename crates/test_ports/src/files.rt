@@ -15,25 +15,25 @@ pub(crate) enum Step {
     Looks(String, Option<Look>),
     Follows(String, Option<Look>),
     Resolves(String, String),
-    LooksAt(Look),
-    Opens(String, Opening),
-    Locks(Lock),
-    Ends(u64, Option<End>),
-    EndsInNewline(u64, bool),
-    Adds(Vec<u8>),
-    Empties,
-    SetsMode(u32),
-    GivesTo(Owner),
-    Dates(u64),
-    Syncs,
+    LooksAt(usize, Look),
+    Opens(usize, String, Opening),
+    Locks(usize, Lock),
+    Ends(usize, u64, Option<End>),
+    EndsInNewline(usize, u64, bool),
+    Adds(usize, Vec<u8>),
+    Empties(usize),
+    SetsMode(usize, u32),
+    GivesTo(usize, Owner),
+    Dates(usize, usize, u64),
+    Syncs(usize),
     SyncsFolder(String),
-    ReadsAll(Vec<u8>),
+    ReadsAll(usize, Vec<u8>),
     Reads(String, Vec<u8>),
     Links(String, String),
     Makes(String, Vec<u8>),
     Removes(String),
     Renames(String, String),
-    Overwrites(String),
+    Overwrites(usize, String),
 }
 
 /// The same, as a folder tells it.
@@ -224,6 +224,8 @@ impl Folder for MemoryFiles {
 
     ghost steps = { λ folder. Some folder.steps.items };
 
+    ghost file_of = { λ file. file };
+
     fn look<'p>(&mut self, path: &'p str) -> io::Result<Standing<'p>> {
         let found = self.found(path);
         self.note(Step::Looks(self.copy_of(path)?, found))?;
@@ -245,7 +247,7 @@ impl Folder for MemoryFiles {
 
     fn look_at(&mut self, file: &usize) -> io::Result<Look> {
         let look = self.look_of(Some(*file));
-        self.note(Step::LooksAt(look))?;
+        self.note(Step::LooksAt(*file, look))?;
         Ok(look)
     }
 
@@ -266,7 +268,7 @@ impl Folder for MemoryFiles {
         if made.is_some() {
             self.give_name(path, made)?;
         }
-        self.note(Step::Opens(copy, opening))?;
+        self.note(Step::Opens(file, copy, opening))?;
         Ok(file)
     }
 
@@ -275,7 +277,7 @@ impl Folder for MemoryFiles {
             Some(file) if file.is_locked => Lock::Others,
             _ => Lock::Own,
         };
-        self.note(Step::Locks(lock))?;
+        self.note(Step::Locks(*file, lock))?;
         Ok(lock)
     }
 
@@ -284,7 +286,7 @@ impl Folder for MemoryFiles {
             Some(file) => End::of_bytes(&file.bytes, length),
             None => None,
         };
-        self.note(Step::Ends(length, end))?;
+        self.note(Step::Ends(*file, length, end))?;
         Ok(end)
     }
 
@@ -293,14 +295,14 @@ impl Folder for MemoryFiles {
             Some(file) => file.bytes.as_slice().last() == Some(&b'\n'),
             None => false,
         };
-        self.note(Step::EndsInNewline(length, is))?;
+        self.note(Step::EndsInNewline(*file, length, is))?;
         Ok(is)
     }
 
     fn add_lines(
         &mut self,
         _path: &str,
-        log: &mut usize,
+        log: &usize,
         _left: &LeftLog,
         lines: &LogLines,
     ) -> io::Result<()> {
@@ -308,50 +310,50 @@ impl Folder for MemoryFiles {
     }
 
     fn empty(&mut self, file: &usize) -> io::Result<()> {
-        if let Some(file) = self.files.get_mut(*file) {
-            file.bytes.clear();
+        if let Some(opened) = self.files.get_mut(*file) {
+            opened.bytes.clear();
         }
-        self.note(Step::Empties)
+        self.note(Step::Empties(*file))
     }
 
-    fn write(&mut self, file: &mut usize, bytes: &[u8]) -> io::Result<()> {
+    fn write(&mut self, file: &usize, bytes: &[u8]) -> io::Result<()> {
         let copy = Vec::from_slice(self.alloc, bytes)?;
-        if let Some(file) = self.files.get_mut(*file) {
-            file.bytes.extend_from_slice(bytes)?;
+        if let Some(opened) = self.files.get_mut(*file) {
+            opened.bytes.extend_from_slice(bytes)?;
         }
-        self.note(Step::Adds(copy))
+        self.note(Step::Adds(*file, copy))
     }
 
-    fn write_lines(&mut self, file: &mut usize, lines: &LogLines) -> io::Result<()> {
+    fn write_lines(&mut self, file: &usize, lines: &LogLines) -> io::Result<()> {
         self.write(file, &lines.to_vec()?)
     }
 
-    fn set_mode(&mut self, _file: &usize, mode: u32) -> io::Result<()> {
-        self.note(Step::SetsMode(mode))
+    fn set_mode(&mut self, file: &usize, mode: u32) -> io::Result<()> {
+        self.note(Step::SetsMode(*file, mode))
     }
 
-    fn give_to(&mut self, _file: &usize, owner: Owner) -> io::Result<()> {
-        self.note(Step::GivesTo(owner))
+    fn give_to(&mut self, file: &usize, owner: Owner) -> io::Result<()> {
+        self.note(Step::GivesTo(*file, owner))
     }
 
-    fn date(&mut self, _file: &usize, _of: &usize, later: u64) -> io::Result<()> {
-        self.note(Step::Dates(later))
+    fn date(&mut self, file: &usize, of: &usize, later: u64) -> io::Result<()> {
+        self.note(Step::Dates(*file, *of, later))
     }
 
-    fn sync(&mut self, _file: &usize) -> io::Result<()> {
-        self.note(Step::Syncs)
+    fn sync(&mut self, file: &usize) -> io::Result<()> {
+        self.note(Step::Syncs(*file))
     }
 
     fn sync_folder(&mut self, path: &str) -> io::Result<()> {
         self.note(Step::SyncsFolder(self.copy_of(path)?))
     }
 
-    fn read_all(&mut self, file: &mut usize) -> io::Result<Vec<u8>> {
+    fn read_all(&mut self, file: &usize) -> io::Result<Vec<u8>> {
         let bytes = match self.files.get(*file) {
-            Some(file) => Vec::from_slice(self.alloc, &file.bytes)?,
+            Some(opened) => Vec::from_slice(self.alloc, &opened.bytes)?,
             None => Vec::new(self.alloc),
         };
-        self.note(Step::ReadsAll(Vec::from_slice(self.alloc, &bytes)?))?;
+        self.note(Step::ReadsAll(*file, Vec::from_slice(self.alloc, &bytes)?))?;
         Ok(bytes)
     }
 
@@ -397,9 +399,9 @@ impl Folder for MemoryFiles {
 
     fn overwrite(&mut self, spare: Spare<'_>) -> io::Result<usize> {
         let file = self.file_there(spare.path())?;
-        let step = Step::Overwrites(self.copy_of(spare.path())?);
-        if let Some(file) = self.files.get_mut(file) {
-            file.bytes.clear();
+        let step = Step::Overwrites(file, self.copy_of(spare.path())?);
+        if let Some(opened) = self.files.get_mut(file) {
+            opened.bytes.clear();
         }
         self.note(step)?;
         Ok(file)

@@ -1,8 +1,18 @@
-use Rattle.mgr_port.proofs.WorldLaws.{grown, kept_in_front}
+use Rattle.mgr_port.proofs.BytesLaws.{before_quiet, front_is_there, lines_are_there, read_is_there}
+use Rattle.mgr_port.proofs.WorldLaws.{grown}
 use Rattle.mgr_port.proofs.laws.a_log_that_was_read_only_grows.Goals as goal
 
 pub returns-clause-grown : goal.returns-clause-grown
 returns-clause-grown c file before a b left found ends long may shown = grown file before a b left found ends long may shown
 
-pub returns-clause-kept : goal.returns-clause-kept
-returns-clause-kept c file lines a b e d grows added more = kept_in_front file lines a b e d grows added more
+pub returns-clause-read : goal.returns-clause-read
+returns-clause-read c file path next read bytes left now loads has = read_is_there file path next read left bytes now loads has
+
+pub returns-clause-added : goal.returns-clause-added
+returns-clause-added c file path lines bytes left longer old now added has = lines_are_there file path left lines longer bytes old now added has
+
+pub returns-clause-failed : goal.returns-clause-failed
+returns-clause-failed c file lines bytes old now front has = front_is_there file lines bytes old now front has
+
+pub returns-clause-quiet : goal.returns-clause-quiet
+returns-clause-quiet c file bytes old now quiet has = before_quiet file old now bytes quiet has

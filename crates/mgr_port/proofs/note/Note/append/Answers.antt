@@ -1,11 +1,11 @@
-use Rattle.std.proofs.Common.{◌∙◌, ap, refl, sym}
-use Rattle.std.specs.Prelude.{is_some}
+use Rattle.std.proofs.Common.{◌∙◌, ap, sym}
+use Rattle.std.specs.Option.{option_map}
 use Rattle.mgr_port.proofs.NotesLaws.{added_to, made_after_look, none_stands}
 use Rattle.mgr_port.proofs.note.Note.append.Goals as goal
 
 pub returns-in-Some-clause-added : goal.returns-in-Some-clause-added
-returns-in-Some-clause-added g c = added_to _ _ c.in-Some.log (λ log. log.left) _ _ _ _ _ _ c.in-Some.is c.as_str-path.ensures.value c.append.ensures.added
+returns-in-Some-clause-added g c = added_to _ _ c.in-Some.log (λ log. log.file) g.F.Folder.file_of (λ log. log.left) _ _ _ _ _ _ _ c.in-Some.is c.as_str-path.ensures.value c.append.ensures.file c.append.ensures.added
 
 pub returns-clause-made : goal.returns-clause-made
 returns-clause-made g c = λ none.
-    made_after_look _ _ (λ log. log.left) _ _ _ _ _ _ _ _ _ _ _ _ (ap is_some none) c.as_str-path.ensures.value (none_stands c.in_ok-follow.field-0.found (sym c.is_some.ensures ∙ c.if-is_some.false)) c.in_ok-follow.ensures.step c.make_log.ensures
+    made_after_look _ _ (λ log. g.F.Folder.file_of log.file) (λ log. log.left) _ _ _ _ _ _ _ _ _ _ _ _ (ap (option_map (λ log. g.F.Folder.file_of log.file)) none) c.as_str-path.ensures.value (none_stands c.in_ok-follow.field-0.found (sym c.is_some.ensures ∙ c.if-is_some.false)) c.in_ok-follow.ensures.step c.make_log.ensures
