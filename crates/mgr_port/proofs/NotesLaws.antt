@@ -104,8 +104,8 @@ put_beside (Ok x) named.Settled file log path name bytes own before put now look
 put_beside (Ok x) (named.Unsettled error) file log path name bytes own before put now look settled named step = absurd settled
 
 -- it was written where it stands
-pub put_in_place : {A E : Type 0} (r : Result A E) (log : Option ℕ) (path name spelled bytes : List ℕ) (known own now_own : Option Stamp) (seen now : History) → spelled ≡ name
-    → OnOk r (PutsInPlace log spelled bytes known now_own seen now) → OnOk r (PutsText log path name bytes own now_own now)
-put_in_place (Err e) log path name spelled bytes known own now_own seen now same puts = tt
-put_in_place (Ok x) log path name spelled bytes known own now_own seen now same puts =
+pub put_in_place : {A E : Type 0} (r : Result A E) (log text : Option ℕ) (path name spelled bytes : List ℕ) (known own now_own : Option Stamp) (before seen now : History) → spelled ≡ name
+    → OnOk r (PutsInPlace log spelled bytes known now_own seen now) → OnOk r (PutsText log text path name bytes own now_own before now)
+put_in_place (Err e) log text path name spelled bytes known own now_own before seen now same puts = tt
+put_in_place (Ok x) log text path name spelled bytes known own now_own before seen now same puts =
     inr (known, seen, subst (λ p. PutsInPlace log p bytes known now_own seen now) same puts)

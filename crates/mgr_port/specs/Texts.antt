@@ -1,13 +1,14 @@
 -- How a text, and a new file for it, come under a name.
 use Rattle.std.specs.Prelude.{◌≡◌, ◌≢◌, ◌⊎◌, ℕ, List, Bool, true, false, Option, Some, None}
 use Rattle.mgr_port.specs.Disk.{steps_to, whole_steps}
-use Rattle.mgr_port.specs.Folder.{History, Adds, Follows, GivesTo, Locks, Looks, LooksAt, Overwrites, SetsMode, after}
+use Rattle.mgr_port.specs.Folder.{History, Adds, Follows, GivesTo, Locks, Looks, LooksAt, Opens, Overwrites, SetsMode, after}
 use Rattle.mgr_port.specs.Locks.{MakesBeside, OpensLocked}
 use Rattle.mgr_port.specs.Spares.{SparesText}
 use Rattle.mgr_port.specs.Staging.{DoesAll, SyncsDated}
 use Rattle.mgr_port.specs.Verdicts.{IsDatedBy, mode_like}
 use Rattle.mgr_port.specs.declared.folder.Lock.{Lock}
 use Rattle.mgr_port.specs.declared.folder.Lock.TheVariants as lock
+use Rattle.mgr_port.specs.declared.folder.Opening.TheVariants as opening
 use Rattle.mgr_port.specs.declared.spare.Look.{Look}
 use Rattle.mgr_port.specs.declared.spare.Owner.{Owner}
 use Rattle.mgr_port.specs.declared.staged.Named.{Named}
@@ -82,11 +83,18 @@ PutsInPlace log path bytes own now_own before now =
     × SparesText path own bytes before spared × (emptied ≡ after (Overwrites file path) spared)
     × (written ≡ after (Adds file bytes) emptied) × SyncsDated file log (Some 100) written synced × (now ≡ after (LooksAt file look) synced) × (now_own ≡ Some look.stamp)
 
--- a new file for the text is made, gets its bytes and then the name; or the text is written where it stands
-abbrev pub PutsText : Option ℕ → List ℕ → List ℕ → List ℕ → Option Stamp → Option Stamp → History → Type 0
-PutsText log path name bytes own now_own now =
-    ((file : ℕ) × (is_there : Bool) × (seen : History) × (made : History) × MakesNextText file path name is_there seen made
-    × PutsBeside file log path name bytes own now_own made now)
+-- whether a text is there: then it is a plain file, which was opened to be written
+abbrev pub IsThere : List ℕ → History → History → Bool → Type 0
+IsThere path before now false = FollowsPlain path before now None
+IsThere path before now true =
+    (look : Look) × (file : ℕ) × (followed : History) × FollowsPlain path before followed (Some look) × (now ≡ after (Opens file path opening.Write) followed)
+
+-- A new file for the text is made, gets its bytes and then the name, and is the one that is open; or the text is written
+-- where it stands.
+abbrev pub PutsText : Option ℕ → Option ℕ → List ℕ → List ℕ → List ℕ → Option Stamp → Option Stamp → History → History → Type 0
+PutsText log text path name bytes own now_own before now =
+    ((file : ℕ) × (is_there : Bool) × (seen : History) × (made : History) × IsThere name before seen is_there
+    × MakesNextText file path name is_there seen made × PutsBeside file log path name bytes own now_own made now × (text ≡ Some file))
     ⊎ ((known : Option Stamp) × (seen : History) × PutsInPlace log name bytes known now_own seen now)
 
 -- a text beside a log is this port's own if it is dated by that log; or what it was stays

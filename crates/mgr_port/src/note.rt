@@ -219,9 +219,10 @@ impl<T: Drop> Note<T> {
         bytes: &[u8],
     ) -> io::Result<()>
         ensures { OnOk result (PutsText (option_map (λ log. F.file_of log.file) self.old.log)
+            (option_map F.file_of self.new.text.file)
             (string_bytes self.old.paths.next_text) (string_bytes self.old.paths.text)
             bytes.now self.old.text.own self.new.text.own
-            (F.steps folder.new)) }
+            (F.steps folder.old) (F.steps folder.new)) }
     {
         self.text
             .put(folder, alloc, &self.paths, bytes, file_of(&self.log))

@@ -1,9 +1,9 @@
 //! A text, as this port found and left it.
 ghost use Rattle.std.specs.Option.{option_map};
-ghost use Rattle.std.specs.Prelude.{◌≡◌, ◌≤◌, None, IfOk, IfSome, OnOk, string_bytes};
+ghost use Rattle.std.specs.Prelude.{◌≡◌, ◌≤◌, None, Some, IfOk, IfSome, OnOk, string_bytes};
 ghost use Rattle.mgr_port.specs.Folder.{IsQuiet};
 ghost use Rattle.mgr_port.specs.Locks.{IsOwnRead};
-ghost use Rattle.mgr_port.specs.Texts.{IsOwnBeside, MakesLike, MakesNextText, NamesText, PutsBeside, PutsInPlace, PutsText};
+ghost use Rattle.mgr_port.specs.Texts.{IsOwnBeside, IsThere, MakesLike, MakesNextText, NamesText, PutsBeside, PutsInPlace, PutsText};
 
 use crate::files::{plain_if_there, take_owner};
 use crate::folder::{Folder, Opening};
@@ -122,17 +122,15 @@ impl<T: Drop> Text<T> {
         log: Option<&T>,
     ) -> io::Result<()>
         ensures { OnOk result (PutsText (option_map (λ l. F.file_of l.now) log.entry)
+            (option_map F.file_of self.new.file)
             (string_bytes paths.now.next_text) (string_bytes paths.now.text)
             bytes.now self.old.own self.new.own
-            (F.steps folder.new)) }
+            (F.steps folder.old) (F.steps folder.new)) }
     {
         self.replaced = None;
         let path = paths.text.as_str();
-        let there = plain_if_there(folder, path)?;
-        if there.is_some() {
-            drop(folder.open(path, Opening::Write)?);
-        }
-        let next = make_next(folder, alloc, paths, there.is_some())?;
+        let is_there = is_there(folder, path)?;
+        let next = make_next(folder, alloc, paths, is_there)?;
         let Some(next) = next else {
             return self.put_in_place(folder, alloc, path, bytes, log);
         };
@@ -156,7 +154,8 @@ impl<T: Drop> Text<T> {
         bytes: &[u8],
         log: Option<&T>,
     ) -> io::Result<()>
-        ensures { OnOk result (PutsBeside (F.file_of next)
+        ensures file { OnOk result (self.new.file ≡ Some next) }
+        ensures put { OnOk result (PutsBeside (F.file_of next)
             (option_map (λ l. F.file_of l.now) log.entry) (string_bytes paths.now.next_text)
             (string_bytes paths.now.text) bytes.now self.old.own self.new.own
             (F.steps folder.old) (F.steps folder.new)) }
@@ -195,6 +194,17 @@ impl<T: Drop> Text<T> {
         self.own = Some(folder.look_at(&file)?.stamp);
         Ok(())
     }
+}
+
+/// Whether a text is there, which may be written then. `InvalidInput` where it is no plain file.
+fn is_there<F: Folder>(folder: &mut F, path: &str) -> io::Result<bool>
+    ensures { IfOk result (IsThere path.now (F.steps folder.old) (F.steps folder.new)) }
+{
+    if plain_if_there(folder, path)?.is_none() {
+        return Ok(false);
+    }
+    drop(folder.open(path, Opening::Write)?);
+    Ok(true)
 }
 
 /// Locks the next text, writes all of it, and gives it the text's name.
