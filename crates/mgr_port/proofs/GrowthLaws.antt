@@ -32,6 +32,12 @@ pub quiet_longer : {A E : Type 0} (r : Result A E) (file : ℕ) (a b c d e : His
 quiet_longer r file a b c d e look size end one two three quiet =
     only_chain a d e (only_more a c d (Ends file size end) (only_more a b c (LooksAt file look) (synced r file a b one) two tt) three tt) quiet
 
+pub quiet_look_at : (a b : History) (file : ℕ) (look : Look) → b ≡ after (LooksAt file look) a → IsQuiet a b
+quiet_look_at a b file look is = quiet_one a b (LooksAt file look) is tt
+
+pub quiet_look_at_end : (a b c : History) (file : ℕ) (look : Look) (size : ℕ) (end : Option End) → b ≡ after (LooksAt file look) a → c ≡ after (Ends file size end) b → IsQuiet a c
+quiet_look_at_end a b c file look size end one two = only_more a b c (Ends file size end) (quiet_look_at a b file look one) two tt
+
 -- ---- an append that failed
 
 pub adds_none : (file : ℕ) (lines : List ℕ) (a b : History) → IsQuiet a b → AddsFront file lines a b

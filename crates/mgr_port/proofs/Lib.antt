@@ -5,6 +5,7 @@ pub mod GrowthLaws
 pub mod LogsLaws
 pub mod NamesLaws
 pub mod NotesLaws
+pub mod PlaceLaws
 pub mod RaisedLaws
 pub mod RewritingLaws
 pub mod StagingLaws

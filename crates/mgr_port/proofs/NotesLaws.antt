@@ -7,6 +7,7 @@ use Rattle.mgr_port.specs.Folder.{History, Follows, IsQuiet, LooksAt, after}
 use Rattle.mgr_port.specs.Growth.{IsAdded}
 use Rattle.mgr_port.specs.Locks.{IsTaken, OpensLocked}
 use Rattle.mgr_port.specs.Notes.{IsLeftAt, LoadsLog, MakesLog, MakesRoom, MakesRoomIf, NamesLog, ReadsLog, TakesRights, old_for}
+use Rattle.mgr_port.specs.Spares.{ChangesOnlyAt}
 use Rattle.mgr_port.specs.Staging.{DoesAll, IsSettled}
 use Rattle.mgr_port.specs.Texts.{NamesText, PutsBeside, PutsInPlace, PutsText}
 use Rattle.mgr_port.specs.declared.log.LeftLog.{LeftLog}
@@ -27,10 +28,10 @@ named_log (Ok n) file log s path name text spelled standing lines before righted
 
 -- the log has its name, on the device
 pub made_log : {A E : Type 0} (r : Result A E) (n : Named) (was log : Option ℕ) (file : ℕ) (path spelled name text : List ℕ) (standing : Option Look) (lines : List ℕ) (left : LeftLog) (before roomy taken put looked now : History) (look : Look)
-    → OnOk r (IsSettled n) → spelled ≡ path → log ≡ was → MakesRoomIf was path before roomy → IsTaken file spelled roomy taken → NamesLog file log path name text standing (steps_to n lines) taken put
+    → OnOk r (IsSettled n) → spelled ≡ path → log ≡ was → MakesRoomIf was path before roomy → IsTaken file spelled roomy taken → ChangesOnlyAt spelled roomy taken → NamesLog file log path name text standing (steps_to n lines) taken put
     → looked ≡ after (LooksAt file look) put → IsLeftAt file left look.stamp.length looked now → OnOk r (MakesLog was file path name text standing lines left before now)
-made_log (Err e) n was log file path spelled name text standing lines left before roomy taken put looked now look settled is known room took named step leaves = tt
-made_log (Ok x) named.Settled was log file path spelled name text standing lines left before roomy taken put looked now look settled is known room took named step (seen, at, one, two, same) = (
+made_log (Err e) n was log file path spelled name text standing lines left before roomy taken put looked now look settled is known room took only named step leaves = tt
+made_log (Ok x) named.Settled was log file path spelled name text standing lines left before roomy taken put looked now look settled is known room took only named step (seen, at, one, two, same) = (
   roomy,
   taken,
   put,
@@ -38,11 +39,12 @@ made_log (Ok x) named.Settled was log file path spelled name text standing lines
   looked,
   room,
   subst (λ p. IsTaken file p roomy taken) is took,
+  subst (λ p. ChangesOnlyAt p roomy taken) is only,
   subst (λ l. NamesLog file l path name text standing (whole_steps lines) taken put) known named,
   step,
   (seen, at, one, two, same),
 )
-made_log (Ok x) (named.Unsettled error) was log file path spelled name text standing lines left before roomy taken put looked now look settled is known room took named step leaves = absurd settled
+made_log (Ok x) (named.Unsettled error) was log file path spelled name text standing lines left before roomy taken put looked now look settled is known room took only named step leaves = absurd settled
 
 -- the log that is open has made room
 pub room_made : {A B E : Type 0} (r : Result A E) (o : Option B) (log : B) (file_of : B → ℕ) (path spelled : List ℕ) (a b : History) → o ≡ Some log → spelled ≡ path

@@ -3,7 +3,7 @@ use Rattle.std.specs.Prelude.{◌≡◌, ◌⊎◌, ℕ, List, Option, Some, Non
 use Rattle.mgr_port.specs.Disk.{DiskStep, whole_steps}
 use Rattle.mgr_port.specs.Folder.{History, Ends, Follows, IsQuiet, LooksAt, ReadsAll, SetsMode, after}
 use Rattle.mgr_port.specs.Locks.{HoldsNext, IsTaken, OpensLocked, StandsFor, StandsForAnother}
-use Rattle.mgr_port.specs.Spares.{IsOfFile, IsOneOfMore, MakesWay, MayRemove, RemovesIf}
+use Rattle.mgr_port.specs.Spares.{ChangesOnlyAt, IsOfFile, IsOneOfMore, MakesWay, MayRemove, RemovesIf}
 use Rattle.mgr_port.specs.Staging.{DoesAll}
 use Rattle.mgr_port.specs.Texts.{TakesMode}
 use Rattle.mgr_port.specs.declared.log.LeftLog.{LeftLog}
@@ -85,5 +85,5 @@ NamesLog file log path name text standing steps before now =
 abbrev pub MakesLog : Option ℕ → ℕ → List ℕ → List ℕ → List ℕ → Option Look → List ℕ → LeftLog → History → History → Type 0
 MakesLog old file path name text standing lines left before now =
     (roomy : History) × (taken : History) × (put : History) × (look : Look) × (looked : History)
-    × MakesRoomIf old path before roomy × IsTaken file path roomy taken × NamesLog file old path name text standing (whole_steps lines) taken put
+    × MakesRoomIf old path before roomy × IsTaken file path roomy taken × ChangesOnlyAt path roomy taken × NamesLog file old path name text standing (whole_steps lines) taken put
     × (looked ≡ after (LooksAt file look) put) × IsLeftAt file left look.stamp.length looked now

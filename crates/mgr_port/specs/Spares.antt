@@ -1,7 +1,8 @@
 -- Why nothing is lost of what stands under a path if that goes.
 use Rattle.std.specs.Prelude.{◌≡◌, ◌⊎◌, ◌<◌, ℕ, List, ◌++◌, ◌∷◌, [], false, Option, Some, None}
-use Rattle.mgr_port.specs.Folder.{History, IsIdle, Looks, Follows, LooksAt, Reads, Links, Makes, Removes, Renames, after}
+use Rattle.mgr_port.specs.Folder.{History, FolderStep, IsIdle, IsIdleStep, IsQuietStep, Only, Looks, Follows, LooksAt, Opens, Reads, ReadsAll, Links, Makes, Removes, Renames, after}
 use Rattle.mgr_port.specs.Verdicts.{AreOfOneFile}
+use Rattle.mgr_port.specs.declared.folder.Opening.TheVariants as opening
 use Rattle.mgr_port.specs.declared.spare.Look.{Look}
 use Rattle.mgr_port.specs.declared.spare.Reason.{Reason}
 use Rattle.mgr_port.specs.declared.spare.Reason.TheVariants as reason
@@ -114,3 +115,17 @@ abbrev pub GivesFreeName : List ℕ → List ℕ → History → History → Typ
 GivesFreeName path name old now =
     ((linked : History) × (linked ≡ after (Links path name) old) × ((now ≡ linked) ⊎ (now ≡ after (Removes path) linked)))
     ⊎ ((looked : History) × (looked ≡ after (Looks name None) old) × (now ≡ after (Renames path name) looked))
+
+-- ---- what changes at one path alone
+
+-- A file is opened to be added to, or made there; what stands there is kept, or goes. An open file is read.
+abbrev pub IsStepAt : List ℕ → FolderStep → Type 0
+IsStepAt path (Opens file other opening.Beside) = other ≡ path
+IsStepAt path (Links other name) = (other ≡ path) × EndsInTilde name
+IsStepAt path (Makes name bytes) = EndsInTilde name
+IsStepAt path (Removes other) = other ≡ path
+IsStepAt path (ReadsAll file bytes) = Unit {0}
+IsStepAt path other = ⊥
+
+abbrev pub ChangesOnlyAt : List ℕ → History → History → Type 0
+ChangesOnlyAt path old now = Only (λ step. IsIdleStep step ⊎ IsQuietStep step ⊎ IsStepAt path step) old now

@@ -4,6 +4,7 @@ ghost use Rattle.mgr_port.specs.declared.folder.Lock.TheVariants as Lock;
 ghost use Rattle.mgr_port.specs.Folder.{IsQuiet};
 ghost use Rattle.mgr_port.specs.Locks.{Holds, HoldsEmpty, IsHeldEmpty, IsOpened};
 ghost use Rattle.mgr_port.specs.Locks.{OpensBeside, OpensLocked, OpensPlain, ShowsStanding};
+ghost use Rattle.mgr_port.specs.Spares.{ChangesOnlyAt};
 
 use crate::folder::{Folder, Lock, Opening};
 use crate::vacating::make_way;
@@ -132,8 +133,9 @@ pub(crate) fn open_again<F: Folder>(
 /// read it. What is written goes to its end. What stands there and is no plain file makes way, so
 /// that nothing is written through a link.
 pub(crate) fn open_beside<F: Folder>(folder: &mut F, path: &str) -> io::Result<F::File>
-    ensures { IfOk result (λ file.
+    ensures opened { IfOk result (λ file.
         OpensBeside (F.file_of file) path.now (F.steps folder.old) (F.steps folder.new)) }
+    ensures only { ChangesOnlyAt path.now (F.steps folder.old) (F.steps folder.new) }
 {
     if let Some(spare) = folder.look(path)?.if_no_file() {
         folder.remove(spare)?;
@@ -152,8 +154,9 @@ pub(crate) fn hold_empty<F: Folder>(
     path: &str,
     next: &F::File,
 ) -> io::Result<()>
-    ensures { OnOk result
+    ensures held { OnOk result
         (HoldsEmpty (F.file_of next.now) path.now (F.steps folder.old) (F.steps folder.new)) }
+    ensures only { ChangesOnlyAt path.now (F.steps folder.old) (F.steps folder.new) }
 {
     hold(folder, path, next)?;
     if folder.look_at(next)?.stamp.length == 0 {
@@ -168,7 +171,9 @@ pub(crate) fn hold_empty<F: Folder>(
 
 /// A file of a path that is still to get its name, empty and locked.
 fn try_beside<F: Folder>(folder: &mut F, alloc: Global, path: &str) -> io::Result<F::File>
-    ensures { IfOk result (λ file. IsHeldEmpty (F.file_of file) path.now (F.steps folder.new)) }
+    ensures held { IfOk result
+        (λ file. IsHeldEmpty (F.file_of file) path.now (F.steps folder.new)) }
+    ensures only { ChangesOnlyAt path.now (F.steps folder.old) (F.steps folder.new) }
 {
     let next = open_beside(folder, path)?;
     hold_empty(folder, alloc, path, &next)?;
@@ -178,7 +183,9 @@ fn try_beside<F: Folder>(folder: &mut F, alloc: Global, path: &str) -> io::Resul
 /// The same, tried anew if the path stood for another file meanwhile. `WouldBlock` if it always
 /// does.
 pub fn take_beside<F: Folder>(folder: &mut F, alloc: Global, path: &str) -> io::Result<F::File>
-    ensures { IfOk result (λ file. IsHeldEmpty (F.file_of file) path.now (F.steps folder.new)) }
+    ensures held { IfOk result
+        (λ file. IsHeldEmpty (F.file_of file) path.now (F.steps folder.new)) }
+    ensures only { ChangesOnlyAt path.now (F.steps folder.old) (F.steps folder.new) }
 {
     for _ in 0..TRIES {
         match try_beside(folder, alloc, path) {

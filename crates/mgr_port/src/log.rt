@@ -50,6 +50,7 @@ pub struct End {
 
 impl<T: Drop> Log<T> {
     /// A log that was read up to such a length. What another program put behind it meanwhile was not.
+    #[tactic(auto, using(crate::proofs::FolderLaws::only_none, crate::proofs::GrowthLaws::quiet_look_at, crate::proofs::GrowthLaws::quiet_look_at_end))]
     pub(crate) fn read_to<F: Folder<File = T>>(
         folder: &mut F,
         file: T,
@@ -58,6 +59,7 @@ impl<T: Drop> Log<T> {
         ensures file { IfOk result (λ log. log.file ≡ file) }
         ensures left { IfOk result (λ log. IsLeftAt (F.file_of file) log.left length
             (F.steps folder.old) (F.steps folder.new)) }
+        ensures quiet { IsQuiet (F.steps folder.old) (F.steps folder.new) }
     {
         let mut stamp = folder.look_at(&file)?.stamp;
         stamp.length = length;

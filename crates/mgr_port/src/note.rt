@@ -7,7 +7,7 @@ ghost use Rattle.mgr_port.specs.Growth.{AddsFront, IsAdded};
 ghost use Rattle.mgr_port.specs.Locks.{HoldsInItsPlace, HoldsNext, IsTaken, OpensLocked};
 ghost use Rattle.mgr_port.specs.Notes.{KeepsPlace, Leaves, LoadsLog, MakesLog, MakesRoomIf, MayRemoveIf, NamesLog};
 ghost use Rattle.mgr_port.specs.Notes.{ReadsLog, TakesRights, closed, old_for};
-ghost use Rattle.mgr_port.specs.Spares.{IsOfFile};
+ghost use Rattle.mgr_port.specs.Spares.{ChangesOnlyAt, IsOfFile};
 ghost use Rattle.mgr_port.specs.Texts.{PutsText};
 ghost use Rattle.mgr_port.specs.declared.spare.Look.{Look};
 
@@ -65,6 +65,8 @@ impl<T: Drop> Note<T> {
         ensures held { IfOk result (λ found. found.log ≡ None → IfSome self.new.next (λ next.
             KeepsPlace (F.file_of next) (string_bytes self.old.paths.next_log)
             (string_bytes self.old.paths.log) (F.steps folder.new))) }
+        ensures only { ChangesOnlyAt (string_bytes self.old.paths.next_log)
+            (F.steps folder.old) (F.steps folder.new) }
         ensures log { OnErr result (self.new.log ≡ None) }
         ensures next { OnErr result (self.new.next ≡ None) }
     {
@@ -101,6 +103,9 @@ impl<T: Drop> Note<T> {
         ensures held { IfOk result (λ found. found.log ≡ None → IfSome self.new.next (λ next.
             KeepsPlace (F.file_of next) (string_bytes self.old.paths.next_log)
             (string_bytes self.old.paths.log) (F.steps folder.new))) }
+        ensures only { ChangesOnlyAt (string_bytes self.old.paths.next_log)
+            (F.steps folder.old) (F.steps folder.new) }
+        ensures paths { self.new.paths ≡ self.old.paths }
     {
         let (log, next) = lock_log(folder, alloc, &self.paths)?;
         self.next = next;
@@ -282,6 +287,8 @@ fn lock_log<F: Folder>(
     ensures next { IfOk result (λ locked. IfSome locked.1 (λ file.
         HoldsNext (F.file_of file) (string_bytes paths.now.next_log) (string_bytes paths.now.log)
         (F.steps folder.new))) }
+    ensures only { ChangesOnlyAt (string_bytes paths.now.next_log)
+        (F.steps folder.old) (F.steps folder.new) }
 {
     for _ in 0..TRIES {
         match try_log(folder, alloc, paths) {
@@ -302,6 +309,8 @@ fn try_log<F: Folder>(
     ensures next { IfOk result (λ locked. IfSome locked.1 (λ file.
         HoldsNext (F.file_of file) (string_bytes paths.now.next_log) (string_bytes paths.now.log)
         (F.steps folder.new))) }
+    ensures only { ChangesOnlyAt (string_bytes paths.now.next_log)
+        (F.steps folder.old) (F.steps folder.new) }
 {
     let log = paths.log.as_str();
     if let Some(file) = open_locked(folder, log, true)? {
@@ -329,6 +338,7 @@ fn read_log<T: Drop, F: Folder<File = T>>(
     ensures file { IfOk result (λ read. read.0.file ≡ file) }
     ensures read { IfOk result (λ read. ReadsLog (F.file_of file) path.now read.1.items read.0.left
         (F.steps folder.old) (F.steps folder.new)) }
+    ensures only { ChangesOnlyAt path.now (F.steps folder.old) (F.steps folder.new) }
 {
     let bytes = folder.read_all(&file)?;
     let log = Log::read_to(folder, file, bytes.len() as u64)?;
@@ -345,9 +355,10 @@ fn lock_next<F: Folder>(
     next: &F::File,
     log: &str,
 ) -> io::Result<()>
-    ensures { OnOk result
+    ensures held { OnOk result
         (HoldsInItsPlace (F.file_of next.now) path.now log.now
         (F.steps folder.old) (F.steps folder.new)) }
+    ensures only { ChangesOnlyAt path.now (F.steps folder.old) (F.steps folder.new) }
 {
     hold_empty(folder, alloc, path, next)?;
     if folder.follow(log)?.found.is_some() {
@@ -364,8 +375,9 @@ fn take_next<F: Folder>(
     path: &str,
     open: &mut Option<F::File>,
 ) -> io::Result<F::File>
-    ensures { IfOk result
+    ensures taken { IfOk result
         (λ file. IsTaken (F.file_of file) path.now (F.steps folder.old) (F.steps folder.new)) }
+    ensures only { ChangesOnlyAt path.now (F.steps folder.old) (F.steps folder.new) }
 {
     if let Some(next) = open.take() {
         if stands_for(folder, path, &next)? {

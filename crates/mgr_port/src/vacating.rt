@@ -2,7 +2,7 @@
 ghost use Rattle.std.specs.Prelude.{IfOk, OnErr, OnOk};
 ghost use Rattle.mgr_port.specs.Folder.{IsIdle};
 ghost use Rattle.mgr_port.specs.Locks.{MakesBeside};
-ghost use Rattle.mgr_port.specs.Spares.{GivesFreeName, IsOfFile, IsOneOfMore, IsVacated, MakesWay};
+ghost use Rattle.mgr_port.specs.Spares.{ChangesOnlyAt, GivesFreeName, IsOfFile, IsOneOfMore, IsVacated, MakesWay};
 ghost use Rattle.mgr_port.specs.Spares.{MayRemove, RemovesIf};
 
 use crate::folder::{Folder, Opening};
@@ -20,8 +20,9 @@ fn spare_name<'p, F: Folder>(
     alloc: Global,
     path: &'p str,
 ) -> io::Result<Option<Spare<'p>>>
-    ensures { IfOk result
+    ensures vacated { IfOk result
         (IsVacated path.now (F.steps folder.old) (F.steps folder.new)) }
+    ensures only { ChangesOnlyAt path.now (F.steps folder.old) (F.steps folder.new) }
 {
     let standing = folder.look(path)?;
     if standing.found.is_none() {
@@ -35,7 +36,8 @@ fn spare_name<'p, F: Folder>(
 
 /// Has what stands under a path let go of it. Bytes of a plain file are kept.
 pub fn make_way<F: Folder>(folder: &mut F, alloc: Global, path: &str) -> io::Result<()>
-    ensures { OnOk result (MakesWay path.now (F.steps folder.old) (F.steps folder.new)) }
+    ensures made { OnOk result (MakesWay path.now (F.steps folder.old) (F.steps folder.new)) }
+    ensures only { ChangesOnlyAt path.now (F.steps folder.old) (F.steps folder.new) }
 {
     match spare_name(folder, alloc, path)? {
         Some(spare) => folder.remove(spare),

@@ -1,0 +1,15 @@
+use Rattle.std.proofs.Common.{refl}
+use Rattle.mgr_port.proofs.PlaceLaws.{at_chain, at_none}
+use Rattle.mgr_port.proofs.locking.take_beside.Goals as goal
+
+pub loop-init : goal.loop-init
+loop-init g c = at_none _ _ _ refl
+
+pub loop-preserved : goal.loop-preserved
+loop-preserved g c = at_chain _ _ _ _ c.loop.invariant c.try_beside.ensures.only
+
+pub returns-in_default-clause-only : goal.returns-in_default-clause-only
+returns-in_default-clause-only g c = at_chain _ _ _ _ c.loop.invariant c.try_beside.ensures.only
+
+pub returns-in_default-2-clause-only : goal.returns-in_default-2-clause-only
+returns-in_default-2-clause-only g c = at_chain _ _ _ _ c.loop.invariant c.try_beside.ensures.only
