@@ -1,7 +1,9 @@
 -- What becomes of a log's bytes by the steps of a history.
-use Rattle.std.proofs.Common.{◌≡◌, inl, inr, ◌∙◌, ℕ, List, [], ◌∷◌, ◌++◌, Some, None, length, refl, sym, ap, subst, append_assoc}
+use Rattle.std.proofs.Common.{◌≡◌, inl, inr, ◌∙◌, ℕ, List, [], ◌∷◌, ◌++◌, true, false, Option, Some, None, length, refl, sym, ap, subst, append_assoc}
 use Rattle.std.proofs.lemmas.List.{append-nil}
-use Rattle.mgr_port.specs.Bytes.{Change, Changes, Clears, HadFront, HasAfter, HasFrontOf, HasLines, IsOnDevice, Keeps, MayHave, MayHaveAfter, MayStand, MayStandAfter, Nothing, OfTold, Puts, StandsBehind, Tells, change_of}
+use Rattle.mgr_port.specs.Bytes.{Change, Changes, Clears, HadFront, HasAfter, HasFrontOf, HasLines, IsKnown, IsOnDevice, Persists, MayHave, MayHaveAfter, MayStand, MayStandAfter, Nothing, OfTold, Puts, StandsBehind, Tells, change_of}
+use Rattle.mg_files.specs.Held.{HasBegunLog, Leaves}
+use Rattle.mg_files.specs.declared.port.CallKind.TheVariants.{Append}
 use Rattle.mgr_port.specs.Folder.{History, FolderStep, Adds, Dates, Empties, Ends, EndsInNewline, Follows, GivesTo, Links, Locks, Looks, LooksAt, Makes, Opens, Overwrites, Reads, ReadsAll, Removes, Renames, Resolves, SetsMode, Syncs, SyncsFolder, AreAll, IsQuiet, IsQuietStep, after}
 use Rattle.mgr_port.specs.Growth.{AddsFront, IsAdded, IsLonger, ShowsGrowth}
 use Rattle.mgr_port.specs.Notes.{LoadsLog}
@@ -14,7 +16,7 @@ use Rattle.mgr_port.proofs.FolderLaws.{only_more, only_chain, quiet_one, quiet_f
 
 abbrev IsStill : Change → Type 0
 IsStill Nothing = Unit {0}
-IsStill (Keeps file) = Unit {0}
+IsStill (Persists file) = Unit {0}
 IsStill other = ⊥
 
 -- they put and clear nothing
@@ -48,7 +50,7 @@ still (Overwrites file path) quiet = absurd quiet
 
 unchanged : (log : ℕ) (change : Change) (old new : List ℕ) → IsStill change → Changes log change old new → new ≡ old
 unchanged log Nothing old new is changes = changes
-unchanged log (Keeps file) old new is changes = changes
+unchanged log (Persists file) old new is changes = changes
 unchanged log (Puts file bytes) old new is changes = absurd is
 unchanged log (Clears file) old new is changes = absurd is
 
@@ -171,7 +173,7 @@ had log bytes a b quiet has = before_told (HasAfter log bytes) a b (has_seen log
 
 stands_still : (log : ℕ) (change : Change) (Stands Has : List ℕ → Type 0) (found : List ℕ) → IsStill change → StandsBehind log change Stands Has found → Stands found
 stands_still log Nothing Stands Has found is stands = stands
-stands_still log (Keeps file) Stands Has found is stands = stands.0
+stands_still log (Persists file) Stands Has found is stands = stands.0
 stands_still log (Puts file bytes) Stands Has found is stands = absurd is
 stands_still log (Clears file) Stands Has found is stands = absurd is
 
@@ -203,11 +205,16 @@ torn log lines bytes found a b (inr (front, rest, shown, added, parts, first, pu
     (s.0, s.1 ++ rest, parts ∙ ap (λ l. l ++ rest) s.2 ∙ append_assoc s.0 s.1 rest, s.3)
 
 -- what it has behind lines that were put there
-has_lines : (log : ℕ) (lines bytes now : List ℕ) (a b c : History) → IsOnDevice log a bytes → IsQuiet a b → c ≡ after (Adds log lines) b → OfTold (HasAfter log now) c → now ≡ bytes ++ lines
-has_lines log lines bytes now a None c device quiet put has = absurd (subst (OfTold (HasAfter log now)) put has)
-has_lines log lines bytes now a (Some steps) c device quiet put has =
+has_lines : (log : ℕ) (lines bytes now : List ℕ) (a b c : History) → IsKnown log a bytes → IsQuiet a b → c ≡ after (Adds log lines) b → OfTold (HasAfter log now) c → now ≡ bytes ++ lines
+has_lines log lines bytes now a None c known quiet put has = absurd (subst (OfTold (HasAfter log now)) put has)
+has_lines log lines bytes now a (Some steps) c known quiet put has =
     let s = subst (OfTold (HasAfter log now)) put has in
-    s.2.1.0 refl ∙ ap (λ l. l ++ lines) (device.has s.0 (had log s.0 a (Some steps) quiet s.1))
+    s.2.1.0 refl ∙ ap (λ l. l ++ lines) (known s.0 (had log s.0 a (Some steps) quiet s.1))
+
+added_known : (log : ℕ) (path : List ℕ) (left : LeftLog) (lines : List ℕ) (longer : LeftLog) (bytes : List ℕ) (a b : History) → IsAdded log path left lines longer a b
+    → IsKnown log a bytes → IsKnown log b (bytes ++ lines)
+added_known log path left lines longer bytes a b (shown, added, shows, put, later) known = λ now has.
+    has_lines log lines bytes now a shown added known (shown_quiet log path left a shown shows) put (had log now added b (longer_quiet log path left longer added b later) has)
 
 -- what is brought to the device stands there
 on_device : (log : ℕ) (found : List ℕ) (a b : History) → b ≡ after (Syncs log) a → MayStand log b found → OfTold (HasAfter log found) a
@@ -215,9 +222,62 @@ on_device log found None b is stands = absurd (subst (λ h. MayStand log h found
 on_device log found (Some steps) b is stands = (subst (λ h. MayStand log h found) is stands).1 refl
 
 pub lines_are_on_device : (log : ℕ) (path : List ℕ) (left : LeftLog) (lines : List ℕ) (longer : LeftLog) (bytes : List ℕ) (a b : History) → IsAdded log path left lines longer a b
-    → IsOnDevice log a bytes → IsOnDevice log b (bytes ++ lines)
-lines_are_on_device log path left lines longer bytes a b (shown, added, shows, put, later) device =
-    let first = shown_quiet log path left a shown shows in record {
-      stands = λ found stands. has_lines log lines bytes found a shown added device first put (on_device log found added later.1 later.4 (stood log found later.1 b (synced_quiet log path left longer added b later) stands));
-      has = λ now has. has_lines log lines bytes now a shown added device first put (had log now added b (longer_quiet log path left longer added b later) has);
-    }
+    → IsKnown log a bytes → IsOnDevice log b (bytes ++ lines)
+lines_are_on_device log path left lines longer bytes a b (shown, added, shows, put, later) known = record {
+  stands = λ found stands.
+      has_lines log lines bytes found a shown added known (shown_quiet log path left a shown shows) put
+      (on_device log found added later.1 later.4 (stood log found later.1 b (synced_quiet log path left longer added b later) stands));
+  has = added_known log path left lines longer bytes a b (shown, added, shows, put, later) known;
+}
+
+-- ---- what a port is held to, of a log that nobody else writes into
+
+-- before one quiet step, or a removal
+had_still : (log : ℕ) (now : List ℕ) (step : FolderStep) (a b : History) → IsQuietStep step → b ≡ after step a → OfTold (HasAfter log now) b → OfTold (HasAfter log now) a
+had_still log now step a b quiet is has = had log now a b (quiet_one a b step is quiet) has
+
+had_removed : (log : ℕ) (path now : List ℕ) (a b : History) → b ≡ after (Removes path) a → OfTold (HasAfter log now) b → OfTold (HasAfter log now) a
+had_removed log path now None b is has = absurd (subst (OfTold (HasAfter log now)) is has)
+had_removed log path now (Some steps) b is has =
+    let s = subst (OfTold (HasAfter log now)) is has in subst (λ l. HasAfter log l steps) (sym s.2.1) s.1
+
+had_removal : (log file : ℕ) (path now : List ℕ) (a b : History) → MayRemove IsOneOfMore file path a b → OfTold (HasAfter log now) b → OfTold (HasAfter log now) a
+had_removal log file path now a b (inl is) has = subst (OfTold (HasAfter log now)) is has
+had_removal log file path now a b (inr (opened, looked, one, rest)) has =
+    had_still log now (LooksAt file opened) a looked tt one (elim rest [
+      | inl is ↦ subst (OfTold (HasAfter log now)) is has
+      | inr (found, followed, two, inl is) ↦ had_still log now (Follows path found) looked followed tt two (subst (OfTold (HasAfter log now)) is has)
+      | inr (found, followed, two, inr (second, gone)) ↦ had_still log now (Follows path found) looked followed tt two (had_removed log path now followed b gone has)
+    ])
+
+known_read : (log : ℕ) (read now : List ℕ) (a b : History) → b ≡ after (ReadsAll log read) a → OfTold (HasAfter log now) b → now ≡ read
+known_read log read now None b is has = absurd (subst (OfTold (HasAfter log now)) is has)
+known_read log read now (Some steps) b is has = let s = subst (OfTold (HasAfter log now)) is has in s.2.1 ∙ sym (s.2.0 refl)
+
+pub read_known : (log : ℕ) (path next read : List ℕ) (left : LeftLog) (b : History) → LoadsLog log path next read left b → IsKnown log b read
+read_known log path next read left b (locked, loaded, opens, (reading, ended, is, (look, looked, one, two, stamp), removed), quiet) = λ now has.
+    known_read log read now locked reading is
+    (had_still log now (LooksAt log look) reading looked tt one
+    (had_still log now (Ends log (length read) (Some left.end)) looked ended tt two
+    (had_removal log log next now ended loaded removed (had log now loaded b quiet has))))
+
+pub as_appended : (log : ℕ) (path : List ℕ) (left : LeftLog) (lines : List ℕ) (longer : LeftLog) (bytes found : List ℕ) (text : Option (List ℕ)) (a b : History) → IsAdded log path left lines longer a b
+    → IsKnown log a bytes → OfTold (HasAfter log found) b
+    → Leaves Append true lines (record { log = Some bytes; text = text }) (record { log = Some found; text = text })
+as_appended log path left lines longer bytes found text a b added known has = λ k. record { log = Some (added_known log path left lines longer bytes a b added known found has k); text = text }
+
+begun : (log : ℕ) (lines bytes found : List ℕ) (a b c : History) (front rest : List ℕ) → lines ≡ front ++ rest → IsKnown log a bytes → IsQuiet a b → c ≡ after (Adds log front) b
+    → OfTold (HasAfter log found) c → HasBegunLog bytes lines (Some found)
+begun log lines bytes found a b c front rest parts known quiet put has = record {
+  front = front;
+  rest = rest;
+  cut = sym parts;
+  behind = ap (λ (l : List ℕ). Some l) (has_lines log front bytes found a b c known quiet put has);
+}
+
+pub as_begun : (log : ℕ) (lines bytes found : List ℕ) (text : Option (List ℕ)) (a b : History) → AddsFront log lines a b → IsKnown log a bytes → OfTold (HasAfter log found) b
+    → Leaves Append false lines (record { log = Some bytes; text = text }) (record { log = Some found; text = text })
+as_begun log lines bytes found text a b (inl quiet) known has =
+    (record { front = []; rest = lines; cut = refl; behind = ap (λ (l : List ℕ). Some l) (known found (had log found a b quiet has) ∙ sym (append-nil bytes)) }, refl)
+as_begun log lines bytes found text a b (inr (front, rest, shown, added, parts, first, put, last)) known has =
+    (begun log lines bytes found a shown added front rest parts known first put (had log found added b last has), refl)

@@ -137,6 +137,9 @@ quiet_open_to_add a b file path is = quiet_one a b (Opens file path opening.Add)
 pub quiet_follow_open : (a b c : History) (path : List ℕ) (found : Option Look) → b ≡ after (Follows path found) a → IsQuiet b c → IsQuiet a c
 quiet_follow_open a b c path found is quiet = only_chain a b c (quiet_follow a b path found is) quiet
 
+pub quiet_then_open_to_write : (a b c : History) (file : ℕ) (path : List ℕ) → IsQuiet a b → c ≡ after (Opens file path opening.Write) b → IsQuiet a c
+quiet_then_open_to_write a b c file path quiet is = only_more a b c (Opens file path opening.Write) quiet is tt
+
 pub quiet_then_look_at : (a b c : History) (file : ℕ) (look : Look) → IsQuiet a b → c ≡ after (LooksAt file look) b → IsQuiet a c
 quiet_then_look_at a b c file look quiet is = only_more a b c (LooksAt file look) quiet is tt
 

@@ -7,13 +7,13 @@ pub data Change : Type 0 where
   Nothing : Change
   Puts : ℕ → List ℕ → Change
   Clears : ℕ → Change
-  Keeps : ℕ → Change
+  Persists : ℕ → Change
 
 abbrev pub change_of : FolderStep → Change
 change_of (Adds file bytes) = Puts file bytes
 change_of (Empties file) = Clears file
 change_of (Overwrites file path) = Clears file
-change_of (Syncs file) = Keeps file
+change_of (Syncs file) = Persists file
 change_of other = Nothing
 
 -- what a change does to the bytes of a log, which is the file or another one
@@ -57,12 +57,16 @@ abbrev pub HasLines : ℕ → History → List ℕ → List ℕ → Type 0
 HasLines log before lines bytes =
     (old : List ℕ) × (more : List ℕ) × (rest : List ℕ) × MayHave log before old × (bytes ≡ old ++ more ++ lines ++ rest)
 
--- ---- the machine stops, and nobody else adds
+-- ---- nobody else adds, and the machine may stop
 
 -- a log has these bytes after these steps
 abbrev pub HasAfter : ℕ → List ℕ → List FolderStep → Type 0
 HasAfter log bytes [] = Unit {0}
 HasAfter log bytes (step ∷ steps) = (old : List ℕ) × HasAfter log old steps × Tells log step old bytes
+
+-- After these steps a log has these bytes, whatever it had before them.
+abbrev pub IsKnown : ℕ → History → List ℕ → Type 0
+IsKnown log history bytes = (now : List ℕ) → OfTold (HasAfter log now) history → now ≡ bytes
 
 -- What may stand there if the machine stops behind a change, by what may if it stops before it, and by what the log has
 -- then: of bytes that are put behind others any beginning; what the log has, once that is on the device.
@@ -71,7 +75,7 @@ StandsBehind log Nothing Stands Has found = Stands found
 StandsBehind log (Puts file bytes) Stands Has found =
     Stands found ⊎ ((was : List ℕ) × (front : List ℕ) × (rest : List ℕ) × (file ≡ log) × Has was × (bytes ≡ front ++ rest) × (found ≡ was ++ front))
 StandsBehind log (Clears file) Stands Has found = Unit {0}
-StandsBehind log (Keeps file) Stands Has found = Stands found × (file ≡ log → Has found)
+StandsBehind log (Persists file) Stands Has found = Stands found × (file ≡ log → Has found)
 
 abbrev pub MayStandAfter : ℕ → List ℕ → List FolderStep → Type 0
 MayStandAfter log found [] = Unit {0}
@@ -84,7 +88,7 @@ MayStand log history found = OfTold (MayStandAfter log found) history
 -- all that a log has is on the device, and that are these bytes
 pub record IsOnDevice (log : ℕ) (history : History) (bytes : List ℕ) : Type 0 where
   pub stands : (found : List ℕ) → MayStand log history found → found ≡ bytes
-  pub has : (now : List ℕ) → OfTold (HasAfter log now) history → now ≡ bytes
+  pub has : IsKnown log history bytes
 
 -- a beginning of lines is behind what it had
 abbrev pub HasFrontOf : List ℕ → List ℕ → List ℕ → Type 0

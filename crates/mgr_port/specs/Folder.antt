@@ -86,6 +86,7 @@ IsIdle old now = Only IsIdleStep old now
 -- The same; or a file is opened as it is, or locked; an open one is looked at by its end, or brought to the device.
 abbrev pub IsQuietStep : FolderStep → Type 0
 IsQuietStep (Opens file path opening.Read) = Unit {0}
+IsQuietStep (Opens file path opening.Write) = Unit {0}
 IsQuietStep (Opens file path opening.Add) = Unit {0}
 IsQuietStep (Locks file lock) = Unit {0}
 IsQuietStep (Ends file length end) = Unit {0}

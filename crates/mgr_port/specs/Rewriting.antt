@@ -3,6 +3,7 @@ use Rattle.std.specs.Prelude.{◌≡◌, ◌⊎◌, ℕ, List, [], ◌∷◌, Bo
 use Rattle.mgr_port.specs.Disk as disk
 use Rattle.mgr_port.specs.Folder.{History, Adds, EndsInNewline, LooksAt, Opens, Syncs, SyncsFolder, after}
 use Rattle.mgr_port.specs.Locks.{IsHeldEmpty, OpensBeside, OpensLocked, ShowsPlain}
+use Rattle.mgr_port.specs.Spares.{ChangesOnlyAt, IsOneOfMore, MayRemove}
 use Rattle.mgr_port.specs.Staging.{DoesAll}
 use Rattle.mgr_port.specs.Texts.{TakesMode}
 use Rattle.mgr_port.specs.declared.folder.Opening.TheVariants as opening
@@ -40,11 +41,11 @@ KeepsRefused log path bytes before now =
     × OpensRefused file log path before opened × EndsLine file opened ended × (written ≡ after (Adds file bytes) ended)
     × (synced ≡ after (Syncs file) written) × (now ≡ after (SyncsFolder path) synced)
 
--- an empty file is held beside, like a log
-abbrev pub MakesNextLog : ℕ → ℕ → List ℕ → History → Type 0
-MakesNextLog file log path now =
-    (held : History) × (like : Look) × (looked : History) × IsHeldEmpty file path held
-    × (looked ≡ after (LooksAt log like) held) × TakesMode file like looked now
+-- Another name of a log may be gone. Then an empty file is held there, like the log.
+abbrev pub MakesNextLog : ℕ → ℕ → List ℕ → History → History → Type 0
+MakesNextLog file log path before now =
+    (removed : History) × (held : History) × (like : Look) × (looked : History) × MayRemove IsOneOfMore log path before removed
+    × ChangesOnlyAt path removed held × IsHeldEmpty file path held × (looked ≡ after (LooksAt log like) held) × TakesMode file like looked now
 
 -- What was written beside is on the device, with the date of the log if nothing of that is refused. The log stands there as
 -- it was read, and is kept; then the file has its name, on the device too.

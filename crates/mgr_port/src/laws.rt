@@ -1,11 +1,14 @@
 //! Theorems about files that are written whole, and about paths that go. Each function does nothing:
 //! its contract is the theorem.
-ghost use Rattle.std.specs.Prelude.{◌≡◌, ◌⊎◌, ℕ, List, ◌++◌, true, Option, Some, IfSome, length};
+ghost use Rattle.std.specs.Prelude.{◌≡◌, ◌⊎◌, ℕ, List, ◌++◌, true, false, Option, Some, IfSome, length};
 ghost use Rattle.mgr_port.specs.declared.log.FoundLog.{FoundLog};
 ghost use Rattle.mgr_port.specs.declared.log.LeftLog.{LeftLog};
 ghost use Rattle.mgr_port.specs.declared.spare.Look.{Look};
 ghost use Rattle.mgr_port.specs.Folder.{History, IsQuiet};
-ghost use Rattle.mgr_port.specs.Bytes.{HadFront, HasFrontOf, HasLines, IsOnDevice, MayHave, MayStand};
+ghost use Rattle.mg_files.specs.Held.{Leaves};
+ghost use Rattle.mg_files.specs.declared.port.CallKind.TheVariants.{Append};
+ghost use Rattle.mgr_port.specs.Bytes.{HadFront, HasAfter, HasFrontOf, HasLines, IsKnown, IsOnDevice};
+ghost use Rattle.mgr_port.specs.Bytes.{MayHave, MayStand, OfTold};
 ghost use Rattle.mgr_port.specs.Growth.{AddsFront, IsAdded};
 ghost use Rattle.mgr_port.specs.Notes.{LoadsLog};
 ghost use Rattle.mgr_port.specs.Spares.{IsNothing};
@@ -78,8 +81,8 @@ pub fn a_log_that_was_read_only_grows()
 {}
 
 /// If all that a log had is on the device, and nobody else writes into it, it has that whenever the
-/// machine stops in an append, and behind it a beginning of the lines; after one that answered `Ok`
-/// all of them are on the device. Such a log stands for the first of its operations
+/// machine stops in an append, and behind it a beginning of the lines. After one that answered `Ok`
+/// all of both is on the device. Such a log stands for the first of its operations
 /// (`rga_exchange::laws::cut_logs_stand_for_their_first_operations`).
 pub fn a_log_is_torn_only_at_its_end()
     ensures torn { (file : ℕ) (lines bytes found : List ℕ) (old now : History)
@@ -87,5 +90,21 @@ pub fn a_log_is_torn_only_at_its_end()
         → MayStand file now found → HasFrontOf lines bytes found }
     ensures added { (file : ℕ) (path lines bytes : List ℕ) (left longer : LeftLog)
         (old now : History) → IsAdded file path left lines longer old now
-        → IsOnDevice file old bytes → IsOnDevice file now (bytes ++ lines) }
+        → IsKnown file old bytes → IsOnDevice file now (bytes ++ lines) }
+{}
+
+/// If nobody else writes into a log, what was read is what it has, and an append leaves of it what a
+/// port is held to (`mg_files`, `Leaves`): all lines behind what it had, or a beginning of them.
+pub fn an_append_leaves_what_a_port_is_held_to()
+    ensures read { (file : ℕ) (path next read : List ℕ) (left : LeftLog) (now : History)
+        → LoadsLog file path next read left now → IsKnown file now read }
+    ensures added { (file : ℕ) (path lines bytes found : List ℕ) (left longer : LeftLog)
+        (text : Option (List ℕ)) (old now : History)
+        → IsAdded file path left lines longer old now → IsKnown file old bytes
+        → OfTold (HasAfter file found) now → Leaves Append true lines
+        (record { log = Some bytes; text = text }) (record { log = Some found; text = text }) }
+    ensures failed { (file : ℕ) (lines bytes found : List ℕ) (text : Option (List ℕ))
+        (old now : History) → AddsFront file lines old now → IsKnown file old bytes
+        → OfTold (HasAfter file found) now → Leaves Append false lines
+        (record { log = Some bytes; text = text }) (record { log = Some found; text = text }) }
 {}

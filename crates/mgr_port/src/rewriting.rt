@@ -1,5 +1,6 @@
 //! A log that is read whole, and written anew beside.
 ghost use Rattle.std.specs.Prelude.{◌≡◌, None, Some, IfOk, OnOk, true, if◌then◌else◌, string_bytes};
+ghost use Rattle.mgr_port.specs.Folder.{IsQuiet};
 ghost use Rattle.mgr_port.specs.Locks.{ShowsPlain};
 ghost use Rattle.mgr_port.specs.Rewriting.{EndsLine, KeepsRefused, MakesNextLog, NamesRead};
 ghost use Rattle.mgr_port.specs.Rewriting.{OpensRefused, OpensToRewrite};
@@ -41,9 +42,11 @@ impl Read for OpenLog<File> {
 impl<T: Drop> OpenLog<T> {
     /// The log of a path, locked. `NotFound` where there is none, and `WouldBlock` where something
     /// else has it locked.
+    #[tactic(auto, using(crate::proofs::FolderLaws::quiet_then_open_to_write))]
     pub(crate) fn at<F: Folder<File = T>>(folder: &mut F, path: &str) -> io::Result<OpenLog<T>>
-        ensures { IfOk result (λ log. OpensToRewrite (F.file_of log.file) path.now log.read
+        ensures opened { IfOk result (λ log. OpensToRewrite (F.file_of log.file) path.now log.read
             log.refused (F.steps folder.new)) }
+        ensures quiet { IsQuiet (F.steps folder.old) (F.steps folder.new) }
     {
         let Some(file) = open_again(folder, path, true)? else {
             return Err(io::Error::from(ErrorKind::NotFound));
@@ -99,7 +102,7 @@ impl<T: Drop> OpenLog<T> {
         path: &str,
     ) -> io::Result<T>
         ensures { IfOk result (λ next. MakesNextLog (F.file_of next) (F.file_of self.now.file)
-            path.now (F.steps folder.new)) }
+            path.now (F.steps folder.old) (F.steps folder.new)) }
     {
         // One that was killed when it gave the log its name may have left it this one too.
         let _ = remove_second_name(folder, path, &self.file);

@@ -5,4 +5,4 @@ pub returns-clause-torn : goal.returns-clause-torn
 returns-clause-torn c file lines bytes found old now front device stands = torn file lines bytes found old now front device stands
 
 pub returns-clause-added : goal.returns-clause-added
-returns-clause-added c file path lines bytes left longer old now added device = lines_are_on_device file path left lines longer bytes old now added device
+returns-clause-added c file path lines bytes left longer old now added known = lines_are_on_device file path left lines longer bytes old now added known
