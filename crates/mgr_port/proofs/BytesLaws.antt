@@ -14,7 +14,7 @@ use Rattle.mgr_port.proofs.FolderLaws.{only_more, only_chain, quiet_one, quiet_f
 
 -- ---- quiet steps
 
-abbrev IsStill : Change → Type 0
+abbrev pub IsStill : Change → Type 0
 IsStill Nothing = Unit {0}
 IsStill (Persists file) = Unit {0}
 IsStill other = ⊥
@@ -48,7 +48,7 @@ still (Removes path) quiet = tt
 still (Renames path name) quiet = tt
 still (Overwrites file path) quiet = absurd quiet
 
-unchanged : (log : ℕ) (change : Change) (old new : List ℕ) → IsStill change → Changes log change old new → new ≡ old
+pub unchanged : (log : ℕ) (change : Change) (old new : List ℕ) → IsStill change → Changes log change old new → new ≡ old
 unchanged log Nothing old new is changes = changes
 unchanged log (Persists file) old new is changes = changes
 unchanged log (Puts file bytes) old new is changes = absurd is

@@ -4,6 +4,7 @@ pub mod FolderLaws
 pub mod GrowthLaws
 pub mod LogsLaws
 pub mod NamesLaws
+pub mod NamingLaws
 pub mod NotesLaws
 pub mod PlaceLaws
 pub mod RaisedLaws

@@ -5,6 +5,7 @@ pub mod Growth
 pub mod Locks
 pub mod Logs
 pub mod Names
+pub mod Naming
 pub mod Notes
 pub mod Rewriting
 pub mod Spares

@@ -1,17 +1,20 @@
-//! Theorems about files that are written whole, and about paths that go. Each function does nothing:
-//! its contract is the theorem.
-ghost use Rattle.std.specs.Prelude.{◌≡◌, ◌⊎◌, ℕ, List, ◌++◌, true, false, Option, Some, IfSome, length};
+//! Theorems about files that are written whole, paths that go, and logs that grow. Each function does
+//! nothing: its contract is the theorem.
+ghost use Rattle.std.specs.Prelude.{◌≡◌, ◌⊎◌, ℕ, List, ◌++◌, true, false, Option, Some, None, IfSome, codes, length};
 ghost use Rattle.mgr_port.specs.declared.log.FoundLog.{FoundLog};
 ghost use Rattle.mgr_port.specs.declared.log.LeftLog.{LeftLog};
 ghost use Rattle.mgr_port.specs.declared.spare.Look.{Look};
+ghost use Rattle.mgr_port.specs.declared.stamp.Stamp.{Stamp};
 ghost use Rattle.mgr_port.specs.Folder.{History, IsQuiet};
 ghost use Rattle.mg_files.specs.Held.{Leaves};
-ghost use Rattle.mg_files.specs.declared.port.CallKind.TheVariants.{Append};
+ghost use Rattle.mg_files.specs.declared.port.CallKind.TheVariants.{Append, PutText, Replace};
 ghost use Rattle.mgr_port.specs.Bytes.{HadFront, HasAfter, HasFrontOf, HasLines, IsKnown, IsOnDevice};
 ghost use Rattle.mgr_port.specs.Bytes.{MayHave, MayStand, OfTold};
 ghost use Rattle.mgr_port.specs.Growth.{AddsFront, IsAdded};
-ghost use Rattle.mgr_port.specs.Notes.{LoadsLog};
+ghost use Rattle.mgr_port.specs.Naming.{AreApart, Holds};
+ghost use Rattle.mgr_port.specs.Notes.{LoadsLog, MakesLog};
 ghost use Rattle.mgr_port.specs.Spares.{IsNothing};
+ghost use Rattle.mgr_port.specs.Texts.{PutsText};
 ghost use Rattle.mgr_port.specs.Verdicts.{MayGrow};
 ghost use Rattle.mgr_port.specs.Worlds.{World, Has, Shows, IsLinked, IsMade, IsLeftAlone, IsBare, StoodUnder, Locks};
 ghost use Rattle.mgr_port.specs.Worlds.{EndsAt, Grows};
@@ -93,9 +96,11 @@ pub fn a_log_is_torn_only_at_its_end()
         → IsKnown file old bytes → IsOnDevice file now (bytes ++ lines) }
 {}
 
-/// If nobody else writes into a log, what was read is what it has, and an append leaves of it what a
-/// port is held to (`mg_files`, `Leaves`): all lines behind what it had, or a beginning of them.
-pub fn an_append_leaves_what_a_port_is_held_to()
+/// If nobody else writes into a note's files, a call leaves of them what a port is held to (`mg_files`,
+/// `Leaves`). What was read is what the log has; an append leaves all lines behind what it had, or a
+/// beginning of them. A first log, one that is written anew, and a text have all that was put under
+/// their names.
+pub fn calls_leave_what_a_port_is_held_to()
     ensures read { (file : ℕ) (path next read : List ℕ) (left : LeftLog) (now : History)
         → LoadsLog file path next read left now → IsKnown file now read }
     ensures added { (file : ℕ) (path lines bytes found : List ℕ) (left longer : LeftLog)
@@ -107,4 +112,21 @@ pub fn an_append_leaves_what_a_port_is_held_to()
         (old now : History) → AddsFront file lines old now → IsKnown file old bytes
         → OfTold (HasAfter file found) now → Leaves Append false lines
         (record { log = Some bytes; text = text }) (record { log = Some found; text = text }) }
+    ensures made { (stamp_of : ℕ → Stamp) (file : ℕ) (name beside lines found : List ℕ)
+        (left : LeftLog) (text : Option (List ℕ)) (old now : History) → AreApart stamp_of
+        → MakesLog None file (name ++ codes ".new") name beside None lines left old now
+        → Holds stamp_of name found now → Leaves Append true lines
+        (record { log = None; text = text }) (record { log = Some found; text = text }) }
+    ensures replaced { (stamp_of : ℕ → Stamp) (before : Option ℕ) (file : ℕ)
+        (name beside lines found : List ℕ) (standing : Option Look) (left : LeftLog)
+        (log text : Option (List ℕ)) (old now : History) → AreApart stamp_of
+        → MakesLog before file (name ++ codes ".new") name beside standing lines left old now
+        → Holds stamp_of name found now → Leaves Replace true lines
+        (record { log = log; text = text }) (record { log = Some found; text = text }) }
+    ensures put { (stamp_of : ℕ → Stamp) (file kept : Option ℕ) (name bytes found : List ℕ)
+        (own now_own : Option Stamp) (log text : Option (List ℕ)) (old now : History)
+        → AreApart stamp_of
+        → PutsText file kept (name ++ codes ".ops.text") name bytes own now_own old now
+        → Holds stamp_of name found now → Leaves PutText true bytes
+        (record { log = log; text = text }) (record { log = log; text = Some found }) }
 {}

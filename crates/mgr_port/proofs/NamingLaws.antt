@@ -1,0 +1,366 @@
+-- What stands under a name once a file has taken it.
+use Rattle.std.proofs.Common.{◌≡◌, ◌≢◌, inl, inr, ◌∙◌, ℕ, List, [], ◌∷◌, ◌++◌, Bool, true, false, Option, Some, None, codes, refl, sym, ap, subst, arith}
+use Rattle.mgr_port.specs.Bytes.{HasAfter, OfTold, change_of}
+use Rattle.mgr_port.specs.Disk.{whole_steps}
+use Rattle.mgr_port.specs.Folder.{History, FolderStep, Adds, Dates, Empties, Ends, EndsInNewline, Follows, GivesTo, Links, Locks, Looks, LooksAt, Makes, Opens, Overwrites, Reads, ReadsAll, Removes, Renames, Resolves, SetsMode, Syncs, SyncsFolder, AreAll, IsIdle, IsIdleStep, after}
+use Rattle.mgr_port.specs.Locks.{HoldsEmpty, IsTaken, MakesBeside, StandsFor}
+use Rattle.mgr_port.specs.Naming.{AreApart, Holds, Stands, StandsAfter}
+use Rattle.mgr_port.specs.Notes.{MakesLog, TakesRights, TakesTextRights}
+use Rattle.mgr_port.specs.Spares.{EndsInTilde, GivesFreeName, IsKept, IsShown}
+use Rattle.mgr_port.specs.Staging.{DoesAll, KeepsOld, MayDate, SyncsDated, TakesOld}
+use Rattle.mgr_port.specs.Texts.{MakesFor, MakesLike, MakesNextText, PutsBeside, PutsInPlace, PutsText, TakesMode, TakesOwner}
+use Rattle.mgr_port.specs.Verdicts.{AreOfOneFile}
+use Rattle.mgr_port.specs.declared.folder.Opening.TheVariants as opening
+use Rattle.mgr_port.specs.declared.log.LeftLog.{LeftLog}
+use Rattle.mgr_port.specs.declared.spare.Look.{Look}
+use Rattle.mgr_port.specs.declared.spare.Owner.{Owner}
+use Rattle.mgr_port.specs.declared.spare.Reason.{Reason}
+use Rattle.mgr_port.specs.declared.spare.Reason.TheVariants as reason
+use Rattle.mgr_port.specs.declared.staged.Old.{Old}
+use Rattle.mgr_port.specs.declared.staged.Old.TheVariants as old
+use Rattle.mgr_port.specs.declared.staged.Staged.{Staged}
+use Rattle.mgr_port.specs.declared.stamp.Stamp.{Stamp}
+use Rattle.mgr_port.proofs.BytesLaws.{IsStill, unchanged}
+
+-- ---- what holds after a step, and held before it
+
+abbrev IsCarried : (List FolderStep → Type 0) → FolderStep → Type 0
+IsCarried P step = (steps : List FolderStep) → P (step ∷ steps) → P steps
+
+-- what is told after a step is told before it
+told : (P : List FolderStep → Type 0) (step : FolderStep) (a b : History) → b ≡ after step a → OfTold P b → OfTold (λ steps. P (step ∷ steps)) a
+told P step None b is holds = absurd (subst (OfTold P) is holds)
+told P step (Some steps) b is holds = subst (OfTold P) is holds
+
+told_more : (P Q : List FolderStep → Type 0) (a : History) → ((steps : List FolderStep) → P steps → Q steps) → OfTold P a → OfTold Q a
+told_more P Q None more holds = absurd holds
+told_more P Q (Some steps) more holds = more steps holds
+
+-- what does not speak of the steps
+told_fact : (X : Type 0) (a : History) → OfTold (λ _. X) a → X
+told_fact X None holds = absurd holds
+told_fact X (Some steps) holds = holds
+
+carry : (P : List FolderStep → Type 0) (step : FolderStep) (a b : History) → IsCarried P step → b ≡ after step a → OfTold P b → OfTold P a
+carry P step a b over is holds = told_more (λ steps. P (step ∷ steps)) P a over (told P step a b is holds)
+
+-- what is carried over looks and dates
+module _ (P : List FolderStep → Type 0) (idle : (step : FolderStep) → IsIdleStep step → IsCarried P step) where
+  over_seen : (seen steps : List FolderStep) → AreAll IsIdleStep seen → P (seen ++ steps) → P steps
+  over_seen [] steps all holds = holds
+  over_seen (step ∷ seen) steps (one, all) holds = over_seen seen steps all (idle step one (seen ++ steps) holds)
+
+  over_idle : (a b : History) → IsIdle a b → OfTold P b → OfTold P a
+  over_idle None b i holds = absurd (subst (OfTold P) i.is holds)
+  over_idle (Some steps) b i holds = over_seen i.seen steps i.all (subst (OfTold P) i.is holds)
+
+  over_one : (a b : History) (step : FolderStep) → IsIdleStep step → b ≡ after step a → OfTold P b → OfTold P a
+  over_one a b step is_idle is holds = carry P step a b (idle step is_idle) is holds
+
+  over_date : (file : ℕ) (log later : Option ℕ) (a b : History) → MayDate file log later a b → OfTold P b → OfTold P a
+  over_date file log None a b is holds = subst (OfTold P) is holds
+  over_date file log (Some later) a b (inl is) holds = subst (OfTold P) is holds
+  over_date file log (Some later) a b (inr (of, known, is)) holds = over_one a b (Dates file of later) tt is holds
+
+  over_synced : (file : ℕ) (log later : Option ℕ) (a b : History) → IsCarried P (Syncs file) → SyncsDated file log later a b → OfTold P b → OfTold P a
+  over_synced file log later a b syncs (dated, may, is) holds = over_date file log later a dated may (carry P (Syncs file) dated b syncs is holds)
+
+  over_shown : (why : Reason) (path : List ℕ) (own : Option Stamp) (bytes : List ℕ) (a b : History) → IsShown why path own bytes a b → OfTold P b → OfTold P a
+  over_shown reason.Nothing path own bytes a b is holds = over_one a b (Follows path None) tt is holds
+  over_shown reason.Known path own bytes a b (look, known, is) holds = over_one a b (Follows path (Some look)) tt is holds
+  over_shown reason.Same path own bytes a b (look, followed, one, two) holds =
+      over_one a followed (Follows path (Some look)) tt one (over_one followed b (Reads path bytes) tt two holds)
+  over_shown reason.Linked path own bytes a b shown holds = absurd shown
+  over_shown reason.Copied path own bytes a b shown holds = absurd shown
+  over_shown reason.Open path own bytes a b shown holds = absurd shown
+
+-- and over names that are kept
+module _ (P : List FolderStep → Type 0) (idle : (step : FolderStep) → IsIdleStep step → IsCarried P step)
+    (links : (other name : List ℕ) → EndsInTilde name → IsCarried P (Links other name)) (makes : (name bytes : List ℕ) → EndsInTilde name → IsCarried P (Makes name bytes)) where
+  over_kept : (why : Reason) (path : List ℕ) (a b : History) → IsKept why path a b → OfTold P b → OfTold P a
+  over_kept reason.Linked path a b (name, seen, tilde, i, is) holds = over_idle P idle a seen i (carry P (Links path name) seen b (links path name tilde) is holds)
+  over_kept reason.Copied path a b (name, bytes, seen, read, tilde, i, was, is) holds =
+      over_idle P idle a seen i (over_one P idle seen read (Reads path bytes) tt was (carry P (Makes name bytes) read b (makes name bytes tilde) is holds))
+  over_kept reason.Nothing path a b kept holds = absurd kept
+  over_kept reason.Known path a b kept holds = absurd kept
+  over_kept reason.Same path a b kept holds = absurd kept
+  over_kept reason.Open path a b kept holds = absurd kept
+
+  over_old : (log : Option ℕ) (o : Old) (name : List ℕ) (a b : History) → KeepsOld log o name a b → OfTold P b → OfTold P a
+  over_old log old.Nothing name a b is holds = subst (OfTold P) is holds
+  over_old log old.Log name a b (why, kept) holds = over_kept why name a b kept holds
+  over_old log (old.Text own bytes) name a b (why, inl shown) holds = over_shown P idle why name own bytes.now a b shown holds
+  over_old log (old.Text own bytes) name a b (why, inr kept) holds = over_kept why name a b kept holds
+  over_old log (old.Read size) name a b (why, checked, (file, found, opened, followed, known, one, two, same, long), kept) holds =
+      over_one P idle a followed (Follows name (Some found)) tt one
+      (over_one P idle followed checked (LooksAt file opened) tt two (over_kept why name checked b kept holds))
+
+-- ---- which bytes a file has
+
+emptied : (file : ℕ) (found : List ℕ) (a b : History) → b ≡ after (Empties file) a → OfTold (HasAfter file found) b → found ≡ []
+emptied file found None b is has = absurd (subst (OfTold (HasAfter file found)) is has)
+emptied file found (Some steps) b is has = let s = subst (OfTold (HasAfter file found)) is has in s.2.1.0 refl
+
+overwritten : (file : ℕ) (path found : List ℕ) (a b : History) → b ≡ after (Overwrites file path) a → OfTold (HasAfter file found) b → found ≡ []
+overwritten file path found None b is has = absurd (subst (OfTold (HasAfter file found)) is has)
+overwritten file path found (Some steps) b is has = let s = subst (OfTold (HasAfter file found)) is has in s.2.1.0 refl
+
+module _ (file : ℕ) (found : List ℕ) where
+  abbrev HasFound : List FolderStep → Type 0
+  HasFound = HasAfter file found
+
+  has_over : (step : FolderStep) → IsStill (change_of step) → IsCarried HasFound step
+  has_over step still steps (was, has, tells) = subst (λ l. HasAfter file l steps) (sym (unchanged file (change_of step) was found still tells.1)) has
+
+  idle_still : (step : FolderStep) → IsIdleStep step → IsStill (change_of step)
+  idle_still (Looks path seen) idle = tt
+  idle_still (Follows path seen) idle = tt
+  idle_still (Resolves path target) idle = tt
+  idle_still (LooksAt opened look) idle = tt
+  idle_still (Dates opened of later) idle = tt
+  idle_still (Reads path bytes) idle = tt
+  idle_still (Opens opened path how) idle = absurd idle
+  idle_still (Locks opened lock) idle = absurd idle
+  idle_still (Ends opened size end) idle = absurd idle
+  idle_still (EndsInNewline opened size newline) idle = absurd idle
+  idle_still (Adds opened bytes) idle = absurd idle
+  idle_still (Empties opened) idle = absurd idle
+  idle_still (SetsMode opened mode) idle = absurd idle
+  idle_still (GivesTo opened owner) idle = absurd idle
+  idle_still (Syncs opened) idle = absurd idle
+  idle_still (SyncsFolder path) idle = absurd idle
+  idle_still (ReadsAll opened bytes) idle = absurd idle
+  idle_still (Links path name) idle = absurd idle
+  idle_still (Makes name bytes) idle = absurd idle
+  idle_still (Removes path) idle = absurd idle
+  idle_still (Renames path name) idle = absurd idle
+  idle_still (Overwrites opened path) idle = absurd idle
+
+  abbrev Has : History → Type 0
+  Has h = OfTold HasFound h
+
+  had : (step : FolderStep) (a b : History) → IsStill (change_of step) → b ≡ after step a → Has b → Has a
+  had step a b still is has = carry HasFound step a b (has_over step still) is has
+
+  had_free : (path name : List ℕ) (a b : History) → GivesFreeName path name a b → Has b → Has a
+  had_free path name a b (inl (linked, one, inl is)) has = had (Links path name) a linked tt one (subst Has is has)
+  had_free path name a b (inl (linked, one, inr is)) has = had (Links path name) a linked tt one (had (Removes path) linked b tt is has)
+  had_free path name a b (inr (looked, one, is)) has = had (Looks name None) a looked tt one (had (Renames path name) looked b tt is has)
+
+  had_old : (o : Old) (path name : List ℕ) (a b : History) → TakesOld o path name a b → Has b → Has a
+  had_old old.Nothing path name a b free has = had_free path name a b free has
+  had_old old.Log path name a b is has = had (Renames path name) a b tt is has
+  had_old (old.Text own bytes) path name a b is has = had (Renames path name) a b tt is has
+  had_old (old.Read size) path name a b is has = had (Renames path name) a b tt is has
+
+  -- bytes that it got when it had those
+  added : (was bytes : List ℕ) (a b : History) → b ≡ after (Adds file bytes) a → ((l : List ℕ) → OfTold (HasAfter file l) a → l ≡ was) → Has b → found ≡ was ++ bytes
+  added was bytes None b is known has = absurd (subst Has is has)
+  added was bytes (Some steps) b is known has = let s = subst Has is has in s.2.1.0 refl ∙ ap (λ l. l ++ bytes) (known s.0 s.1)
+
+  idle_over : (step : FolderStep) → IsIdleStep step → IsCarried HasFound step
+  idle_over step idle = has_over step (idle_still step idle)
+
+  had_synced : (log later : Option ℕ) (a b : History) → SyncsDated file log later a b → Has b → Has a
+  had_synced log later a b syncs has = over_synced HasFound idle_over file log later a b (has_over (Syncs file) tt) syncs has
+
+  -- all that was written, if nothing else was
+  whole_bytes : (log : Option ℕ) (s : Staged) (bytes : List ℕ) (a b : History) → DoesAll file log s (whole_steps bytes) a b → Has b → found ≡ bytes
+  whole_bytes log s bytes a b (one, empties, (two, writes, (three, syncs, (four, keeps, (five, takes, last))))) has =
+      let named = had_old s.old s.path.now s.name.now four five takes (had (SyncsFolder s.name.now) five b tt last has) in
+      let kept = over_old HasFound idle_over (λ other name t. has_over (Links other name) tt) (λ name l t. has_over (Makes name l) tt) log s.old s.name.now three four keeps named in
+      added [] bytes one two writes (λ l. emptied file l a one empties) (had_synced log s.later two three syncs kept)
+
+-- ---- which file a path stands for
+
+module _ (stamp_of : ℕ → Stamp) (path : List ℕ) (file : ℕ) where
+  abbrev At : List FolderStep → Type 0
+  At = StandsAfter stamp_of path file
+
+  idle_names : (step : FolderStep) → IsIdleStep step → IsCarried At step
+  idle_names (Looks other seen) idle steps s = s
+  idle_names (Follows other None) idle steps s = s
+  idle_names (Follows other (Some look)) idle steps s = s.1
+  idle_names (Resolves other target) idle steps s = s
+  idle_names (LooksAt opened look) idle steps s = s.1
+  idle_names (Dates opened of later) idle steps s = s
+  idle_names (Reads other bytes) idle steps s = s
+  idle_names (Opens opened other how) idle steps s = absurd idle
+  idle_names (Locks opened lock) idle steps s = absurd idle
+  idle_names (Ends opened size end) idle steps s = absurd idle
+  idle_names (EndsInNewline opened size newline) idle steps s = absurd idle
+  idle_names (Adds opened bytes) idle steps s = absurd idle
+  idle_names (Empties opened) idle steps s = absurd idle
+  idle_names (SetsMode opened mode) idle steps s = absurd idle
+  idle_names (GivesTo opened owner) idle steps s = absurd idle
+  idle_names (Syncs opened) idle steps s = absurd idle
+  idle_names (SyncsFolder other) idle steps s = absurd idle
+  idle_names (ReadsAll opened bytes) idle steps s = absurd idle
+  idle_names (Links other name) idle steps s = absurd idle
+  idle_names (Makes name bytes) idle steps s = absurd idle
+  idle_names (Removes other) idle steps s = absurd idle
+  idle_names (Renames other name) idle steps s = absurd idle
+  idle_names (Overwrites opened other) idle steps s = absurd idle
+
+  abbrev Here : History → Type 0
+  Here h = OfTold At h
+
+  stood : (step : FolderStep) (a b : History) → IsCarried At step → b ≡ after step a → Here b → Here a
+  stood step a b over is here = carry At step a b over is here
+
+  stood_idle : (step : FolderStep) (a b : History) → IsIdleStep step → b ≡ after step a → Here b → Here a
+  stood_idle step a b idle is here = stood step a b (idle_names step idle) is here
+
+  stood_owner : (which : ℕ) (owner : Owner) (is_owned : Bool) (a b : History) → TakesOwner which owner a b is_owned → Here b → Here a
+  stood_owner which owner true a b (look, looked, one, inl (same, is)) here = stood_idle (LooksAt which look) a looked tt one (subst Here is here)
+  stood_owner which owner true a b (look, looked, one, inr given) here =
+      stood_idle (LooksAt which look) a looked tt one (stood (GivesTo which owner) looked b (λ steps s. s) given here)
+  stood_owner which owner false a b (look, other, is) here = stood_idle (LooksAt which look) a b tt is here
+
+  stood_mode : (which : ℕ) (like : Look) (a b : History) → TakesMode which like a b → Here b → Here a
+  stood_mode which like a b (owned, is_owned, owner, is) here = stood_owner which like.owner is_owned a owned owner (carry At _ owned b (λ steps s. s) is here)
+
+  stood_text_rights : (which : ℕ) (found : Option Look) (a b : History) → TakesTextRights which found a b → Here b → Here a
+  stood_text_rights which None a b is here = carry At _ a b (λ steps s. s) is here
+  stood_text_rights which (Some like) a b takes here = stood_mode which like a b takes here
+
+  stood_rights : (which : ℕ) (standing : Option Look) (text : List ℕ) (a b : History) → TakesRights which standing text a b → Here b → Here a
+  stood_rights which (Some like) text a b takes here = stood_mode which like a b takes here
+  stood_rights which None text a b (found, followed, one, takes) here = stood_idle (Follows text found) a followed tt one (stood_text_rights which found followed b takes here)
+
+  stood_synced : (which : ℕ) (log later : Option ℕ) (a b : History) → SyncsDated which log later a b → Here b → Here a
+  stood_synced which log later a b syncs here = over_synced At idle_names which log later a b (λ steps s. s) syncs here
+
+  -- it is shown to stand for a file that is which
+  is_shown : (which : ℕ) (a b : History) → AreApart stamp_of → StandsFor which path a b → Here b → file ≡ which
+  is_shown which a b apart (found, opened, followed, one, two, same) here =
+      let late = told At (LooksAt which opened) followed b two here in
+      let first : AreOfOneFile opened.stamp (stamp_of which) = told_fact _ followed (told_more _ _ followed (λ steps s. s.0) late) in
+      let early = told At (Follows path (Some found)) a followed one (told_more _ At followed (λ steps s. s.1) late) in
+      let second : AreOfOneFile found.stamp (stamp_of file) = told_fact _ a (told_more _ _ a (λ steps s. s.0 refl) early) in
+      apart file which (record { device = sym second.device ∙ same.device ∙ first.device; inode = sym second.inode ∙ same.inode ∙ first.inode })
+
+  is_held : (which : ℕ) (a b : History) → AreApart stamp_of → HoldsEmpty which path a b → Here b → file ≡ which
+  unfolding HoldsEmpty
+  is_held which a b apart (look, held, (answer, locked, free, tried, stands), is, empty) here =
+      is_shown which locked held apart stands (stood_idle (LooksAt which look) held b tt is here)
+
+  is_taken : (which : ℕ) (a b : History) → AreApart stamp_of → IsTaken which path a b → Here b → file ≡ which
+  is_taken which a b apart (inl stands) here = is_shown which a b apart stands here
+  is_taken which a b apart (inr (old, opened, opens, held)) here = is_held which opened b apart held here
+
+  -- it is a file that was made there
+  is_made : (which mode : ℕ) (a b : History) → MakesBeside which path mode a b → Here b → file ≡ which
+  is_made which mode a b (cleared, way, is) here = told_fact _ cleared (told_more _ _ cleared (λ steps s. s.0 refl) (told At (Opens which path (opening.New mode)) cleared b is here))
+
+  made_like : (which : ℕ) (like : Look) (a b : History) → MakesLike which path like a b → Here b → file ≡ which
+  made_like which like a b (made, owned, makes, owner, is) here =
+      is_made which 0 a made makes (stood_owner which like.owner true made owned owner (stood (SetsMode which like.mode) owned b (λ steps s. s) is here))
+
+  made_for : (which : ℕ) (found : Option Look) (is_there : Bool) (a b : History) → MakesFor which path found is_there a b → Here b → file ≡ which
+  made_for which None is_there a b makes here = is_made which 438 a b makes here
+  made_for which (Some look) is_there a b (plain, there, makes) here = made_like which look a b makes here
+
+  -- it is a file that was written over
+  is_overwritten : (which : ℕ) (a b : History) → b ≡ after (Overwrites which path) a → Here b → file ≡ which
+  is_overwritten which a b is here = told_fact _ a (told_more _ _ a (λ steps s. s.0 refl) (told At (Overwrites which path) a b is here))
+
+-- ---- a file that takes a name
+
+module _ (stamp_of : ℕ → Stamp) (path : List ℕ) (file : ℕ) (free : EndsInTilde path → ⊥) where
+  -- a path that is no kept one, while others are kept
+  over_links : (other name : List ℕ) → EndsInTilde name → IsCarried (StandsAfter stamp_of path file) (Links other name)
+  over_links other name tilde steps s = s.1 (λ same. free (subst EndsInTilde (sym same) tilde))
+
+  over_makes : (name bytes : List ℕ) → EndsInTilde name → IsCarried (StandsAfter stamp_of path file) (Makes name bytes)
+  over_makes name bytes tilde steps s = s (λ same. free (subst EndsInTilde (sym same) tilde))
+
+  stood_kept : (log : Option ℕ) (o : Old) (name : List ℕ) (a b : History) → KeepsOld log o name a b → Stands stamp_of path file b → Stands stamp_of path file a
+  stood_kept log o name a b keeps stands = over_old (StandsAfter stamp_of path file) (idle_names stamp_of path file) over_links over_makes log o name a b keeps stands
+
+module _ (stamp_of : ℕ → Stamp) (file : ℕ) where
+  moved : (path name : List ℕ) (a b : History) → b ≡ after (Renames path name) a → Stands stamp_of name file b → Stands stamp_of path file a
+  moved path name a b is stands = told_more _ (StandsAfter stamp_of path file) a (λ steps s. s.0 refl) (told (StandsAfter stamp_of name file) (Renames path name) a b is stands)
+
+  linked : (path name : List ℕ) (a b : History) → b ≡ after (Links path name) a → Stands stamp_of name file b → Stands stamp_of path file a
+  linked path name a b is stands = told_more _ (StandsAfter stamp_of path file) a (λ steps s. s.0 refl) (told (StandsAfter stamp_of name file) (Links path name) a b is stands)
+
+  had_name : (path name : List ℕ) (a b : History) → GivesFreeName path name a b → Stands stamp_of name file b → Stands stamp_of path file a
+  had_name path name a b (inl (link, one, inl is)) stands = linked path name a link one (subst (Stands stamp_of name file) is stands)
+  had_name path name a b (inl (link, one, inr is)) stands = linked path name a link one (stood stamp_of name file (Removes path) link b (λ steps s. s.1) is stands)
+  had_name path name a b (inr (looked, one, is)) stands = stood_idle stamp_of path file (Looks name None) a looked tt one (moved path name looked b is stands)
+
+  taken : (o : Old) (path name : List ℕ) (a b : History) → TakesOld o path name a b → Stands stamp_of name file b → Stands stamp_of path file a
+  taken old.Nothing path name a b gives stands = had_name path name a b gives stands
+  taken old.Log path name a b is stands = moved path name a b is stands
+  taken (old.Text own bytes) path name a b is stands = moved path name a b is stands
+  taken (old.Read size) path name a b is stands = moved path name a b is stands
+
+  -- what has the name, stood at the path before
+  whole_names : (which : ℕ) (log : Option ℕ) (s : Staged) (bytes : List ℕ) (a b : History) → (EndsInTilde s.path.now → ⊥) → DoesAll which log s (whole_steps bytes) a b
+      → Stands stamp_of s.name.now file b → Stands stamp_of s.path.now file a
+  whole_names which log s bytes a b free (one, empties, (two, writes, (three, syncs, (four, keeps, (five, takes, last))))) stands =
+      let path = s.path.now in
+      let named = taken s.old path s.name.now four five takes (stood stamp_of s.name.now file (SyncsFolder s.name.now) five b (λ steps t. t) last stands) in
+      let kept = stood_kept stamp_of path file free log s.old s.name.now three four keeps named in
+      let synced = stood_synced stamp_of path file which log s.later two three syncs kept in
+      stood stamp_of path file (Empties which) a one (λ steps t. t) empties (stood stamp_of path file (Adds which bytes) one two (λ steps t. t) writes synced)
+
+-- ---- a log, and a text
+
+module _ (stamp_of : ℕ → Stamp) (apart : AreApart stamp_of) where
+  pub log_holds : (old : Option ℕ) (file : ℕ) (path name text : List ℕ) (standing : Option Look) (lines found : List ℕ) (left : LeftLog) (a b : History) → (EndsInTilde path → ⊥)
+      → MakesLog old file path name text standing lines left a b → Holds stamp_of name found b → found ≡ lines
+  log_holds old file path name text standing lines found left a b free
+      (roomy, taken, put, look, looked, room, took, only, (righted, s, rights, is_path, is_name, is_later, is_old, does), step, (seen, at, one, two, same)) (other, stands, has) =
+      let ended = stood stamp_of name other (Ends file look.stamp.length (Some left.end)) at b (λ steps t. t) two stands in
+      let there = stood_idle stamp_of name other (LooksAt file look) put looked tt step (stood_idle stamp_of name other (LooksAt file seen) looked at tt one ended) in
+      let beside = whole_names stamp_of other file old s lines righted put (λ t. free (subst EndsInTilde is_path t)) does (subst (λ n. Stands stamp_of n other put) (sym is_name) there) in
+      let here = stood_rights stamp_of path other file standing text taken righted rights (subst (λ p. Stands stamp_of p other righted) is_path beside) in
+      let is : other ≡ file = is_taken stamp_of path other file roomy taken apart took here in
+      let had_last = had file found (Ends file look.stamp.length (Some left.end)) at b tt two (subst (λ f. OfTold (HasAfter f found) b) is has) in
+      whole_bytes file found old s lines righted put does
+      (had file found (LooksAt file look) put looked tt step (had file found (LooksAt file seen) looked at tt one had_last))
+
+  text_beside : (log : Option ℕ) (file : ℕ) (path name bytes found : List ℕ) (own now_own : Option Stamp) (is_there : Bool) (seen made b : History) → (EndsInTilde path → ⊥)
+      → MakesNextText file path name is_there seen made → PutsBeside file log path name bytes own now_own made b → Holds stamp_of name found b → found ≡ bytes
+  text_beside log file path name bytes found own now_own is_there seen made b free (standing, looked, one, makes) (answer, locked, put, s, look, no_others, tried, next, does, step, is_own) (other, stands, has) =
+      let there = stood_idle stamp_of name other (LooksAt file look) put b tt step stands in
+      let beside = whole_names stamp_of other file log s bytes locked put (λ t. free (subst EndsInTilde next.is_path t)) does (subst (λ n. Stands stamp_of n other put) (sym next.is_name) there) in
+      let here = stood stamp_of path other (Locks file answer) made locked (λ steps t. t) tried (subst (λ p. Stands stamp_of p other locked) next.is_path beside) in
+      let is : other ≡ file = made_for stamp_of path other file standing is_there looked made makes here in
+      whole_bytes file found log s bytes locked put does (had file found (LooksAt file look) put b tt step (subst (λ f. OfTold (HasAfter f found) b) is has))
+
+  text_in_place : (log : Option ℕ) (name bytes found : List ℕ) (own now_own : Option Stamp) (a b : History) → PutsInPlace log name bytes own now_own a b
+      → Holds stamp_of name found b → found ≡ bytes
+  text_in_place log name bytes found own now_own a b (file, spared, over, written, synced, look, spares, overwrites, writes, syncs, step, is_own) (other, stands, has) =
+      let late = stood_synced stamp_of name other file log (Some 100) written synced syncs (stood_idle stamp_of name other (LooksAt file look) synced b tt step stands) in
+      let is : other ≡ file = is_overwritten stamp_of name other file spared over overwrites (stood stamp_of name other (Adds file bytes) over written (λ steps t. t) writes late) in
+      let had_last = had file found (LooksAt file look) synced b tt step (subst (λ f. OfTold (HasAfter f found) b) is has) in
+      added file found [] bytes over written writes (λ l. overwritten file name l spared over overwrites) (had_synced file found log (Some 100) written synced syncs had_last)
+
+  pub text_holds : (log text : Option ℕ) (path name bytes found : List ℕ) (own now_own : Option Stamp) (a b : History) → (EndsInTilde path → ⊥) → PutsText log text path name bytes own now_own a b
+      → Holds stamp_of name found b → found ≡ bytes
+  text_holds log text path name bytes found own now_own a b free (inl (file, is_there, seen, made, there, makes, puts, is)) holds =
+      text_beside log file path name bytes found own now_own is_there seen made b free makes puts holds
+  text_holds log text path name bytes found own now_own a b free (inr (known, seen, puts)) holds = text_in_place log name bytes found known now_own seen b puts holds
+
+-- ---- names beside
+
+abbrev last_of : ℕ → List ℕ → ℕ
+last_of x [] = x
+last_of x (y ∷ l) = last_of y l
+
+last_behind : (x : ℕ) (l : List ℕ) (y : ℕ) (m : List ℕ) → last_of x (l ++ y ∷ m) ≡ last_of y m
+last_behind x [] y m = refl
+last_behind x (z ∷ l) y m = last_behind z l y m
+
+no_kept : (name : List ℕ) (x : ℕ) (end : List ℕ) → last_of x end ≢ 126 → EndsInTilde (name ++ x ∷ end) → ⊥
+no_kept name x end other (front, is) = other (sym (last_behind 0 name x end) ∙ ap (last_of 0) is ∙ last_behind 0 front 126 [])
+
+-- what is written beside a log or a text is no name that is kept
+pub next_log_is_not_kept : (name : List ℕ) → EndsInTilde (name ++ codes ".new") → ⊥
+next_log_is_not_kept name kept = no_kept name 46 (110 ∷ 101 ∷ 119 ∷ []) (λ e. absurd omega (arith, e)) kept
+
+pub next_text_is_not_kept : (name : List ℕ) → EndsInTilde (name ++ codes ".ops.text") → ⊥
+next_text_is_not_kept name kept = no_kept name 46 (111 ∷ 112 ∷ 115 ∷ 46 ∷ 116 ∷ 101 ∷ 120 ∷ 116 ∷ []) (λ e. absurd omega (arith, e)) kept

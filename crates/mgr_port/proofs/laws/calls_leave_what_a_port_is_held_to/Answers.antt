@@ -1,0 +1,31 @@
+use Rattle.std.proofs.Common.{Some, None}
+use Rattle.mgr_port.proofs.BytesLaws.{as_appended, as_begun, read_known}
+use Rattle.mgr_port.proofs.NamingLaws.{log_holds, next_log_is_not_kept, next_text_is_not_kept, text_holds}
+use Rattle.mgr_port.proofs.laws.calls_leave_what_a_port_is_held_to.Goals as goal
+
+pub returns-clause-read : goal.returns-clause-read
+returns-clause-read c file path next read left now loads = read_known file path next read left now loads
+
+pub returns-clause-added : goal.returns-clause-added
+returns-clause-added c file path lines bytes found left longer text old now added known has = as_appended file path left lines longer bytes found text old now added known has
+
+pub returns-clause-failed : goal.returns-clause-failed
+returns-clause-failed c file lines bytes found text old now front known has = as_begun file lines bytes found text old now front known has
+
+pub returns-clause-made : goal.returns-clause-made
+returns-clause-made c stamp_of file name beside lines found left text old now apart makes holds = λ k. record {
+  log = Some (log_holds stamp_of apart None file _ name beside None lines found left old now (next_log_is_not_kept name) makes holds k);
+  text = text;
+}
+
+pub returns-clause-replaced : goal.returns-clause-replaced
+returns-clause-replaced c stamp_of before file name beside lines found standing left log text old now apart makes holds = λ k. record {
+  log = Some (log_holds stamp_of apart before file _ name beside standing lines found left old now (next_log_is_not_kept name) makes holds k);
+  text = text;
+}
+
+pub returns-clause-put : goal.returns-clause-put
+returns-clause-put c stamp_of file kept name bytes found own now_own log text old now apart puts holds = λ k. record {
+  log = log;
+  text = Some (text_holds stamp_of apart file kept _ name bytes found own now_own old now (next_text_is_not_kept name) puts holds k);
+}
