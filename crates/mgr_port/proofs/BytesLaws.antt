@@ -107,7 +107,7 @@ before_lines log lines bytes a b c d first added last has =
       all ∙ append_assoc (was ++ early.1 ++ lines) put.2 late.1,
     )
 
-shown_quiet : (file : ℕ) (path : List ℕ) (left : LeftLog) (a b : History) → ShowsGrowth file path left a b → IsQuiet a b
+pub shown_quiet : (file : ℕ) (path : List ℕ) (left : LeftLog) (a b : History) → ShowsGrowth file path left a b → IsQuiet a b
 shown_quiet file path left a b (look, end, newline, followed, ended, one, two, three, may) =
     only_more a ended b (EndsInNewline file look.stamp.length newline)
     (only_more a followed ended (Ends file left.stamp.length end) (quiet_follow a followed path (Some look) one) two tt) three tt
@@ -119,7 +119,7 @@ synced_quiet file path left longer a b (look, synced, looked, ended, one, two, t
     (only_more synced looked ended (Ends file look.stamp.length (Some longer.end)) (quiet_one synced looked (LooksAt file look) two tt) three tt)
     (shown_quiet file path left ended b shows)
 
-longer_quiet : (file : ℕ) (path : List ℕ) (left longer : LeftLog) (a b : History) → IsLonger file path left longer a b → IsQuiet a b
+pub longer_quiet : (file : ℕ) (path : List ℕ) (left longer : LeftLog) (a b : History) → IsLonger file path left longer a b → IsQuiet a b
 longer_quiet file path left longer a b l = only_chain a l.1 b (quiet_one a l.1 (Syncs file) l.4 tt) (synced_quiet file path left longer a b l)
 
 pub lines_are_there : (file : ℕ) (path : List ℕ) (left : LeftLog) (lines : List ℕ) (longer : LeftLog) (bytes : List ℕ) (a b : History) → IsAdded file path left lines longer a b

@@ -1,12 +1,12 @@
 -- What stands under a name once a file has taken it.
-use Rattle.std.proofs.Common.{◌≡◌, ◌≢◌, inl, inr, ◌∙◌, ℕ, List, [], ◌∷◌, ◌++◌, Bool, true, false, Option, Some, None, codes, refl, sym, ap, subst, arith}
+use Rattle.std.proofs.Common.{◌≡◌, ◌≢◌, ◌⊎◌, inl, inr, ◌∙◌, ℕ, List, [], ◌∷◌, ◌++◌, Bool, true, false, Option, Some, None, codes, refl, sym, ap, subst, arith}
 use Rattle.mgr_port.specs.Bytes.{HasAfter, OfTold, change_of}
 use Rattle.mgr_port.specs.Disk.{whole_steps}
-use Rattle.mgr_port.specs.Folder.{History, FolderStep, Adds, Dates, Empties, Ends, EndsInNewline, Follows, GivesTo, Links, Locks, Looks, LooksAt, Makes, Opens, Overwrites, Reads, ReadsAll, Removes, Renames, Resolves, SetsMode, Syncs, SyncsFolder, AreAll, IsIdle, IsIdleStep, after}
+use Rattle.mgr_port.specs.Folder.{History, FolderStep, Adds, Dates, Empties, Ends, EndsInNewline, Follows, GivesTo, Links, Locks, Looks, LooksAt, Makes, Opens, Overwrites, Reads, ReadsAll, Removes, Renames, Resolves, SetsMode, Syncs, SyncsFolder, AreAll, IsIdleStep, IsQuietStep, Only, after}
 use Rattle.mgr_port.specs.Locks.{HoldsEmpty, IsTaken, MakesBeside, StandsFor}
 use Rattle.mgr_port.specs.Naming.{AreApart, Holds, Stands, StandsAfter}
 use Rattle.mgr_port.specs.Notes.{MakesLog, TakesRights, TakesTextRights}
-use Rattle.mgr_port.specs.Spares.{EndsInTilde, GivesFreeName, IsKept, IsShown}
+use Rattle.mgr_port.specs.Spares.{EndsInTilde, GivesFreeName, IsKept, IsShown, IsStepAt, IsStepOf, PutsOnlyAt}
 use Rattle.mgr_port.specs.Staging.{DoesAll, KeepsOld, MayDate, SyncsDated, TakesOld}
 use Rattle.mgr_port.specs.Texts.{MakesFor, MakesLike, MakesNextText, PutsBeside, PutsInPlace, PutsText, TakesMode, TakesOwner}
 use Rattle.mgr_port.specs.Verdicts.{AreOfOneFile}
@@ -44,16 +44,18 @@ told_fact X (Some steps) holds = holds
 carry : (P : List FolderStep → Type 0) (step : FolderStep) (a b : History) → IsCarried P step → b ≡ after step a → OfTold P b → OfTold P a
 carry P step a b over is holds = told_more (λ steps. P (step ∷ steps)) P a over (told P step a b is holds)
 
--- what is carried over looks and dates
-module _ (P : List FolderStep → Type 0) (idle : (step : FolderStep) → IsIdleStep step → IsCarried P step) where
-  over_seen : (seen steps : List FolderStep) → AreAll IsIdleStep seen → P (seen ++ steps) → P steps
+-- over steps of one kind
+module _ (Q : FolderStep → Type 0) (P : List FolderStep → Type 0) (each : (step : FolderStep) → Q step → IsCarried P step) where
+  over_seen : (seen steps : List FolderStep) → AreAll Q seen → P (seen ++ steps) → P steps
   over_seen [] steps all holds = holds
-  over_seen (step ∷ seen) steps (one, all) holds = over_seen seen steps all (idle step one (seen ++ steps) holds)
+  over_seen (step ∷ seen) steps (one, all) holds = over_seen seen steps all (each step one (seen ++ steps) holds)
 
-  over_idle : (a b : History) → IsIdle a b → OfTold P b → OfTold P a
-  over_idle None b i holds = absurd (subst (OfTold P) i.is holds)
-  over_idle (Some steps) b i holds = over_seen i.seen steps i.all (subst (OfTold P) i.is holds)
+  over_only : (a b : History) → Only Q a b → OfTold P b → OfTold P a
+  over_only None b i holds = absurd (subst (OfTold P) i.is holds)
+  over_only (Some steps) b i holds = over_seen i.seen steps i.all (subst (OfTold P) i.is holds)
 
+-- over looks and dates
+module _ (P : List FolderStep → Type 0) (idle : (step : FolderStep) → IsIdleStep step → IsCarried P step) where
   over_one : (a b : History) (step : FolderStep) → IsIdleStep step → b ≡ after step a → OfTold P b → OfTold P a
   over_one a b step is_idle is holds = carry P step a b (idle step is_idle) is holds
 
@@ -78,9 +80,9 @@ module _ (P : List FolderStep → Type 0) (idle : (step : FolderStep) → IsIdle
 module _ (P : List FolderStep → Type 0) (idle : (step : FolderStep) → IsIdleStep step → IsCarried P step)
     (links : (other name : List ℕ) → EndsInTilde name → IsCarried P (Links other name)) (makes : (name bytes : List ℕ) → EndsInTilde name → IsCarried P (Makes name bytes)) where
   over_kept : (why : Reason) (path : List ℕ) (a b : History) → IsKept why path a b → OfTold P b → OfTold P a
-  over_kept reason.Linked path a b (name, seen, tilde, i, is) holds = over_idle P idle a seen i (carry P (Links path name) seen b (links path name tilde) is holds)
+  over_kept reason.Linked path a b (name, seen, tilde, i, is) holds = over_only IsIdleStep P idle a seen i (carry P (Links path name) seen b (links path name tilde) is holds)
   over_kept reason.Copied path a b (name, bytes, seen, read, tilde, i, was, is) holds =
-      over_idle P idle a seen i (over_one P idle seen read (Reads path bytes) tt was (carry P (Makes name bytes) read b (makes name bytes tilde) is holds))
+      over_only IsIdleStep P idle a seen i (over_one P idle seen read (Reads path bytes) tt was (carry P (Makes name bytes) read b (makes name bytes tilde) is holds))
   over_kept reason.Nothing path a b kept holds = absurd kept
   over_kept reason.Known path a b kept holds = absurd kept
   over_kept reason.Same path a b kept holds = absurd kept
@@ -344,6 +346,110 @@ module _ (stamp_of : ℕ → Stamp) (apart : AreApart stamp_of) where
   text_holds log text path name bytes found own now_own a b free (inl (file, is_there, seen, made, there, makes, puts, is)) holds =
       text_beside log file path name bytes found own now_own is_there seen made b free makes puts holds
   text_holds log text path name bytes found own now_own a b free (inr (known, seen, puts)) holds = text_in_place log name bytes found known now_own seen b puts holds
+
+-- ---- what stands elsewhere
+
+module _ (stamp_of : ℕ → Stamp) (here : List ℕ) (file : ℕ) where
+  quiet_names : (step : FolderStep) → IsQuietStep step → IsCarried (StandsAfter stamp_of here file) step
+  quiet_names (Looks other seen) quiet steps s = s
+  quiet_names (Follows other None) quiet steps s = s
+  quiet_names (Follows other (Some look)) quiet steps s = s.1
+  quiet_names (Resolves other target) quiet steps s = s
+  quiet_names (LooksAt opened look) quiet steps s = s.1
+  quiet_names (Opens opened other opening.Read) quiet steps s = s.1
+  quiet_names (Opens opened other opening.Write) quiet steps s = s.1
+  quiet_names (Opens opened other opening.Add) quiet steps s = s.1
+  quiet_names (Opens opened other opening.Beside) quiet steps s = absurd quiet
+  quiet_names (Opens opened other (opening.New mode)) quiet steps s = absurd quiet
+  quiet_names (Locks opened lock) quiet steps s = s
+  quiet_names (Ends opened size end) quiet steps s = s
+  quiet_names (EndsInNewline opened size newline) quiet steps s = s
+  quiet_names (Adds opened bytes) quiet steps s = absurd quiet
+  quiet_names (Empties opened) quiet steps s = absurd quiet
+  quiet_names (SetsMode opened mode) quiet steps s = absurd quiet
+  quiet_names (GivesTo opened owner) quiet steps s = absurd quiet
+  quiet_names (Dates opened log later) quiet steps s = s
+  quiet_names (Syncs opened) quiet steps s = s
+  quiet_names (SyncsFolder other) quiet steps s = absurd quiet
+  quiet_names (ReadsAll opened bytes) quiet steps s = absurd quiet
+  quiet_names (Reads other bytes) quiet steps s = s
+  quiet_names (Links other new) quiet steps s = absurd quiet
+  quiet_names (Makes new bytes) quiet steps s = absurd quiet
+  quiet_names (Removes other) quiet steps s = absurd quiet
+  quiet_names (Renames other new) quiet steps s = absurd quiet
+  quiet_names (Overwrites opened other) quiet steps s = absurd quiet
+
+module _ (stamp_of : ℕ → Stamp) (path name here : List ℕ) (file : ℕ) (off_path : here ≢ path) (off_name : here ≢ name) (not_kept : EndsInTilde here → ⊥) where
+  other_new : (new : List ℕ) → EndsInTilde new → here ≢ new
+  other_new new tilde same = not_kept (subst EndsInTilde (sym same) tilde)
+
+  at_names : (step : FolderStep) → IsStepAt path step → IsCarried (StandsAfter stamp_of here file) step
+  at_names (Looks other seen) at steps s = absurd at
+  at_names (Follows other None) at steps s = absurd at
+  at_names (Follows other (Some look)) at steps s = absurd at
+  at_names (Resolves other target) at steps s = absurd at
+  at_names (LooksAt opened look) at steps s = absurd at
+  at_names (Opens opened other opening.Read) at steps s = absurd at
+  at_names (Opens opened other opening.Write) at steps s = absurd at
+  at_names (Opens opened other opening.Add) at steps s = absurd at
+  at_names (Opens opened other opening.Beside) at steps s = s.1 (λ same. off_path (same ∙ at))
+  at_names (Opens opened other (opening.New mode)) at steps s = absurd at
+  at_names (Locks opened lock) at steps s = absurd at
+  at_names (Ends opened size end) at steps s = absurd at
+  at_names (EndsInNewline opened size newline) at steps s = absurd at
+  at_names (Adds opened bytes) at steps s = absurd at
+  at_names (Empties opened) at steps s = absurd at
+  at_names (SetsMode opened mode) at steps s = absurd at
+  at_names (GivesTo opened owner) at steps s = absurd at
+  at_names (Dates opened log later) at steps s = absurd at
+  at_names (Syncs opened) at steps s = absurd at
+  at_names (SyncsFolder other) at steps s = absurd at
+  at_names (ReadsAll opened bytes) at steps s = s
+  at_names (Reads other bytes) at steps s = absurd at
+  at_names (Links other new) at steps s = s.1 (other_new new at.1)
+  at_names (Makes new bytes) at steps s = s (other_new new at)
+  at_names (Removes other) at steps s = s.1
+  at_names (Renames other new) at steps s = absurd at
+  at_names (Overwrites opened other) at steps s = absurd at
+
+  put_names : (step : FolderStep) → IsStepOf path name step → IsCarried (StandsAfter stamp_of here file) step
+  put_names (Looks other seen) of steps s = absurd of
+  put_names (Follows other None) of steps s = absurd of
+  put_names (Follows other (Some look)) of steps s = absurd of
+  put_names (Resolves other target) of steps s = absurd of
+  put_names (LooksAt opened look) of steps s = absurd of
+  put_names (Opens opened other opening.Read) of steps s = absurd of
+  put_names (Opens opened other opening.Write) of steps s = absurd of
+  put_names (Opens opened other opening.Add) of steps s = absurd of
+  put_names (Opens opened other opening.Beside) of steps s = absurd of
+  put_names (Opens opened other (opening.New mode)) of steps s = s.1 (λ same. off_path (same ∙ of))
+  put_names (Locks opened lock) of steps s = absurd of
+  put_names (Ends opened size end) of steps s = absurd of
+  put_names (EndsInNewline opened size newline) of steps s = absurd of
+  put_names (Adds opened bytes) of steps s = s
+  put_names (Empties opened) of steps s = s
+  put_names (SetsMode opened mode) of steps s = s
+  put_names (GivesTo opened owner) of steps s = s
+  put_names (Dates opened log later) of steps s = absurd of
+  put_names (Syncs opened) of steps s = absurd of
+  put_names (SyncsFolder other) of steps s = s
+  put_names (ReadsAll opened bytes) of steps s = absurd of
+  put_names (Reads other bytes) of steps s = absurd of
+  put_names (Links other new) (inl of) steps s = s.1 (λ same. off_name (same ∙ of.1))
+  put_names (Links other new) (inr of) steps s = s.1 (other_new new of.1)
+  put_names (Makes new bytes) of steps s = absurd of
+  put_names (Removes other) of steps s = absurd of
+  put_names (Renames other new) of steps s = (s.1 (λ same. off_name (same ∙ of.1))).1
+  put_names (Overwrites opened other) of steps s = s.1 (λ same. off_name (same ∙ of))
+
+  step_names : (step : FolderStep) → IsIdleStep step ⊎ IsQuietStep step ⊎ IsStepAt path step ⊎ IsStepOf path name step → IsCarried (StandsAfter stamp_of here file) step
+  step_names step (inl idle) = idle_names stamp_of here file step idle
+  step_names step (inr (inl quiet)) = quiet_names stamp_of here file step quiet
+  step_names step (inr (inr (inl at))) = at_names step at
+  step_names step (inr (inr (inr of))) = put_names step of
+
+  pub stood_elsewhere : (a b : History) → PutsOnlyAt path name a b → Stands stamp_of here file b → Stands stamp_of here file a
+  stood_elsewhere a b puts stands = over_only _ (StandsAfter stamp_of here file) step_names a b puts stands
 
 -- ---- names beside
 

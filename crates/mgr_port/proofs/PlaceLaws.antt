@@ -1,12 +1,24 @@
 -- Steps that change something at one path alone, one after another.
-use Rattle.std.proofs.Common.{◌≡◌, inl, inr, ℕ, List, [], ◌∷◌, Option, Some, None, Result, Ok, Err, refl, subst}
-use Rattle.mgr_port.specs.Folder.{History, FolderStep, Follows, Links, LooksAt, Makes, Reads, Removes, AreAll, IsIdle, IsIdleStep, IsQuiet, Only, Steps, after}
+use Rattle.std.proofs.Common.{◌≡◌, ◌⊎◌, inl, inr, ℕ, Bool, true, false, List, [], ◌∷◌, Option, Some, None, Result, Ok, Err, IfOk, OnErr, OnOk, ◌++◌, refl, subst}
+use Rattle.mgr_port.specs.Disk.{DiskStep}
+use Rattle.mgr_port.specs.Disk as disk
+use Rattle.mgr_port.specs.Folder.{History, FolderStep, Adds, Dates, Empties, Follows, GivesTo, Links, Looks, LooksAt, Makes, Reads, Removes, Renames, Syncs, SyncsFolder, AreAll, IsIdle, IsIdleStep, IsQuiet, IsQuietStep, Only, Steps, Writes, after}
+use Rattle.mgr_port.specs.Growth.{AddsFront, IsAdded}
 use Rattle.mgr_port.specs.Notes.{Leaves, MayRemoveIf}
-use Rattle.mgr_port.specs.Spares.{ChangesOnlyAt, IsKept, IsOfFile, IsOneOfMore, IsStepAt, MayRemove}
+use Rattle.mgr_port.specs.Spares.{ChangesOnlyAt, GivesFreeName, IsKept, IsOfFile, IsOneOfMore, IsShown, IsStepAt, IsStepOf, MayRemove, PutsOnlyAt, SparesText}
+use Rattle.mgr_port.specs.Staging.{Does, DoesAll, KeepsOld, StopsBefore, SyncsDated, TakesOld}
+use Rattle.mgr_port.specs.Texts.{TakesOwner}
+use Rattle.mgr_port.specs.declared.spare.Owner.{Owner}
+use Rattle.mgr_port.specs.declared.staged.Named.{Named}
+use Rattle.mgr_port.specs.declared.staged.Old.{Old}
+use Rattle.mgr_port.specs.declared.staged.Old.TheVariants as old
+use Rattle.mgr_port.specs.declared.staged.Staged.{Staged}
+use Rattle.mgr_port.specs.declared.log.LeftLog.{LeftLog}
 use Rattle.mgr_port.specs.declared.spare.Look.{Look}
 use Rattle.mgr_port.specs.declared.spare.Reason.{Reason}
 use Rattle.mgr_port.specs.declared.spare.Reason.TheVariants as reason
 use Rattle.mgr_port.specs.declared.stamp.Stamp.{Stamp}
+use Rattle.mgr_port.proofs.BytesLaws.{longer_quiet, shown_quiet}
 use Rattle.mgr_port.proofs.FolderLaws.{only_chain, only_more, only_none}
 
 all_of : {P Q : FolderStep → Type 0} (steps : List FolderStep) → ((step : FolderStep) → P step → Q step) → AreAll P steps → AreAll Q steps
@@ -72,3 +84,143 @@ at_removal_if P (Some file) path a b may = at_removal P file path a b may
 -- what was held is left
 pub at_leaving : (next log : Option ℕ) (path : List ℕ) (a b : History) → Leaves next log path a b → ChangesOnlyAt path a b
 at_leaving next log path a b (gone, one, two) = at_chain path a gone b (at_removal_if IsOfFile next path a gone one) (at_removal_if IsOneOfMore log path gone b two)
+
+-- ---- what changes at a path, and at the name that its file is to take
+
+module _ (path name : List ℕ) where
+  -- the same at the path alone
+  abbrev IsPut : FolderStep → Type 0
+  IsPut step = IsIdleStep step ⊎ IsQuietStep step ⊎ IsStepAt path step ⊎ IsStepOf path name step
+
+  put_step : (step : FolderStep) → IsIdleStep step ⊎ IsQuietStep step ⊎ IsStepAt path step → IsPut step
+  put_step step (inl idle) = inl idle
+  put_step step (inr (inl quiet)) = inr (inl quiet)
+  put_step step (inr (inr at)) = inr (inr (inl at))
+
+  pub puts_at : (a b : History) → ChangesOnlyAt path a b → PutsOnlyAt path name a b
+  puts_at a b only = only_of a b put_step only
+
+  pub puts_idle : (a b : History) → IsIdle a b → PutsOnlyAt path name a b
+  puts_idle a b idle = only_of a b (λ step is. inl is) idle
+
+  pub puts_quiet : (a b : History) → IsQuiet a b → PutsOnlyAt path name a b
+  puts_quiet a b quiet = only_of a b (λ step is. inr (inl is)) quiet
+
+  pub puts_none : (a b : History) → b ≡ a → PutsOnlyAt path name a b
+  puts_none a b is = only_none a b is
+
+  pub puts_chain : (a b c : History) → PutsOnlyAt path name a b → PutsOnlyAt path name b c → PutsOnlyAt path name a c
+  puts_chain a b c one two = only_chain a b c one two
+
+  pub puts_look : (a b c : History) (step : FolderStep) → PutsOnlyAt path name a b → c ≡ after step b → IsQuietStep step → PutsOnlyAt path name a c
+  puts_look a b c step before is quiet = only_more a b c step before is (inr (inl quiet))
+
+  pub puts_step : (a b c : History) (step : FolderStep) → PutsOnlyAt path name a b → c ≡ after step b → IsStepOf path name step → PutsOnlyAt path name a c
+  puts_step a b c step before is of = only_more a b c step before is (inr (inr (inr of)))
+
+  -- it was done, or failed
+  pub puts_may : {A E : Type 0} (r : Result A E) (a b c : History) (step : A → FolderStep) → PutsOnlyAt path name a b → Steps r step b c → ((x : A) → IsPut (step x)) → PutsOnlyAt path name a c
+  puts_may (Ok x) a b c step before is put = only_more a b c (step x) before is (put x)
+  puts_may (Err e) a b c step before is put = puts_chain a b c before (puts_none b c is)
+
+  -- a beginning of bytes may have been written
+  pub puts_begun : (file : ℕ) (bytes : List ℕ) (a b c : History) → PutsOnlyAt path name a b
+      → (c ≡ b) ⊎ ((front : List ℕ) × (rest : List ℕ) × (bytes ≡ front ++ rest) × (c ≡ after (Adds file front) b)) → PutsOnlyAt path name a c
+  puts_begun file bytes a b c before (inl is) = puts_chain a b c before (puts_none b c is)
+  puts_begun file bytes a b c before (inr (front, rest, parts, is)) = puts_step a b c (Adds file front) before is tt
+
+  pub puts_written : {A E : Type 0} (r : Result A E) (file : ℕ) (bytes : List ℕ) (a b c : History) → PutsOnlyAt path name a b → Writes r file bytes b c → PutsOnlyAt path name a c
+  puts_written (Ok x) file bytes a b c before is = puts_step a b c (Adds file bytes) before is tt
+  puts_written (Err e) file bytes a b c before begun = puts_begun file bytes a b c before begun
+
+  -- lines were added, or a beginning of them
+  pub puts_added : {A E : Type 0} (r : Result A E) (file : ℕ) (log lines : List ℕ) (left longer : LeftLog) (a b : History) → OnOk r (IsAdded file log left lines longer a b)
+      → OnErr r (AddsFront file lines a b) → PutsOnlyAt path name a b
+  puts_added (Ok x) file log lines left longer a b (shown, added, shows, is, later) front =
+      puts_chain a added b (puts_step a shown added (Adds file lines) (puts_quiet a shown (shown_quiet file log left a shown shows)) is tt)
+      (puts_quiet added b (longer_quiet file log left longer added b later))
+  puts_added (Err e) file log lines left longer a b added (inl quiet) = puts_quiet a b quiet
+  puts_added (Err e) file log lines left longer a b none (inr (front, rest, shown, added, parts, first, is, last)) =
+      puts_chain a added b (puts_step a shown added (Adds file front) (puts_quiet a shown first) is tt) (puts_quiet added b last)
+
+  puts_one : (a b : History) (step : FolderStep) → b ≡ after step a → IsStepOf path name step → PutsOnlyAt path name a b
+  puts_one a b step is of = puts_step a a b step (puts_none a a refl) is of
+
+  pub puts_owner : (file : ℕ) (owner : Owner) (is_owned : Bool) (a b : History) → TakesOwner file owner a b is_owned → PutsOnlyAt path name a b
+  puts_owner file owner true a b (look, looked, one, inl (same, is)) = puts_chain a looked b (puts_look a a looked (LooksAt file look) (puts_none a a refl) one tt) (puts_none looked b is)
+  puts_owner file owner true a b (look, looked, one, inr is) = puts_step a looked b (GivesTo file owner) (puts_look a a looked (LooksAt file look) (puts_none a a refl) one tt) is tt
+  puts_owner file owner false a b (look, other, is) = puts_look a a b (LooksAt file look) (puts_none a a refl) is tt
+
+  -- what stands under the name is kept, or nothing is lost of it
+  puts_kept : (why : Reason) (a b : History) → IsKept why name a b → PutsOnlyAt path name a b
+  puts_kept reason.Linked a b (kept, seen, tilde, idle, is) = puts_step a seen b (Links name kept) (puts_idle a seen idle) is (inr (refl, tilde))
+  puts_kept reason.Copied a b (kept, bytes, seen, read, tilde, idle, was, is) =
+      only_more a read b (Makes kept bytes) (puts_look a seen read (Reads name bytes) (puts_idle a seen idle) was tt) is (inr (inr (inl tilde)))
+  puts_kept reason.Nothing a b kept = absurd kept
+  puts_kept reason.Known a b kept = absurd kept
+  puts_kept reason.Same a b kept = absurd kept
+  puts_kept reason.Open a b kept = absurd kept
+
+  puts_shown : (why : Reason) (own : Option Stamp) (bytes : List ℕ) (a b : History) → IsShown why name own bytes a b → PutsOnlyAt path name a b
+  puts_shown reason.Nothing own bytes a b is = puts_look a a b (Follows name None) (puts_none a a refl) is tt
+  puts_shown reason.Known own bytes a b (look, known, is) = puts_look a a b (Follows name (Some look)) (puts_none a a refl) is tt
+  puts_shown reason.Same own bytes a b (look, followed, one, two) =
+      puts_look a followed b (Reads name bytes) (puts_look a a followed (Follows name (Some look)) (puts_none a a refl) one tt) two tt
+  puts_shown reason.Linked own bytes a b shown = absurd shown
+  puts_shown reason.Copied own bytes a b shown = absurd shown
+  puts_shown reason.Open own bytes a b shown = absurd shown
+
+  pub puts_spared : (own : Option Stamp) (bytes : List ℕ) (a b : History) → SparesText name own bytes a b → PutsOnlyAt path name a b
+  puts_spared own bytes a b (why, inl shown) = puts_shown why own bytes a b shown
+  puts_spared own bytes a b (why, inr kept) = puts_kept why a b kept
+
+  puts_old : (log : Option ℕ) (o : Old) (a b : History) → KeepsOld log o name a b → PutsOnlyAt path name a b
+  puts_old log old.Nothing a b is = puts_none a b is
+  puts_old log old.Log a b (why, kept) = puts_kept why a b kept
+  puts_old log (old.Text own bytes) a b spared = puts_spared own bytes.now a b spared
+  puts_old log (old.Read size) a b (why, checked, (file, found, opened, followed, known, one, two, same, long), kept) =
+      puts_chain a checked b (puts_look a followed checked (LooksAt file opened) (puts_look a a followed (Follows name (Some found)) (puts_none a a refl) one tt) two tt) (puts_kept why checked b kept)
+
+  puts_free : (a b : History) → GivesFreeName path name a b → PutsOnlyAt path name a b
+  puts_free a b (inl (linked, one, inl is)) = puts_chain a linked b (puts_one a linked (Links path name) one (inl (refl, refl))) (puts_none linked b is)
+  puts_free a b (inl (linked, one, inr is)) = only_more a linked b (Removes path) (puts_one a linked (Links path name) one (inl (refl, refl))) is (inr (inr (inl refl)))
+  puts_free a b (inr (looked, one, is)) = puts_step a looked b (Renames path name) (puts_look a a looked (Looks name None) (puts_none a a refl) one tt) is (refl, refl)
+
+  puts_name : (o : Old) (a b : History) → TakesOld o path name a b → PutsOnlyAt path name a b
+  puts_name old.Nothing a b free = puts_free a b free
+  puts_name old.Log a b is = puts_one a b (Renames path name) is (refl, refl)
+  puts_name (old.Text own bytes) a b is = puts_one a b (Renames path name) is (refl, refl)
+  puts_name (old.Read size) a b is = puts_one a b (Renames path name) is (refl, refl)
+
+  pub puts_synced : (file : ℕ) (log later : Option ℕ) (a b : History) → SyncsDated file log later a b → PutsOnlyAt path name a b
+  puts_synced file log None a b (dated, may, is) = only_more a dated b (Syncs file) (puts_none a dated may) is (inr (inl tt))
+  puts_synced file log (Some later) a b (dated, inl may, is) = only_more a dated b (Syncs file) (puts_none a dated may) is (inr (inl tt))
+  puts_synced file log (Some later) a b (dated, inr (of, known, date), is) =
+      only_more a dated b (Syncs file) (puts_look a a dated (Dates file of later) (puts_none a a refl) date tt) is (inr (inl tt))
+
+module _ (file : ℕ) (log : Option ℕ) (s : Staged) where
+  puts_does : (step : DiskStep) (a b : History) → Does file log s step a b → PutsOnlyAt s.path.now s.name.now a b
+  puts_does disk.Empties a b is = puts_one s.path.now s.name.now a b (Empties file) is tt
+  puts_does (disk.Writes bytes) a b is = puts_one s.path.now s.name.now a b (Adds file bytes) is tt
+  puts_does disk.Syncs a b syncs = puts_synced s.path.now s.name.now file log s.later a b syncs
+  puts_does disk.Keeps a b keeps = puts_old s.path.now s.name.now log s.old a b keeps
+  puts_does disk.TakesName a b takes = puts_name s.path.now s.name.now s.old a b takes
+  puts_does disk.SyncsFolder a b is = puts_one s.path.now s.name.now a b (SyncsFolder s.name.now) is tt
+  puts_does disk.Removes a b gone = puts_at s.path.now s.name.now a b (at_removal IsOfFile file s.path.now a b gone)
+
+  -- all of a new file's steps, or some
+  pub puts_all : (steps : List DiskStep) (a b : History) → DoesAll file log s steps a b → PutsOnlyAt s.path.now s.name.now a b
+  puts_all [] a b is = puts_none s.path.now s.name.now a b is
+  puts_all (step ∷ []) a b does = puts_does step a b does
+  puts_all (step ∷ next ∷ later) a b (done, does, rest) = puts_chain s.path.now s.name.now a done b (puts_does step a done does) (puts_all (next ∷ later) done b rest)
+
+  pub puts_some : (wanted : List DiskStep) (a b : History) → StopsBefore file log s wanted a b → PutsOnlyAt s.path.now s.name.now a b
+  puts_some wanted a b t = puts_chain s.path.now s.name.now a t.done b (puts_all t.made a t.done t.does) (puts_idle s.path.now s.name.now t.done b t.idle)
+
+  pub puts_whole : {E : Type 0} (r : Result Named E) (steps : Named → List DiskStep) (wanted : List DiskStep) (a b : History) → IfOk r (λ n. DoesAll file log s (steps n) a b)
+      → OnErr r (StopsBefore file log s wanted a b) → PutsOnlyAt s.path.now s.name.now a b
+  puts_whole (Ok n) steps wanted a b does stops = puts_all (steps n) a b does
+  puts_whole (Err e) steps wanted a b does stops = puts_some wanted a b stops
+
+pub puts_paths : (path beside name spelled : List ℕ) (a b : History) → path ≡ beside → name ≡ spelled → PutsOnlyAt path name a b → PutsOnlyAt beside spelled a b
+puts_paths path beside name spelled a b is named puts = subst (λ n. PutsOnlyAt beside n a b) named (subst (λ p. PutsOnlyAt p name a b) is puts)

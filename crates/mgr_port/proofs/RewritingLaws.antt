@@ -1,5 +1,5 @@
 -- What a log that is written anew asks of a folder.
-use Rattle.std.proofs.Common.{◌≡◌, ℕ, List, [], ◌∷◌, Bool, false, Some, None, Result, Ok, Err, OnOk, sym, subst}
+use Rattle.std.proofs.Common.{◌≡◌, ℕ, List, [], ◌∷◌, Bool, true, false, Some, None, Result, Ok, Err, IfOk, OnOk, refl, sym, subst}
 use Rattle.std.specs.Prelude.{if◌then◌else◌}
 use Rattle.mgr_port.specs.Disk as disk
 use Rattle.mgr_port.specs.Disk.{last_steps}
@@ -20,6 +20,13 @@ pub opened_new : (file log : ℕ) (path : List ℕ) (is_there : Bool) (like : Lo
 unfolding OpensRefused
 opened_new file log path is_there like a b d e f shown is opened looked mode =
     (is_there, b, d, shown, opened, subst (λ is. TakesIfNew file log is d f) (sym is) (like, e, looked, mode))
+
+-- it had one, which is opened
+pub opened_there : {A E : Type 0} (r : Result A E) (file_of : A → ℕ) (log : ℕ) (path : List ℕ) (is_there : Bool) (a b c : History) → ShowsPlain path a b is_there → is_there ≡ true
+    → IfOk r (λ file. OpensBeside (file_of file) path b c) → IfOk r (λ file. OpensRefused (file_of file) log path a c)
+unfolding OpensRefused
+opened_there (Err e) file_of log path is_there a b c shown is opened = tt
+opened_there (Ok file) file_of log path is_there a b c shown is opened = (is_there, b, c, shown, opened, subst (λ is. TakesIfNew (file_of file) log is c c) (sym is) refl)
 
 -- the last steps were done, and the name is on the device
 pub settled_steps : (file log : ℕ) (s : Staged) (n : Named) (a b : History) → IsSettled n → DoesAll file (Some log) s (last_steps n) a b

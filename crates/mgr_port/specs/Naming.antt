@@ -3,6 +3,7 @@ use Rattle.std.specs.Prelude.{◌≡◌, ◌≢◌, ℕ, List, [], ◌∷◌, So
 use Rattle.mgr_port.specs.Bytes.{HasAfter, OfTold}
 use Rattle.mgr_port.specs.Folder.{History, FolderStep, Follows, Links, LooksAt, Makes, Opens, Overwrites, Removes, Renames}
 use Rattle.mgr_port.specs.Verdicts.{AreOfOneFile}
+use Rattle.mgr_port.specs.declared.folder.Opening.TheVariants as opening
 use Rattle.mgr_port.specs.declared.stamp.Stamp.{Stamp}
 
 -- no two files are of one device and number
@@ -17,7 +18,9 @@ module _ (stamp_of : ℕ → Stamp) where
   StandsBehind (Renames other name) path file Stood = (path ≡ name → Stood other) × (path ≢ name → (path ≢ other) × Stood path)
   StandsBehind (Removes other) path file Stood = (path ≢ other) × Stood path
   StandsBehind (Makes name bytes) path file Stood = path ≢ name → Stood path
-  StandsBehind (Opens opened other how) path file Stood = (path ≡ other → file ≡ opened) × (path ≢ other → Stood path)
+  StandsBehind (Opens opened other opening.Beside) path file Stood = (path ≡ other → file ≡ opened) × (path ≢ other → Stood path)
+  StandsBehind (Opens opened other (opening.New mode)) path file Stood = (path ≡ other → file ≡ opened) × (path ≢ other → Stood path)
+  StandsBehind (Opens opened other how) path file Stood = (path ≡ other → file ≡ opened) × Stood path
   StandsBehind (Overwrites opened other) path file Stood = (path ≡ other → file ≡ opened) × (path ≢ other → Stood path)
   StandsBehind (Follows other (Some look)) path file Stood = (path ≡ other → AreOfOneFile look.stamp (stamp_of file)) × Stood path
   StandsBehind (LooksAt opened look) path file Stood = AreOfOneFile look.stamp (stamp_of opened) × Stood path

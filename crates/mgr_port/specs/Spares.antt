@@ -1,8 +1,10 @@
 -- Why nothing is lost of what stands under a path if that goes.
-use Rattle.std.specs.Prelude.{◌≡◌, ◌⊎◌, ◌<◌, ℕ, List, ◌++◌, ◌∷◌, [], false, Option, Some, None}
+use Rattle.std.specs.Prelude.{◌≡◌, ◌⊎◌, ◌<◌, ℕ, List, ◌++◌, ◌∷◌, [], false, Option, Some, None, string_bytes}
 use Rattle.mgr_port.specs.Folder.{History, FolderStep, IsIdle, IsIdleStep, IsQuietStep, Only, Looks, Follows, LooksAt, Opens, Reads, ReadsAll, Links, Makes, Removes, Renames, after}
+use Rattle.mgr_port.specs.Folder.{Adds, Empties, GivesTo, Overwrites, SetsMode, SyncsFolder}
 use Rattle.mgr_port.specs.Verdicts.{AreOfOneFile}
 use Rattle.mgr_port.specs.declared.folder.Opening.TheVariants as opening
+use Rattle.mgr_port.specs.declared.names.Paths.{Paths}
 use Rattle.mgr_port.specs.declared.spare.Look.{Look}
 use Rattle.mgr_port.specs.declared.spare.Reason.{Reason}
 use Rattle.mgr_port.specs.declared.spare.Reason.TheVariants as reason
@@ -129,3 +131,35 @@ IsStepAt path other = ⊥
 
 abbrev pub ChangesOnlyAt : List ℕ → History → History → Type 0
 ChangesOnlyAt path old now = Only (λ step. IsIdleStep step ⊎ IsQuietStep step ⊎ IsStepAt path step) old now
+
+-- ---- what changes at a path, and at the name that its file is to take
+
+-- A file is made at the path, gets bytes and rights, and takes the name; or the file of the name is written over. What stands
+-- there gets another name before.
+abbrev pub IsStepOf : List ℕ → List ℕ → FolderStep → Type 0
+IsStepOf path name (Opens file other (opening.New mode)) = other ≡ path
+IsStepOf path name (Adds file bytes) = Unit {0}
+IsStepOf path name (Empties file) = Unit {0}
+IsStepOf path name (SetsMode file mode) = Unit {0}
+IsStepOf path name (GivesTo file owner) = Unit {0}
+IsStepOf path name (SyncsFolder other) = Unit {0}
+IsStepOf path name (Links other new) = ((other ≡ path) × (new ≡ name)) ⊎ ((other ≡ name) × EndsInTilde new)
+IsStepOf path name (Renames other new) = (other ≡ path) × (new ≡ name)
+IsStepOf path name (Overwrites file other) = other ≡ name
+IsStepOf path name other = ⊥
+
+abbrev pub PutsOnlyAt : List ℕ → List ℕ → History → History → Type 0
+PutsOnlyAt path name old now = Only (λ step. IsIdleStep step ⊎ IsQuietStep step ⊎ IsStepAt path step ⊎ IsStepOf path name step) old now
+
+-- the same at the paths of a log or of a text; at this path, whatever name its file is to take; and at none
+abbrev pub PutsLogOnly : Paths → History → History → Type 0
+PutsLogOnly paths old now = PutsOnlyAt (string_bytes paths.next_log) (string_bytes paths.log) old now
+
+abbrev pub PutsTextOnly : Paths → History → History → Type 0
+PutsTextOnly paths old now = PutsOnlyAt (string_bytes paths.next_text) (string_bytes paths.text) old now
+
+abbrev pub PutsOnlyBeside : List ℕ → History → History → Type 0
+PutsOnlyBeside path old now = (name : List ℕ) → PutsOnlyAt path name old now
+
+abbrev pub ChangesNoName : History → History → Type 0
+ChangesNoName old now = (path : List ℕ) → PutsOnlyBeside path old now

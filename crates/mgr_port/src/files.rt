@@ -1,5 +1,7 @@
 //! What files are, and who may do what with them.
-ghost use Rattle.std.specs.Prelude.{◌≡◌, IfOk, OnOk};
+ghost use Rattle.std.specs.Prelude.{◌≡◌, IfOk, OnErr, OnOk};
+ghost use Rattle.mgr_port.specs.Folder.{IsQuiet};
+ghost use Rattle.mgr_port.specs.Spares.{ChangesNoName};
 ghost use Rattle.mgr_port.specs.Texts.{FollowsPlain, TakesMode, TakesOwner};
 ghost use Rattle.mgr_port.specs.Verdicts.{mode_like};
 
@@ -13,8 +15,10 @@ pub(crate) const OWN: u32 = 0o600;
 
 /// The plain file that a path leads to; none where it is not there. `InvalidInput` where something else
 /// is: a pipe may never have an end, and a device may have none.
+#[tactic(auto, using(crate::proofs::FolderLaws::only_none, crate::proofs::FolderLaws::quiet_follow))]
 pub(crate) fn plain_if_there<F: Folder>(folder: &mut F, path: &str) -> io::Result<Option<Look>>
-    ensures { IfOk result (FollowsPlain path.now (F.steps folder.old) (F.steps folder.new)) }
+    ensures shown { IfOk result (FollowsPlain path.now (F.steps folder.old) (F.steps folder.new)) }
+    ensures quiet { IsQuiet (F.steps folder.old) (F.steps folder.new) }
 {
     match folder.follow(path)?.found {
         None => Ok(None),
@@ -26,8 +30,9 @@ pub(crate) fn plain_if_there<F: Folder>(folder: &mut F, path: &str) -> io::Resul
 /// Gives a new log the owner and the group of another file, where that is allowed, and its mode, but
 /// that nobody runs it and its owner can add to it.
 pub(crate) fn take_mode<F: Folder>(folder: &mut F, log: &F::File, like: Look) -> io::Result<()>
-    ensures { OnOk result
+    ensures taken { OnOk result
         (TakesMode (F.file_of log.now) like (F.steps folder.old) (F.steps folder.new)) }
+    ensures only { ChangesNoName (F.steps folder.old) (F.steps folder.new) }
 {
     let is_owned = take_owner(folder, log, like.owner)?;
     folder.set_mode(log, mode_like(like.mode, is_owned))
@@ -48,8 +53,9 @@ pub(crate) fn take_owner<F: Folder>(
     file: &F::File,
     owner: Owner,
 ) -> io::Result<bool>
-    ensures { IfOk result
+    ensures taken { IfOk result
         (TakesOwner (F.file_of file.now) owner (F.steps folder.old) (F.steps folder.new)) }
+    ensures same { OnErr result (F.steps folder.new ≡ F.steps folder.old) }
 {
     if folder.look_at(file)?.owner == owner {
         return Ok(true);

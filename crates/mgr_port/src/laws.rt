@@ -1,6 +1,6 @@
 //! Theorems about files that are written whole, paths that go, and logs that grow. Each function does
 //! nothing: its contract is the theorem.
-ghost use Rattle.std.specs.Prelude.{◌≡◌, ◌⊎◌, ℕ, List, ◌++◌, true, false, Option, Some, None, IfSome, codes, length};
+ghost use Rattle.std.specs.Prelude.{◌≡◌, ◌≢◌, ◌⊎◌, ℕ, List, ◌++◌, true, false, Option, Some, None, IfSome, codes, length};
 ghost use Rattle.mgr_port.specs.declared.log.FoundLog.{FoundLog};
 ghost use Rattle.mgr_port.specs.declared.log.LeftLog.{LeftLog};
 ghost use Rattle.mgr_port.specs.declared.spare.Look.{Look};
@@ -11,9 +11,9 @@ ghost use Rattle.mg_files.specs.declared.port.CallKind.TheVariants.{Append, PutT
 ghost use Rattle.mgr_port.specs.Bytes.{HadFront, HasAfter, HasFrontOf, HasLines, IsKnown, IsOnDevice};
 ghost use Rattle.mgr_port.specs.Bytes.{MayHave, MayStand, OfTold};
 ghost use Rattle.mgr_port.specs.Growth.{AddsFront, IsAdded};
-ghost use Rattle.mgr_port.specs.Naming.{AreApart, Holds};
+ghost use Rattle.mgr_port.specs.Naming.{AreApart, Holds, Stands};
 ghost use Rattle.mgr_port.specs.Notes.{LoadsLog, MakesLog};
-ghost use Rattle.mgr_port.specs.Spares.{IsNothing};
+ghost use Rattle.mgr_port.specs.Spares.{EndsInTilde, IsNothing, PutsOnlyAt};
 ghost use Rattle.mgr_port.specs.Texts.{PutsText};
 ghost use Rattle.mgr_port.specs.Verdicts.{MayGrow};
 ghost use Rattle.mgr_port.specs.Worlds.{World, Has, Shows, IsLinked, IsMade, IsLeftAlone, IsBare, StoodUnder, Locks};
@@ -129,4 +129,13 @@ pub fn calls_leave_what_a_port_is_held_to()
         → PutsText file kept (name ++ codes ".ops.text") name bytes own now_own old now
         → Holds stamp_of name found now → Leaves PutText true bytes
         (record { log = log; text = text }) (record { log = log; text = Some found }) }
+{}
+
+/// A call that puts something under a name, and writes it at a path beside, leaves what stands under
+/// any other name, whatever it answers: a text that is put leaves the log, and a log that is written
+/// anew the text. If it fails, what is kept under the name is still there, or has another one.
+pub fn what_stands_elsewhere_is_left()
+    ensures { (stamp_of : ℕ → Stamp) (path name other : List ℕ) (file : ℕ) (old now : History)
+        → PutsOnlyAt path name old now → other ≢ path → other ≢ name → (EndsInTilde other → ⊥)
+        → Stands stamp_of other file now → Stands stamp_of other file old }
 {}

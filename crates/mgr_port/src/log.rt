@@ -3,7 +3,7 @@ ghost use Rattle.std.specs.Prelude.{◌≡◌, ◌↔◌, ◌≤◌, IfOk, IsSom
 ghost use Rattle.mgr_port.specs.Folder.{IsQuiet};
 ghost use Rattle.mgr_port.specs.Growth.{AddsFront, IsAdded, IsLonger, ShowsGrowth};
 ghost use Rattle.mgr_port.specs.Notes.{IsLeftAt, MakesRoom};
-ghost use Rattle.mgr_port.specs.Spares.{IsOneOfMore, MayRemove};
+ghost use Rattle.mgr_port.specs.Spares.{ChangesOnlyAt, IsOneOfMore, MayRemove};
 ghost use Rattle.mgr_port.specs.Verdicts.{MayGrow};
 
 use crate::folder::Folder;
@@ -89,8 +89,9 @@ impl<T: Drop> Log<T> {
         alloc: Global,
         path: &str,
     ) -> io::Result<()>
-        ensures { OnOk result (MakesRoom (F.file_of self.now.file) path.now
+        ensures made { OnOk result (MakesRoom (F.file_of self.now.file) path.now
             (F.steps folder.old) (F.steps folder.new)) }
+        ensures only { ChangesOnlyAt path.now (F.steps folder.old) (F.steps folder.new) }
     {
         remove_second_name(folder, path, &self.file)?;
         if stands_for(folder, path, &self.file)? {

@@ -7,7 +7,7 @@ ghost use Rattle.mgr_port.specs.Growth.{AddsFront, IsAdded};
 ghost use Rattle.mgr_port.specs.Locks.{HoldsInItsPlace, HoldsNext, IsTaken, OpensLocked};
 ghost use Rattle.mgr_port.specs.Notes.{KeepsPlace, Leaves, LoadsLog, MakesLog, MakesRoomIf, MayRemoveIf, NamesLog};
 ghost use Rattle.mgr_port.specs.Notes.{ReadsLog, TakesRights, closed, old_for};
-ghost use Rattle.mgr_port.specs.Spares.{ChangesOnlyAt, IsOfFile};
+ghost use Rattle.mgr_port.specs.Spares.{ChangesNoName, ChangesOnlyAt, IsOfFile, PutsLogOnly, PutsTextOnly};
 ghost use Rattle.mgr_port.specs.Texts.{PutsText};
 ghost use Rattle.mgr_port.specs.declared.spare.Look.{Look};
 
@@ -143,6 +143,7 @@ impl<T: Drop> Note<T> {
             (string_bytes self.old.paths.log) (string_bytes self.old.paths.text) None
             lines.now log.left (after (Follows (string_bytes self.old.paths.log) None)
             (F.steps folder.old)) (F.steps folder.new))) }
+        ensures only { PutsLogOnly self.old.paths (F.steps folder.old) (F.steps folder.new) }
     {
         let path = self.paths.log.as_str();
         if let Some(log) = &mut self.log {
@@ -161,12 +162,13 @@ impl<T: Drop> Note<T> {
         alloc: Global,
         lines: &LogLines,
     ) -> io::Result<()>
-        ensures { OnOk result (IsSomeAnd self.new.log (λ log. (standing : Option Look)
+        ensures made { OnOk result (IsSomeAnd self.new.log (λ log. (standing : Option Look)
             × MakesLog (option_map (λ log. F.file_of log.file) self.old.log) (F.file_of log.file)
             (string_bytes self.old.paths.next_log)
             (string_bytes self.old.paths.log) (string_bytes self.old.paths.text) standing
             lines.now log.left (after (Follows (string_bytes self.old.paths.log) standing)
             (F.steps folder.old)) (F.steps folder.new))) }
+        ensures only { PutsLogOnly self.old.paths (F.steps folder.old) (F.steps folder.new) }
     {
         let standing = folder.follow(self.paths.log.as_str())?.found;
         self.make_log(folder, alloc, lines, standing)
@@ -181,11 +183,12 @@ impl<T: Drop> Note<T> {
         lines: &LogLines,
         standing: Option<Look>,
     ) -> io::Result<()>
-        ensures { OnOk result (IsSomeAnd self.new.log (λ log.
+        ensures made { OnOk result (IsSomeAnd self.new.log (λ log.
             MakesLog (option_map (λ log. F.file_of log.file) self.old.log) (F.file_of log.file)
             (string_bytes self.old.paths.next_log)
             (string_bytes self.old.paths.log) (string_bytes self.old.paths.text) standing
             lines.now log.left (F.steps folder.old) (F.steps folder.new))) }
+        ensures only { PutsLogOnly self.old.paths (F.steps folder.old) (F.steps folder.new) }
     {
         self.make_room(folder, alloc)?;
         let path = self.paths.next_log.as_str();
@@ -206,8 +209,10 @@ impl<T: Drop> Note<T> {
 
     /// Takes the path of the next log from the log, if it has that.
     fn make_room<F: Folder<File = T>>(&self, folder: &mut F, alloc: Global) -> io::Result<()>
-        ensures { OnOk result (MakesRoomIf (option_map (λ log. F.file_of log.file) self.now.log)
+        ensures made { OnOk result (MakesRoomIf (option_map (λ log. F.file_of log.file) self.now.log)
             (string_bytes self.now.paths.next_log) (F.steps folder.old) (F.steps folder.new)) }
+        ensures only { ChangesOnlyAt (string_bytes self.now.paths.next_log)
+            (F.steps folder.old) (F.steps folder.new) }
     {
         match &self.log {
             Some(log) => log.make_room(folder, alloc, self.paths.next_log.as_str()),
@@ -223,11 +228,12 @@ impl<T: Drop> Note<T> {
         alloc: Global,
         bytes: &[u8],
     ) -> io::Result<()>
-        ensures { OnOk result (PutsText (option_map (λ log. F.file_of log.file) self.old.log)
+        ensures put { OnOk result (PutsText (option_map (λ log. F.file_of log.file) self.old.log)
             (option_map F.file_of self.new.text.file)
             (string_bytes self.old.paths.next_text) (string_bytes self.old.paths.text)
             bytes.now self.old.text.own self.new.text.own
             (F.steps folder.old) (F.steps folder.new)) }
+        ensures only { PutsTextOnly self.old.paths (F.steps folder.old) (F.steps folder.new) }
     {
         self.text
             .put(folder, alloc, &self.paths, bytes, file_of(&self.log))
@@ -397,10 +403,11 @@ fn name_next<F: Folder>(
     lines: &LogLines,
     standing: Option<Look>,
 ) -> io::Result<Named>
-    ensures { IfOk result (λ named. NamesLog (F.file_of next.now)
+    ensures named { IfOk result (λ named. NamesLog (F.file_of next.now)
         (option_map (λ l. F.file_of l.now) log.entry) (string_bytes paths.now.next_log)
         (string_bytes paths.now.log) (string_bytes paths.now.text) standing
         (steps_to named lines.now) (F.steps folder.old) (F.steps folder.new)) }
+    ensures only { PutsLogOnly paths.now (F.steps folder.old) (F.steps folder.new) }
 {
     take_rights(folder, next, standing, paths.text.as_str())?;
     let staged = Staged {
@@ -430,9 +437,10 @@ fn take_rights<F: Folder>(
     standing: Option<Look>,
     text: &str,
 ) -> io::Result<()>
-    ensures { OnOk result
+    ensures taken { OnOk result
         (TakesRights (F.file_of log.now) standing text.now
         (F.steps folder.old) (F.steps folder.new)) }
+    ensures only { ChangesNoName (F.steps folder.old) (F.steps folder.new) }
 {
     if let Some(like) = standing {
         return take_mode(folder, log, like);

@@ -1,9 +1,10 @@
 //! A log that is read whole, and written anew beside.
 ghost use Rattle.std.specs.Prelude.{◌≡◌, None, Some, IfOk, OnOk, true, if◌then◌else◌, string_bytes};
-ghost use Rattle.mgr_port.specs.Folder.{IsQuiet};
+ghost use Rattle.mgr_port.specs.Folder.{IsIdle, IsQuiet};
 ghost use Rattle.mgr_port.specs.Locks.{ShowsPlain};
 ghost use Rattle.mgr_port.specs.Rewriting.{EndsLine, KeepsRefused, MakesNextLog, NamesRead};
 ghost use Rattle.mgr_port.specs.Rewriting.{OpensRefused, OpensToRewrite};
+ghost use Rattle.mgr_port.specs.Spares.{ChangesNoName, PutsLogOnly, PutsOnlyBeside};
 
 use crate::files::take_mode;
 use crate::folder::{Folder, Opening};
@@ -84,6 +85,7 @@ impl<T: Drop> OpenLog<T> {
         ensures file { self.new.file ≡ self.old.file }
         ensures kept { OnOk result (KeepsRefused (F.file_of self.old.file) path.now bytes.now
             (F.steps folder.old) (F.steps folder.new)) }
+        ensures only { PutsOnlyBeside path.now (F.steps folder.old) (F.steps folder.new) }
     {
         self.refused = true;
         let refused = open_refused(folder, path, &self.file)?;
@@ -101,8 +103,9 @@ impl<T: Drop> OpenLog<T> {
         alloc: Global,
         path: &str,
     ) -> io::Result<T>
-        ensures { IfOk result (λ next. MakesNextLog (F.file_of next) (F.file_of self.now.file)
+        ensures made { IfOk result (λ next. MakesNextLog (F.file_of next) (F.file_of self.now.file)
             path.now (F.steps folder.old) (F.steps folder.new)) }
+        ensures only { PutsOnlyBeside path.now (F.steps folder.old) (F.steps folder.new) }
     {
         // One that was killed when it gave the log its name may have left it this one too.
         let _ = remove_second_name(folder, path, &self.file);
@@ -121,10 +124,11 @@ impl<T: Drop> OpenLog<T> {
         paths: &Paths,
         next: T,
     ) -> io::Result<()>
-        ensures { OnOk result (NamesRead (F.file_of next) (F.file_of self.now.file)
+        ensures named { OnOk result (NamesRead (F.file_of next) (F.file_of self.now.file)
             (string_bytes paths.now.next_log)
             (string_bytes paths.now.log) self.now.read self.now.refused
             (F.steps folder.old) (F.steps folder.new)) }
+        ensures only { PutsLogOnly paths.now (F.steps folder.old) (F.steps folder.new) }
     {
         let staged = Staged {
             path: paths.next_log.as_str(),
@@ -144,8 +148,10 @@ impl<T: Drop> OpenLog<T> {
 
 /// Whether a plain file stands under a path itself. `InvalidInput` if something else does, a link
 /// too.
+#[tactic(auto, using(crate::proofs::FolderLaws::only_none, crate::proofs::FolderLaws::idle_look))]
 fn is_plain_there<F: Folder>(folder: &mut F, path: &str) -> io::Result<bool>
-    ensures { IfOk result (ShowsPlain path.now (F.steps folder.old) (F.steps folder.new)) }
+    ensures shown { IfOk result (ShowsPlain path.now (F.steps folder.old) (F.steps folder.new)) }
+    ensures idle { IsIdle (F.steps folder.old) (F.steps folder.new) }
 {
     match folder.look(path)?.found {
         None => Ok(false),
@@ -157,9 +163,10 @@ fn is_plain_there<F: Folder>(folder: &mut F, path: &str) -> io::Result<bool>
 /// Opens the file of what was refused of a log, or makes it, with the owner and the rights of the log.
 #[tactic(auto, unfolding(crate::specs::Rewriting::OpensRefused))]
 fn open_refused<F: Folder>(folder: &mut F, path: &str, log: &F::File) -> io::Result<F::File>
-    ensures { IfOk result
+    ensures opened { IfOk result
         (λ file. OpensRefused (F.file_of file) (F.file_of log.now) path.now
         (F.steps folder.old) (F.steps folder.new)) }
+    ensures only { PutsOnlyBeside path.now (F.steps folder.old) (F.steps folder.new) }
 {
     if is_plain_there(folder, path)? {
         return open_beside(folder, path);
@@ -173,8 +180,9 @@ fn open_refused<F: Folder>(folder: &mut F, path: &str, log: &F::File) -> io::Res
 /// Ends the last line of a file that was cut off, so that nothing is read as a part of it.
 #[tactic(auto, unfolding(crate::specs::Rewriting::EndsLine))]
 fn end_line<F: Folder>(folder: &mut F, file: &F::File) -> io::Result<()>
-    ensures { OnOk result
+    ensures ended { OnOk result
         (EndsLine (F.file_of file.now) (F.steps folder.old) (F.steps folder.new)) }
+    ensures only { ChangesNoName (F.steps folder.old) (F.steps folder.new) }
 {
     let length = folder.look_at(file)?.stamp.length;
     if length == 0 {

@@ -1,8 +1,9 @@
 //! A text, as this port found and left it.
 ghost use Rattle.std.specs.Option.{option_map};
-ghost use Rattle.std.specs.Prelude.{◌≡◌, ◌≤◌, None, Some, IfOk, IfSome, OnOk, string_bytes};
+ghost use Rattle.std.specs.Prelude.{◌≡◌, ◌≤◌, List, ℕ, None, Some, IfOk, IfSome, OnOk, string_bytes};
 ghost use Rattle.mgr_port.specs.Folder.{IsQuiet};
 ghost use Rattle.mgr_port.specs.Locks.{IsOwnRead};
+ghost use Rattle.mgr_port.specs.Spares.{PutsOnlyAt, PutsOnlyBeside, PutsTextOnly};
 ghost use Rattle.mgr_port.specs.Texts.{IsOwnBeside, IsThere, MakesLike, MakesNextText, NamesText, PutsBeside, PutsInPlace, PutsText};
 
 use crate::files::{plain_if_there, take_owner};
@@ -121,11 +122,12 @@ impl<T: Drop> Text<T> {
         bytes: &[u8],
         log: Option<&T>,
     ) -> io::Result<()>
-        ensures { OnOk result (PutsText (option_map (λ l. F.file_of l.now) log.entry)
+        ensures put { OnOk result (PutsText (option_map (λ l. F.file_of l.now) log.entry)
             (option_map F.file_of self.new.file)
             (string_bytes paths.now.next_text) (string_bytes paths.now.text)
             bytes.now self.old.own self.new.own
             (F.steps folder.old) (F.steps folder.new)) }
+        ensures only { PutsTextOnly paths.now (F.steps folder.old) (F.steps folder.new) }
     {
         self.replaced = None;
         let path = paths.text.as_str();
@@ -159,6 +161,7 @@ impl<T: Drop> Text<T> {
             (option_map (λ l. F.file_of l.now) log.entry) (string_bytes paths.now.next_text)
             (string_bytes paths.now.text) bytes.now self.old.own self.new.own
             (F.steps folder.old) (F.steps folder.new)) }
+        ensures only { PutsTextOnly paths.now (F.steps folder.old) (F.steps folder.new) }
     {
         let answer = name_next(folder, alloc, paths, &next, self.own, bytes, log);
         let named = match answer {
@@ -183,9 +186,11 @@ impl<T: Drop> Text<T> {
         bytes: &[u8],
         log: Option<&T>,
     ) -> io::Result<()>
-        ensures { OnOk result (PutsInPlace (option_map (λ l. F.file_of l.now) log.entry)
+        ensures put { OnOk result (PutsInPlace (option_map (λ l. F.file_of l.now) log.entry)
             path.now bytes.now self.old.own self.new.own
             (F.steps folder.old) (F.steps folder.new)) }
+        ensures only { (beside : List ℕ)
+            → PutsOnlyAt beside path.now (F.steps folder.old) (F.steps folder.new) }
     {
         let spare = spare_text(folder, alloc, path, self.own, bytes, Keeping::ByCopy)?;
         let file = folder.overwrite(spare)?;
@@ -197,8 +202,10 @@ impl<T: Drop> Text<T> {
 }
 
 /// Whether a text is there, which may be written then. `InvalidInput` where it is no plain file.
+#[tactic(auto, using(crate::proofs::FolderLaws::only_none, crate::proofs::FolderLaws::only_chain, crate::proofs::FolderLaws::quiet_then_open_to_write))]
 fn is_there<F: Folder>(folder: &mut F, path: &str) -> io::Result<bool>
-    ensures { IfOk result (IsThere path.now (F.steps folder.old) (F.steps folder.new)) }
+    ensures shown { IfOk result (IsThere path.now (F.steps folder.old) (F.steps folder.new)) }
+    ensures quiet { IsQuiet (F.steps folder.old) (F.steps folder.new) }
 {
     if plain_if_there(folder, path)?.is_none() {
         return Ok(false);
@@ -217,9 +224,10 @@ fn name_next<F: Folder>(
     bytes: &[u8],
     log: Option<&F::File>,
 ) -> io::Result<Named>
-    ensures { IfOk result (NamesText (F.file_of next.now)
+    ensures named { IfOk result (NamesText (F.file_of next.now)
         (option_map (λ l. F.file_of l.now) log.entry) (string_bytes paths.now.next_text)
         (string_bytes paths.now.text) bytes.now own (F.steps folder.old) (F.steps folder.new)) }
+    ensures only { PutsTextOnly paths.now (F.steps folder.old) (F.steps folder.new) }
 {
     check_lock(folder.lock(next)?)?;
     let staged = Staged {
@@ -240,9 +248,10 @@ fn make_next<F: Folder>(
     paths: &Paths,
     is_there: bool,
 ) -> io::Result<Option<F::File>>
-    ensures { IfOk result (λ o. IfSome o (λ file. MakesNextText (F.file_of file)
+    ensures made { IfOk result (λ o. IfSome o (λ file. MakesNextText (F.file_of file)
         (string_bytes paths.now.next_text)
         (string_bytes paths.now.text) is_there (F.steps folder.old) (F.steps folder.new))) }
+    ensures only { PutsTextOnly paths.now (F.steps folder.old) (F.steps folder.new) }
 {
     let path = paths.next_text.as_str();
     match folder.look(paths.text.as_str())?.found {
@@ -259,8 +268,9 @@ fn make_like<F: Folder>(
     path: &str,
     like: Look,
 ) -> io::Result<Option<F::File>>
-    ensures { IfOk result (λ o. IfSome o (λ file.
+    ensures made { IfOk result (λ o. IfSome o (λ file.
         MakesLike (F.file_of file) path.now like (F.steps folder.old) (F.steps folder.new))) }
+    ensures only { PutsOnlyBeside path.now (F.steps folder.old) (F.steps folder.new) }
 {
     let Ok(next) = make_beside(folder, alloc, path, 0) else {
         return only_name(like);

@@ -1,6 +1,7 @@
-use Rattle.std.proofs.Common.{◌∙◌, ap, sym}
+use Rattle.std.proofs.Common.{◌∙◌, ap, refl, sym}
 use Rattle.std.specs.Option.{option_map}
 use Rattle.mgr_port.proofs.NotesLaws.{added_to, made_after_look, none_stands}
+use Rattle.mgr_port.proofs.PlaceLaws.{puts_added, puts_chain, puts_look, puts_none}
 use Rattle.mgr_port.proofs.note.Note.append.Goals as goal
 
 pub returns-in-Some-clause-added : goal.returns-in-Some-clause-added
@@ -8,4 +9,13 @@ returns-in-Some-clause-added g c = added_to _ _ c.in-Some.log (λ log. log.file)
 
 pub returns-clause-made : goal.returns-clause-made
 returns-clause-made g c = λ none.
-    made_after_look _ _ (λ log. g.F.Folder.file_of log.file) (λ log. log.left) _ _ _ _ _ _ _ _ _ _ _ _ (ap (option_map (λ log. g.F.Folder.file_of log.file)) none) c.as_str-path.ensures.value (none_stands c.in_ok-follow.field-0.found (sym c.is_some.ensures ∙ c.if-is_some.false)) c.in_ok-follow.ensures.step c.make_log.ensures
+    made_after_look _ _ (λ log. g.F.Folder.file_of log.file) (λ log. log.left) _ _ _ _ _ _ _ _ _ _ _ _ (ap (option_map (λ log. g.F.Folder.file_of log.file)) none) c.as_str-path.ensures.value (none_stands c.in_ok-follow.field-0.found (sym c.is_some.ensures ∙ c.if-is_some.false)) c.in_ok-follow.ensures.step c.make_log.ensures.made
+
+pub returns-in-Some-clause-only : goal.returns-in-Some-clause-only
+returns-in-Some-clause-only g c = puts_added _ _ c.append.result _ _ _ _ _ _ _ c.append.ensures.added c.append.ensures.begun
+
+pub returns-then-is_some-clause-only : goal.returns-then-is_some-clause-only
+returns-then-is_some-clause-only g c = puts_look _ _ _ _ _ _ (puts_none _ _ _ _ refl) c.in_ok-follow.ensures.step tt
+
+pub returns-clause-only : goal.returns-clause-only
+returns-clause-only g c = puts_chain _ _ _ _ _ (puts_look _ _ _ _ _ _ (puts_none _ _ _ _ refl) c.in_ok-follow.ensures.step tt) c.make_log.ensures.only

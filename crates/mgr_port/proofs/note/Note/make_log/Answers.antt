@@ -1,8 +1,32 @@
 use Rattle.mgr_port.proofs.NotesLaws.{made_log}
+use Rattle.mgr_port.proofs.PlaceLaws.{at_path, puts_at, puts_chain, puts_look, puts_none, puts_quiet}
 use Rattle.mgr_port.proofs.note.Note.make_log.Goals as goal
 
-pub returns-in_ok-read_to-in-Ok : goal.returns-in_ok-read_to-in-Ok
-returns-in_ok-read_to-in-Ok g c =
+pub returns-in_ok-read_to-in-Ok-clause-made : goal.returns-in_ok-read_to-in-Ok-clause-made
+returns-in_ok-read_to-in-Ok-clause-made g c =
     rw c.in_ok-read_to-in-Ok.ensures.file
-    (made_log _ c.in-Ok.named _ _ _ _ _ _ _ _ _ _ _ _ _ _ _ _ _ c.settled.ensures c.as_str-path.ensures.value (c.file_of-log.ensures g.F.Folder.file_of) c.in_ok-make_room.ensures
-    c.in_ok-next.ensures.taken c.in_ok-next.ensures.only c.in-Ok.ensures c.in_ok-length-in-Ok.ensures.step c.in_ok-read_to-in-Ok.ensures.left)
+    (made_log _ c.in-Ok.named _ _ _ _ _ _ _ _ _ _ _ _ _ _ _ _ _ c.settled.ensures c.as_str-path.ensures.value (c.file_of-log.ensures g.F.Folder.file_of) c.in_ok-make_room.ensures.made
+    c.in_ok-next.ensures.taken c.in_ok-next.ensures.only c.in-Ok.ensures.named c.in_ok-length-in-Ok.ensures.step c.in_ok-read_to-in-Ok.ensures.left)
+
+pub returns-in_err-next-clause-only : goal.returns-in_err-next-clause-only
+returns-in_err-next-clause-only g c =
+    puts_chain _ _ _ _ _ (puts_at _ _ _ _ c.in_ok-make_room.ensures.only) (puts_at _ _ _ _ (at_path _ _ _ _ c.as_str-path.ensures.value c.in_err-next.ensures.only))
+
+pub returns-in-Err-clause-only : goal.returns-in-Err-clause-only
+returns-in-Err-clause-only g c =
+    puts_chain _ _ _ _ _ (puts_chain _ _ _ _ _ (puts_at _ _ _ _ c.in_ok-make_room.ensures.only) (puts_at _ _ _ _ (at_path _ _ _ _ c.as_str-path.ensures.value c.in_ok-next.ensures.only)))
+    c.name_next.ensures.only
+
+pub returns-in_err-length-in-Ok-clause-only : goal.returns-in_err-length-in-Ok-clause-only
+returns-in_err-length-in-Ok-clause-only g c =
+    puts_chain _ _ _ _ _
+    (puts_chain _ _ _ _ _ (puts_chain _ _ _ _ _ (puts_at _ _ _ _ c.in_ok-make_room.ensures.only) (puts_at _ _ _ _ (at_path _ _ _ _ c.as_str-path.ensures.value c.in_ok-next.ensures.only))) c.name_next.ensures.only)
+    (puts_none _ _ _ _ c.in_err-length-in-Ok.ensures.step)
+
+pub returns-in_err-read_to-in-Ok-clause-only : goal.returns-in_err-read_to-in-Ok-clause-only
+returns-in_err-read_to-in-Ok-clause-only g c =
+    puts_chain _ _ _ _ _ (puts_look _ _ _ _ _ _ (puts_chain _ _ _ _ _ (puts_chain _ _ _ _ _ (puts_at _ _ _ _ c.in_ok-make_room.ensures.only) (puts_at _ _ _ _ (at_path _ _ _ _ c.as_str-path.ensures.value c.in_ok-next.ensures.only))) c.name_next.ensures.only) c.in_ok-length-in-Ok.ensures.step tt) (puts_quiet _ _ _ _ c.in_err-read_to-in-Ok.ensures.quiet)
+
+pub returns-in_ok-read_to-in-Ok-clause-only : goal.returns-in_ok-read_to-in-Ok-clause-only
+returns-in_ok-read_to-in-Ok-clause-only g c =
+    puts_chain _ _ _ _ _ (puts_look _ _ _ _ _ _ (puts_chain _ _ _ _ _ (puts_chain _ _ _ _ _ (puts_at _ _ _ _ c.in_ok-make_room.ensures.only) (puts_at _ _ _ _ (at_path _ _ _ _ c.as_str-path.ensures.value c.in_ok-next.ensures.only))) c.name_next.ensures.only) c.in_ok-length-in-Ok.ensures.step tt) (puts_quiet _ _ _ _ c.in_ok-read_to-in-Ok.ensures.quiet)

@@ -1,7 +1,32 @@
-use Rattle.std.proofs.Common.{refl}
+use Rattle.std.proofs.Common.{Some, refl}
+use Rattle.mgr_port.proofs.PlaceLaws.{puts_begun, puts_chain, puts_idle, puts_look, puts_none, puts_spared, puts_step, puts_synced}
 use Rattle.mgr_port.proofs.text.Text.put_in_place.Goals as goal
 
-pub returns : goal.returns
-returns g c =
+pub returns-clause-put : goal.returns-clause-put
+returns-clause-put g c =
     let written = rw c.in_ok-spare.ensures.path at c.in_ok-file.ensures.step in
     (_, _, _, _, _, _, c.in_ok-spare.ensures.kept, written, c.in_ok-write.ensures.step, c.in_ok-sync_dated.ensures.synced, c.in_ok-look_at.ensures.step, refl)
+
+pub returns-in_err-file-clause-only : goal.returns-in_err-file-clause-only
+returns-in_err-file-clause-only g c = λ beside. puts_chain beside _ _ _ _ (puts_spared beside _ _ _ _ _ c.in_ok-spare.ensures.kept) (puts_none beside _ _ _ c.in_err-file.ensures.step)
+
+pub returns-in_err-write-clause-only : goal.returns-in_err-write-clause-only
+returns-in_err-write-clause-only g c = λ beside.
+    puts_begun beside _ _ _ _ _ _ (puts_step beside _ _ _ _ _ (puts_spared beside _ _ _ _ _ c.in_ok-spare.ensures.kept) c.in_ok-file.ensures.step c.in_ok-spare.ensures.path) c.in_err-write.ensures.step
+
+pub returns-in_err-sync_dated-clause-only : goal.returns-in_err-sync_dated-clause-only
+returns-in_err-sync_dated-clause-only g c = λ beside.
+    let over = puts_step beside _ _ _ _ _ (puts_spared beside _ _ _ _ _ c.in_ok-spare.ensures.kept) c.in_ok-file.ensures.step c.in_ok-spare.ensures.path in
+    puts_chain beside _ _ _ _ (puts_step beside _ _ _ _ _ over c.in_ok-write.ensures.step tt) (puts_idle beside _ _ _ c.in_err-sync_dated.ensures.idle)
+
+pub returns-in_err-look_at-clause-only : goal.returns-in_err-look_at-clause-only
+returns-in_err-look_at-clause-only g c = λ beside.
+    let over = puts_step beside _ _ _ _ _ (puts_spared beside _ _ _ _ _ c.in_ok-spare.ensures.kept) c.in_ok-file.ensures.step c.in_ok-spare.ensures.path in
+    let synced = puts_chain beside _ _ _ _ (puts_step beside _ _ _ _ _ over c.in_ok-write.ensures.step tt) (puts_synced beside _ _ _ (Some 100) _ _ c.in_ok-sync_dated.ensures.synced) in
+    puts_chain beside _ _ _ _ synced (puts_none beside _ _ _ c.in_err-look_at.ensures.step)
+
+pub returns-clause-only : goal.returns-clause-only
+returns-clause-only g c = λ beside.
+    let over = puts_step beside _ _ _ _ _ (puts_spared beside _ _ _ _ _ c.in_ok-spare.ensures.kept) c.in_ok-file.ensures.step c.in_ok-spare.ensures.path in
+    let synced = puts_chain beside _ _ _ _ (puts_step beside _ _ _ _ _ over c.in_ok-write.ensures.step tt) (puts_synced beside _ _ _ (Some 100) _ _ c.in_ok-sync_dated.ensures.synced) in
+    puts_look beside _ _ _ _ _ synced c.in_ok-look_at.ensures.step tt
