@@ -9,6 +9,7 @@ ghost use Rattle.mgr_port.specs.Spares.{MayBeOverwritten, path_of};
 use crate::log::{End, LeftLog};
 use crate::spare::{Look, Owner, Spare, Standing};
 use mg_files::LogLines;
+use std::alloc::Global;
 use std::io;
 
 /// How a file is opened.
@@ -48,6 +49,9 @@ pub trait Folder {
 
     /// Which file an open one is.
     ghost file_of: { Self.File → ℕ };
+
+    /// The memory that paths are made in.
+    fn alloc(&self) -> Global;
 
     /// What stands under a path itself.
     fn look<'p>(&mut self, path: &'p str) -> io::Result<Standing<'p>>

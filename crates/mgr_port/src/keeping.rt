@@ -26,12 +26,7 @@ pub enum Keeping {
 /// Keeps what stands under a path beside it, under the path with `~` after it; if that is taken with
 /// `.~1~`, `.~2~` and so on. Nothing is overwritten.
 #[tactic(auto, using(crate::proofs::FolderLaws::only_none, crate::proofs::FolderLaws::kept_later))]
-pub fn keep<'p, F: Folder>(
-    folder: &mut F,
-    alloc: Global,
-    path: &'p str,
-    keeping: Keeping,
-) -> io::Result<Spare<'p>>
+pub fn keep<'p, F: Folder>(folder: &mut F, path: &'p str, keeping: Keeping) -> io::Result<Spare<'p>>
     ensures path { IfOk result (λ spare. path_of spare ≡ path.now) }
     ensures kept { IfOk result (λ spare.
         IsKept spare.reason path.now (F.steps folder.old) (F.steps folder.new)) }
@@ -39,7 +34,7 @@ pub fn keep<'p, F: Folder>(
     ensures idle { OnErr result (IsIdle (F.steps folder.old) (F.steps folder.new)) }
 {
     for number in 0..MAX_KEPT {
-        let kept = kept_path(alloc, path, number)?;
+        let kept = kept_path(folder.alloc(), path, number)?;
         match keep_as(folder, path, kept.as_str(), keeping) {
             Ok(spare) => return Ok(spare),
             Err(error) if error.kind() == ErrorKind::AlreadyExists => {}

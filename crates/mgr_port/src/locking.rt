@@ -8,7 +8,6 @@ ghost use Rattle.mgr_port.specs.Spares.{ChangesOnlyAt};
 
 use crate::folder::{Folder, Lock, Opening};
 use crate::vacating::make_way;
-use std::alloc::Global;
 use std::io;
 use std::io::ErrorKind;
 
@@ -148,12 +147,7 @@ pub(crate) fn open_beside<F: Folder>(folder: &mut F, path: &str) -> io::Result<F
 /// that was killed may leave it: that is kept, and lets go of the name; `PermissionDenied` if it
 /// can't.
 #[tactic(auto, unfolding(crate::specs::Locks::HoldsEmpty))]
-pub(crate) fn hold_empty<F: Folder>(
-    folder: &mut F,
-    alloc: Global,
-    path: &str,
-    next: &F::File,
-) -> io::Result<()>
+pub(crate) fn hold_empty<F: Folder>(folder: &mut F, path: &str, next: &F::File) -> io::Result<()>
     ensures held { OnOk result
         (HoldsEmpty (F.file_of next.now) path.now (F.steps folder.old) (F.steps folder.new)) }
     ensures only { ChangesOnlyAt path.now (F.steps folder.old) (F.steps folder.new) }
@@ -162,7 +156,7 @@ pub(crate) fn hold_empty<F: Folder>(
     if folder.look_at(next)?.stamp.length == 0 {
         return Ok(());
     }
-    match make_way(folder, alloc, path) {
+    match make_way(folder, path) {
         Ok(()) => Err(io::Error::from(ErrorKind::Interrupted)),
         Err(error) if error.kind() == ErrorKind::OutOfMemory => Err(error),
         Err(_) => Err(io::Error::from(ErrorKind::PermissionDenied)),
@@ -170,25 +164,25 @@ pub(crate) fn hold_empty<F: Folder>(
 }
 
 /// A file of a path that is still to get its name, empty and locked.
-fn try_beside<F: Folder>(folder: &mut F, alloc: Global, path: &str) -> io::Result<F::File>
+fn try_beside<F: Folder>(folder: &mut F, path: &str) -> io::Result<F::File>
     ensures held { IfOk result
         (λ file. IsHeldEmpty (F.file_of file) path.now (F.steps folder.new)) }
     ensures only { ChangesOnlyAt path.now (F.steps folder.old) (F.steps folder.new) }
 {
     let next = open_beside(folder, path)?;
-    hold_empty(folder, alloc, path, &next)?;
+    hold_empty(folder, path, &next)?;
     Ok(next)
 }
 
 /// The same, tried anew if the path stood for another file meanwhile. `WouldBlock` if it always
 /// does.
-pub fn take_beside<F: Folder>(folder: &mut F, alloc: Global, path: &str) -> io::Result<F::File>
+pub fn take_beside<F: Folder>(folder: &mut F, path: &str) -> io::Result<F::File>
     ensures held { IfOk result
         (λ file. IsHeldEmpty (F.file_of file) path.now (F.steps folder.new)) }
     ensures only { ChangesOnlyAt path.now (F.steps folder.old) (F.steps folder.new) }
 {
     for _ in 0..TRIES {
-        match try_beside(folder, alloc, path) {
+        match try_beside(folder, path) {
             Err(error) if error.kind() == ErrorKind::Interrupted => {}
             answer => return answer,
         }

@@ -11,7 +11,6 @@ use crate::locking::stands_for;
 use crate::stamp::Stamp;
 use crate::vacating::{make_way, remove_second_name};
 use mg_files::LogLines;
-use std::alloc::Global;
 use std::io;
 use std::io::ErrorKind;
 
@@ -86,7 +85,6 @@ impl<T: Drop> Log<T> {
     pub(crate) fn make_room<F: Folder<File = T>>(
         &self,
         folder: &mut F,
-        alloc: Global,
         path: &str,
     ) -> io::Result<()>
         ensures made { OnOk result (MakesRoom (F.file_of self.now.file) path.now
@@ -95,7 +93,7 @@ impl<T: Drop> Log<T> {
     {
         remove_second_name(folder, path, &self.file)?;
         if stands_for(folder, path, &self.file)? {
-            make_way(folder, alloc, path)?;
+            make_way(folder, path)?;
         }
         Ok(())
     }

@@ -20,16 +20,13 @@ pub(crate) struct Paths {
 
 impl Paths {
     /// Out of memory alone.
-    pub(crate) fn new<F: Folder>(
-        folder: &mut F,
-        alloc: Global,
-        name: &str,
-    ) -> Result<Paths, OutOfMemory>
+    pub(crate) fn new<F: Folder>(folder: &mut F, name: &str) -> Result<Paths, OutOfMemory>
         ensures paths { IfOk result (ArePathsOf name.now) }
         ensures log { IfOk result (λ paths. IsLogOf name.now (string_bytes paths.log)
             (F.steps folder.old) (F.steps folder.new)) }
     {
-        let log = log_path(folder, alloc, name)?;
+        let log = log_path(folder, name)?;
+        let alloc = folder.alloc();
         Ok(Paths {
             text: path(alloc, name, "")?,
             next_log: path(alloc, log.as_str(), ".new")?,
@@ -50,11 +47,11 @@ impl Paths {
 /// The path of the log of a name. Where a link stands there, it is that of the log behind it: a new
 /// log would take the place of the link alone, and who has the log under its own name would go on
 /// with the old one.
-fn log_path<F: Folder>(folder: &mut F, alloc: Global, name: &str) -> Result<String, OutOfMemory>
+fn log_path<F: Folder>(folder: &mut F, name: &str) -> Result<String, OutOfMemory>
     ensures { IfOk result (λ log. IsLogOf name.now (string_bytes log)
         (F.steps folder.old) (F.steps folder.new)) }
 {
-    let log = path(alloc, name, ".ops")?;
+    let log = path(folder.alloc(), name, ".ops")?;
     match folder.look(log.as_str()) {
         Ok(standing) if standing.if_no_file().is_some() => {}
         _ => return Ok(log),

@@ -21,7 +21,6 @@ use crate::staged::{Named, Old, Staged, put_log};
 use crate::text::Text;
 use crate::vacating::remove_open;
 use mg_files::{Found, LogLines};
-use std::alloc::Global;
 use std::io;
 use std::io::ErrorKind;
 
@@ -53,11 +52,7 @@ impl<T: Drop> Note<T> {
 
     /// Closes what was open, locks the files, and reads the log; the text too where there is no log,
     /// and where it is not known as this port's own. Where that fails nothing stays locked.
-    pub(crate) fn load<F: Folder<File = T>>(
-        &mut self,
-        folder: &mut F,
-        alloc: Global,
-    ) -> io::Result<Found>
+    pub(crate) fn load<F: Folder<File = T>>(&mut self, folder: &mut F) -> io::Result<Found>
         ensures read { IfOk result (λ found. IfSome found.log (λ bytes. IsSomeAnd self.new.log
             (λ log. LoadsLog (F.file_of log.file) (string_bytes self.old.paths.log)
             (string_bytes self.old.paths.next_log) bytes log.left (F.steps folder.new)))) }
@@ -71,7 +66,7 @@ impl<T: Drop> Note<T> {
         ensures next { OnErr result (self.new.next ≡ None) }
     {
         self.close();
-        match self.try_load(folder, alloc) {
+        match self.try_load(folder) {
             Ok(found) => Ok(found),
             Err(error) => {
                 self.leave(folder);
@@ -94,7 +89,7 @@ impl<T: Drop> Note<T> {
     }
 
     /// The same, where nothing is open. Where that fails the files that were locked may stay so.
-    fn try_load<F: Folder<File = T>>(&mut self, folder: &mut F, alloc: Global) -> io::Result<Found>
+    fn try_load<F: Folder<File = T>>(&mut self, folder: &mut F) -> io::Result<Found>
         ensures read { IfOk result (λ found. IfSome found.log (λ bytes. IsSomeAnd self.new.log
             (λ log. LoadsLog (F.file_of log.file) (string_bytes self.old.paths.log)
             (string_bytes self.old.paths.next_log) bytes log.left (F.steps folder.new)))) }
@@ -107,7 +102,7 @@ impl<T: Drop> Note<T> {
             (F.steps folder.old) (F.steps folder.new) }
         ensures paths { self.new.paths ≡ self.old.paths }
     {
-        let (log, next) = lock_log(folder, alloc, &self.paths)?;
+        let (log, next) = lock_log(folder, &self.paths)?;
         self.next = next;
         let Some(file) = log else {
             let text = self.text.load(folder, self.paths.text.as_str())?;
@@ -129,7 +124,6 @@ impl<T: Drop> Note<T> {
     pub(crate) fn append<F: Folder<File = T>>(
         &mut self,
         folder: &mut F,
-        alloc: Global,
         lines: &LogLines,
     ) -> io::Result<()>
         ensures added { OnOk result (IfSome self.old.log (λ old. IfSome self.new.log (λ log.
@@ -152,14 +146,13 @@ impl<T: Drop> Note<T> {
         if folder.follow(path)?.found.is_some() {
             return Err(io::Error::from(ErrorKind::AlreadyExists));
         }
-        self.make_log(folder, alloc, lines, None)
+        self.make_log(folder, lines, None)
     }
 
     /// Makes these lines the whole log. What stands there is kept.
     pub(crate) fn replace<F: Folder<File = T>>(
         &mut self,
         folder: &mut F,
-        alloc: Global,
         lines: &LogLines,
     ) -> io::Result<()>
         ensures made { OnOk result (IsSomeAnd self.new.log (λ log. (standing : Option Look)
@@ -171,7 +164,7 @@ impl<T: Drop> Note<T> {
         ensures only { PutsLogOnly self.old.paths (F.steps folder.old) (F.steps folder.new) }
     {
         let standing = folder.follow(self.paths.log.as_str())?.found;
-        self.make_log(folder, alloc, lines, standing)
+        self.make_log(folder, lines, standing)
     }
 
     /// Writes lines beside the log, under a name that then becomes the log's. The new log is locked
@@ -179,7 +172,6 @@ impl<T: Drop> Note<T> {
     fn make_log<F: Folder<File = T>>(
         &mut self,
         folder: &mut F,
-        alloc: Global,
         lines: &LogLines,
         standing: Option<Look>,
     ) -> io::Result<()>
@@ -190,11 +182,11 @@ impl<T: Drop> Note<T> {
             lines.now log.left (F.steps folder.old) (F.steps folder.new))) }
         ensures only { PutsLogOnly self.old.paths (F.steps folder.old) (F.steps folder.new) }
     {
-        self.make_room(folder, alloc)?;
+        self.make_room(folder)?;
         let path = self.paths.next_log.as_str();
-        let next = take_next(folder, alloc, path, &mut self.next)?;
+        let next = take_next(folder, path, &mut self.next)?;
         let log = file_of(&self.log);
-        match name_next(folder, alloc, &self.paths, &next, log, lines, standing) {
+        match name_next(folder, &self.paths, &next, log, lines, standing) {
             Ok(named) => {
                 let length = folder.look_at(&next)?.stamp.length;
                 self.log = Some(Log::read_to(folder, next, length)?);
@@ -208,14 +200,14 @@ impl<T: Drop> Note<T> {
     }
 
     /// Takes the path of the next log from the log, if it has that.
-    fn make_room<F: Folder<File = T>>(&self, folder: &mut F, alloc: Global) -> io::Result<()>
+    fn make_room<F: Folder<File = T>>(&self, folder: &mut F) -> io::Result<()>
         ensures made { OnOk result (MakesRoomIf (option_map (λ log. F.file_of log.file) self.now.log)
             (string_bytes self.now.paths.next_log) (F.steps folder.old) (F.steps folder.new)) }
         ensures only { ChangesOnlyAt (string_bytes self.now.paths.next_log)
             (F.steps folder.old) (F.steps folder.new) }
     {
         match &self.log {
-            Some(log) => log.make_room(folder, alloc, self.paths.next_log.as_str()),
+            Some(log) => log.make_room(folder, self.paths.next_log.as_str()),
             None => Ok(()),
         }
     }
@@ -225,7 +217,6 @@ impl<T: Drop> Note<T> {
     pub(crate) fn put_text<F: Folder<File = T>>(
         &mut self,
         folder: &mut F,
-        alloc: Global,
         bytes: &[u8],
     ) -> io::Result<()>
         ensures put { OnOk result (PutsText (option_map (λ log. F.file_of log.file) self.old.log)
@@ -236,7 +227,7 @@ impl<T: Drop> Note<T> {
         ensures only { PutsTextOnly self.old.paths (F.steps folder.old) (F.steps folder.new) }
     {
         self.text
-            .put(folder, alloc, &self.paths, bytes, file_of(&self.log))
+            .put(folder, &self.paths, bytes, file_of(&self.log))
     }
 
     /// Closes the file whose name the text took last, if it is open.
@@ -285,7 +276,6 @@ fn file_of<T: Drop>(log: &Option<Log<T>>) -> Option<&T>
 /// always `Interrupted`.
 fn lock_log<F: Folder>(
     folder: &mut F,
-    alloc: Global,
     paths: &Paths,
 ) -> io::Result<(Option<F::File>, Option<F::File>)>
     ensures log { IfOk result (λ locked. IfSome locked.0 (λ file.
@@ -297,7 +287,7 @@ fn lock_log<F: Folder>(
         (F.steps folder.old) (F.steps folder.new) }
 {
     for _ in 0..TRIES {
-        match try_log(folder, alloc, paths) {
+        match try_log(folder, paths) {
             Err(error) if error.kind() == ErrorKind::Interrupted => {}
             answer => return answer,
         }
@@ -307,7 +297,6 @@ fn lock_log<F: Folder>(
 
 fn try_log<F: Folder>(
     folder: &mut F,
-    alloc: Global,
     paths: &Paths,
 ) -> io::Result<(Option<F::File>, Option<F::File>)>
     ensures log { IfOk result (λ locked. IfSome locked.0 (λ file.
@@ -327,7 +316,7 @@ fn try_log<F: Folder>(
     let Ok(file) = open_beside(folder, path) else {
         return Ok((None, None));
     };
-    match lock_next(folder, alloc, path, &file, log) {
+    match lock_next(folder, path, &file, log) {
         Ok(()) => Ok((None, Some(file))),
         Err(error) if error.kind() == ErrorKind::PermissionDenied => Ok((None, None)),
         Err(error) => Err(error),
@@ -354,19 +343,13 @@ fn read_log<T: Drop, F: Folder<File = T>>(
 
 /// Locks the next log, which is empty. `Interrupted` as of `hold_empty`, and if the log is there by
 /// now.
-fn lock_next<F: Folder>(
-    folder: &mut F,
-    alloc: Global,
-    path: &str,
-    next: &F::File,
-    log: &str,
-) -> io::Result<()>
+fn lock_next<F: Folder>(folder: &mut F, path: &str, next: &F::File, log: &str) -> io::Result<()>
     ensures held { OnOk result
         (HoldsInItsPlace (F.file_of next.now) path.now log.now
         (F.steps folder.old) (F.steps folder.new)) }
     ensures only { ChangesOnlyAt path.now (F.steps folder.old) (F.steps folder.new) }
 {
-    hold_empty(folder, alloc, path, next)?;
+    hold_empty(folder, path, next)?;
     if folder.follow(log)?.found.is_some() {
         let _ = remove_open(folder, path, next);
         return Err(io::Error::from(ErrorKind::Interrupted));
@@ -377,7 +360,6 @@ fn lock_next<F: Folder>(
 /// The next log of a path, locked: the one that is open, if the path still stands for it.
 fn take_next<F: Folder>(
     folder: &mut F,
-    alloc: Global,
     path: &str,
     open: &mut Option<F::File>,
 ) -> io::Result<F::File>
@@ -390,13 +372,12 @@ fn take_next<F: Folder>(
             return Ok(next);
         }
     }
-    take_beside(folder, alloc, path)
+    take_beside(folder, path)
 }
 
 /// Writes all of the next log, and gives it the log's name. What stands there is kept.
 fn name_next<F: Folder>(
     folder: &mut F,
-    alloc: Global,
     paths: &Paths,
     next: &F::File,
     log: Option<&F::File>,
@@ -416,7 +397,7 @@ fn name_next<F: Folder>(
         later: None,
         old: old_for(standing),
     };
-    put_log(folder, alloc, next, log, staged, lines)
+    put_log(folder, next, log, staged, lines)
 }
 
 /// What stands under the name of a log.

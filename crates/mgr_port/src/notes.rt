@@ -7,12 +7,10 @@ use crate::folder::Folder;
 use crate::names::Paths;
 use crate::note::Note;
 use rga_ops::OutOfMemory;
-use std::alloc::Global;
 
 /// The index of the note of a name, which need not be loaded.
 pub(crate) fn index_of<T: Drop, F: Folder<File = T>>(
     folder: &mut F,
-    alloc: Global,
     notes: &mut Vec<Note<T>>,
     name: &str,
 ) -> Result<usize, OutOfMemory>
@@ -26,7 +24,7 @@ pub(crate) fn index_of<T: Drop, F: Folder<File = T>>(
             return Ok(index);
         }
     }
-    let paths = Paths::new(folder, alloc, name)?;
+    let paths = Paths::new(folder, name)?;
     let index = notes.as_slice().len();
     notes.push(Note::new(paths))?;
     Ok(index)

@@ -112,7 +112,7 @@ fn failures_with(failures: u64, more: u64) -> u64
 fn paths_of<R: Files<File = File> + AllocGlobal>(rt: &R, name: &str) -> Result<Paths, OutOfMemory>
     ensures { IfOk result (ArePathsOf name.now) }
 {
-    Paths::new(&mut System { rt }, rt.alloc(), name)
+    Paths::new(&mut System { rt }, name)
 }
 
 /// The address at which peers are met: that of this machine alone, 127.0.0.1, and the number.
@@ -158,9 +158,8 @@ impl<R: Files<File = File> + Net + AllocGlobal + Drop> Port for FilePort<R> {
         ensures device { self.new.failures ≡ failures_after result self.old.failures }
         ensures number { self.new.number ≡ self.old.number }
     {
-        let alloc = self.rt.alloc();
-        let index = index_of(&mut System { rt: &self.rt }, alloc, &mut self.notes, name)?;
-        let found = self.notes[index].load(&mut System { rt: &self.rt }, alloc);
+        let index = index_of(&mut System { rt: &self.rt }, &mut self.notes, name)?;
+        let found = self.notes[index].load(&mut System { rt: &self.rt });
         told(&mut self.failures, found)
     }
 
@@ -170,9 +169,8 @@ impl<R: Files<File = File> + Net + AllocGlobal + Drop> Port for FilePort<R> {
         ensures device { self.new.failures ≡ failures_after result self.old.failures }
         ensures number { self.new.number ≡ self.old.number }
     {
-        let alloc = self.rt.alloc();
-        let index = index_of(&mut System { rt: &self.rt }, alloc, &mut self.notes, name)?;
-        let answer = self.notes[index].append(&mut System { rt: &self.rt }, alloc, lines);
+        let index = index_of(&mut System { rt: &self.rt }, &mut self.notes, name)?;
+        let answer = self.notes[index].append(&mut System { rt: &self.rt }, lines);
         told(&mut self.failures, answer)
     }
 
@@ -182,9 +180,8 @@ impl<R: Files<File = File> + Net + AllocGlobal + Drop> Port for FilePort<R> {
         ensures device { self.new.failures ≡ failures_after result self.old.failures }
         ensures number { self.new.number ≡ self.old.number }
     {
-        let alloc = self.rt.alloc();
-        let index = index_of(&mut System { rt: &self.rt }, alloc, &mut self.notes, name)?;
-        let answer = self.notes[index].replace(&mut System { rt: &self.rt }, alloc, lines);
+        let index = index_of(&mut System { rt: &self.rt }, &mut self.notes, name)?;
+        let answer = self.notes[index].replace(&mut System { rt: &self.rt }, lines);
         told(&mut self.failures, answer)
     }
 
@@ -194,9 +191,8 @@ impl<R: Files<File = File> + Net + AllocGlobal + Drop> Port for FilePort<R> {
         ensures device { self.new.failures ≡ failures_after result self.old.failures }
         ensures number { self.new.number ≡ self.old.number }
     {
-        let alloc = self.rt.alloc();
-        let index = index_of(&mut System { rt: &self.rt }, alloc, &mut self.notes, name)?;
-        let answer = self.notes[index].put_text(&mut System { rt: &self.rt }, alloc, bytes);
+        let index = index_of(&mut System { rt: &self.rt }, &mut self.notes, name)?;
+        let answer = self.notes[index].put_text(&mut System { rt: &self.rt }, bytes);
         told(&mut self.failures, answer)
     }
 
@@ -287,9 +283,8 @@ impl<R: Files<File = File> + Net + AllocGlobal + Drop> Logs for FilePort<R> {
 
     fn make_next(&mut self, name: &str, log: &OpenLog<File>) -> Result<File, PortFault> {
         let paths = paths_of(&self.rt, name)?;
-        let alloc = self.rt.alloc();
         let path = paths.next_log.as_str();
-        let made = log.make_next(&mut System { rt: &self.rt }, alloc, path);
+        let made = log.make_next(&mut System { rt: &self.rt }, path);
         told(&mut self.failures, made)
     }
 
@@ -305,9 +300,8 @@ impl<R: Files<File = File> + Net + AllocGlobal + Drop> Logs for FilePort<R> {
         self.failures = failures_with(self.failures, log.failures());
         self.failures = failures_with(self.failures, next.failures());
         let paths = paths_of(&self.rt, name)?;
-        let alloc = self.rt.alloc();
         let (log, next) = (log.into_inner(), next.into_inner());
-        let named = log.name_next(&mut System { rt: &self.rt }, alloc, &paths, next);
+        let named = log.name_next(&mut System { rt: &self.rt }, &paths, next);
         told(&mut self.failures, named)
     }
 

@@ -12,7 +12,6 @@ use crate::locking::{open_again, open_beside, take_beside};
 use crate::names::Paths;
 use crate::staged::{Old, Staged, name_written};
 use crate::vacating::{remove_open, remove_second_name};
-use std::alloc::Global;
 use std::fs::File;
 use std::io;
 use std::io::{ErrorKind, Read};
@@ -97,19 +96,14 @@ impl<T: Drop> OpenLog<T> {
     }
 
     /// An empty file beside the log, locked, with the owner and the rights of the log.
-    pub(crate) fn make_next<F: Folder<File = T>>(
-        &self,
-        folder: &mut F,
-        alloc: Global,
-        path: &str,
-    ) -> io::Result<T>
+    pub(crate) fn make_next<F: Folder<File = T>>(&self, folder: &mut F, path: &str) -> io::Result<T>
         ensures made { IfOk result (λ next. MakesNextLog (F.file_of next) (F.file_of self.now.file)
             path.now (F.steps folder.old) (F.steps folder.new)) }
         ensures only { PutsOnlyBeside path.now (F.steps folder.old) (F.steps folder.new) }
     {
         // One that was killed when it gave the log its name may have left it this one too.
         let _ = remove_second_name(folder, path, &self.file);
-        let next = take_beside(folder, alloc, path)?;
+        let next = take_beside(folder, path)?;
         let like = folder.look_at(&self.file)?;
         take_mode(folder, &next, like)?;
         Ok(next)
@@ -120,7 +114,6 @@ impl<T: Drop> OpenLog<T> {
     pub(crate) fn name_next<F: Folder<File = T>>(
         &self,
         folder: &mut F,
-        alloc: Global,
         paths: &Paths,
         next: T,
     ) -> io::Result<()>
@@ -136,7 +129,7 @@ impl<T: Drop> OpenLog<T> {
             later: self.later(),
             old: Old::Read(self.read),
         };
-        match name_written(folder, alloc, &next, Some(&self.file), staged) {
+        match name_written(folder, &next, Some(&self.file), staged) {
             Ok(named) => named.settled(),
             Err(error) => {
                 let _ = remove_open(folder, staged.path, &next);

@@ -14,7 +14,6 @@ use crate::spare::Spare;
 use crate::stamp::Stamp;
 use crate::vacating::give_free_name;
 use mg_files::LogLines;
-use std::alloc::Global;
 use std::io;
 use std::io::ErrorKind;
 
@@ -71,7 +70,6 @@ impl Named {
 #[tactic(auto, using(crate::proofs::FolderLaws::only_none, crate::proofs::StagingLaws::stops_here, crate::proofs::StagingLaws::stops_unnamed))]
 pub fn put_whole<F: Folder>(
     folder: &mut F,
-    alloc: Global,
     next: &F::File,
     log: Option<&F::File>,
     staged: Staged<'_>,
@@ -86,14 +84,13 @@ pub fn put_whole<F: Folder>(
 {
     folder.empty(next)?;
     folder.write(next, bytes)?;
-    name_written(folder, alloc, next, log, staged)
+    name_written(folder, next, log, staged)
 }
 
 /// Makes these lines the whole of it, as `put_whole` does bytes.
 #[tactic(auto, using(crate::proofs::FolderLaws::only_none, crate::proofs::StagingLaws::stops_here, crate::proofs::StagingLaws::stops_unnamed))]
 pub(crate) fn put_log<F: Folder>(
     folder: &mut F,
-    alloc: Global,
     next: &F::File,
     log: Option<&F::File>,
     staged: Staged<'_>,
@@ -108,14 +105,13 @@ pub(crate) fn put_log<F: Folder>(
 {
     folder.empty(next)?;
     folder.write_lines(next, lines)?;
-    name_written(folder, alloc, next, log, staged)
+    name_written(folder, next, log, staged)
 }
 
 /// Gives the file beside the name, once all that was written to it is on the device.
 #[tactic(auto, using(crate::proofs::StagingLaws::stops_here))]
 pub(crate) fn name_written<F: Folder>(
     folder: &mut F,
-    alloc: Global,
     next: &F::File,
     log: Option<&F::File>,
     staged: Staged<'_>,
@@ -128,7 +124,7 @@ pub(crate) fn name_written<F: Folder>(
         (F.steps folder.old) (F.steps folder.new)) }
 {
     sync_dated(folder, next, log, staged.later)?;
-    give_name(folder, alloc, log, staged)?;
+    give_name(folder, log, staged)?;
     match folder.sync_folder(staged.name) {
         Ok(()) => Ok(Named::Settled),
         Err(error) => Ok(Named::Unsettled(error)),
@@ -167,12 +163,7 @@ fn give_date<F: Folder>(folder: &mut F, file: &F::File, log: Option<&F::File>, l
 
 /// Gives a file the name, once what stands there is kept where anything of it would be lost.
 #[tactic(auto, using(crate::proofs::StagingLaws::stops_here))]
-fn give_name<F: Folder>(
-    folder: &mut F,
-    alloc: Global,
-    log: Option<&F::File>,
-    staged: Staged<'_>,
-) -> io::Result<()>
+fn give_name<F: Folder>(folder: &mut F, log: Option<&F::File>, staged: Staged<'_>) -> io::Result<()>
     ensures named { (file : ℕ) → OnOk result (DoesAll file
         (option_map (λ l. F.file_of l.now) log.entry) staged.entry (Keeps ∷ TakesName ∷ [])
         (F.steps folder.old) (F.steps folder.new)) }
@@ -183,16 +174,16 @@ fn give_name<F: Folder>(
     match staged.old {
         Old::Nothing => give_free_name(folder, staged.path, staged.name),
         Old::Log => {
-            let spare = keep(folder, alloc, staged.name, Keeping::ByName)?;
+            let spare = keep(folder, staged.name, Keeping::ByName)?;
             folder.rename(staged.path, spare)
         }
         Old::Text(own, bytes) => {
-            let spare = spare_text(folder, alloc, staged.name, own, bytes, Keeping::ByName)?;
+            let spare = spare_text(folder, staged.name, own, bytes, Keeping::ByName)?;
             folder.rename(staged.path, spare)
         }
         Old::Read(length) => {
             check_as_read(folder, staged.name, log, length)?;
-            let spare = keep(folder, alloc, staged.name, Keeping::ByName)?;
+            let spare = keep(folder, staged.name, Keeping::ByName)?;
             folder.rename(staged.path, spare)
         }
     }
@@ -201,7 +192,6 @@ fn give_name<F: Folder>(
 /// The path of a text, once it is kept where anything of it is lost if these bytes take its place.
 pub(crate) fn spare_text<'p, F: Folder>(
     folder: &mut F,
-    alloc: Global,
     path: &'p str,
     own: Option<Stamp>,
     bytes: &[u8],
@@ -215,7 +205,7 @@ pub(crate) fn spare_text<'p, F: Folder>(
 {
     match spare_for(folder, path, own, bytes)? {
         Some(spare) => Ok(spare),
-        None => keep(folder, alloc, path, keeping),
+        None => keep(folder, path, keeping),
     }
 }
 

@@ -10,6 +10,7 @@ use crate::patient::Patient;
 use crate::spare::{Look, Owner, Spare, Standing};
 use mg_files::LogLines;
 use rga_exchange::{Counted, SendFault};
+use std::alloc::Global;
 use std::fs::{File, Metadata, OpenOptions, Permissions, TryLockError};
 use std::io::{ErrorKind, Read, Write};
 use std::os::unix::fs::{FileExt, OpenOptionsExt, PermissionsExt, fchown};
@@ -56,6 +57,10 @@ impl<'r, R: Files<File = File> + AllocGlobal> Folder for System<'r, R> {
     ghost steps = { λ _. None };
 
     ghost file_of = { λ _. 0 };
+
+    fn alloc(&self) -> Global {
+        self.rt.alloc()
+    }
 
     fn look<'p>(&mut self, path: &'p str) -> io::Result<Standing<'p>> {
         standing(path, fs::symlink_metadata(self.rt, path))

@@ -16,7 +16,6 @@ use crate::spare::Look;
 use crate::staged::{Named, Old, Staged, put_whole, spare_text, sync_dated};
 use crate::stamp::{LATER, Stamp, is_dated_by};
 use crate::vacating::{make_beside, remove_open};
-use std::alloc::Global;
 use std::io;
 use std::io::ErrorKind;
 
@@ -117,7 +116,6 @@ impl<T: Drop> Text<T> {
     pub(crate) fn put<F: Folder<File = T>>(
         &mut self,
         folder: &mut F,
-        alloc: Global,
         paths: &Paths,
         bytes: &[u8],
         log: Option<&T>,
@@ -132,14 +130,14 @@ impl<T: Drop> Text<T> {
         self.replaced = None;
         let path = paths.text.as_str();
         let is_there = is_there(folder, path)?;
-        let next = make_next(folder, alloc, paths, is_there)?;
+        let next = make_next(folder, paths, is_there)?;
         let Some(next) = next else {
-            return self.put_in_place(folder, alloc, path, bytes, log);
+            return self.put_in_place(folder, path, bytes, log);
         };
-        match self.put_beside(folder, alloc, paths, next, bytes, log) {
+        match self.put_beside(folder, paths, next, bytes, log) {
             // A file that is mounted by itself does not give up its name.
             Err(error) if error.kind() == ErrorKind::ResourceBusy => {
-                self.put_in_place(folder, alloc, path, bytes, log)
+                self.put_in_place(folder, path, bytes, log)
             }
             answer => answer,
         }
@@ -150,7 +148,6 @@ impl<T: Drop> Text<T> {
     fn put_beside<F: Folder<File = T>>(
         &mut self,
         folder: &mut F,
-        alloc: Global,
         paths: &Paths,
         next: T,
         bytes: &[u8],
@@ -163,7 +160,7 @@ impl<T: Drop> Text<T> {
             (F.steps folder.old) (F.steps folder.new)) }
         ensures only { PutsTextOnly paths.now (F.steps folder.old) (F.steps folder.new) }
     {
-        let answer = name_next(folder, alloc, paths, &next, self.own, bytes, log);
+        let answer = name_next(folder, paths, &next, self.own, bytes, log);
         let named = match answer {
             Ok(named) => named,
             Err(error) => {
@@ -181,7 +178,6 @@ impl<T: Drop> Text<T> {
     fn put_in_place<F: Folder<File = T>>(
         &mut self,
         folder: &mut F,
-        alloc: Global,
         path: &str,
         bytes: &[u8],
         log: Option<&T>,
@@ -192,7 +188,7 @@ impl<T: Drop> Text<T> {
         ensures only { (beside : List ℕ)
             → PutsOnlyAt beside path.now (F.steps folder.old) (F.steps folder.new) }
     {
-        let spare = spare_text(folder, alloc, path, self.own, bytes, Keeping::ByCopy)?;
+        let spare = spare_text(folder, path, self.own, bytes, Keeping::ByCopy)?;
         let file = folder.overwrite(spare)?;
         folder.write(&file, bytes)?;
         sync_dated(folder, &file, log, Some(LATER))?;
@@ -217,7 +213,6 @@ fn is_there<F: Folder>(folder: &mut F, path: &str) -> io::Result<bool>
 /// Locks the next text, writes all of it, and gives it the text's name.
 fn name_next<F: Folder>(
     folder: &mut F,
-    alloc: Global,
     paths: &Paths,
     next: &F::File,
     own: Option<Stamp>,
@@ -236,7 +231,7 @@ fn name_next<F: Folder>(
         later: Some(LATER),
         old: Old::Text(own, bytes),
     };
-    put_whole(folder, alloc, next, log, staged, bytes)
+    put_whole(folder, next, log, staged, bytes)
 }
 
 /// A new file for a text, with its mode, owner and group; none where the text has to be written in
@@ -244,7 +239,6 @@ fn name_next<F: Folder>(
 /// new file.
 fn make_next<F: Folder>(
     folder: &mut F,
-    alloc: Global,
     paths: &Paths,
     is_there: bool,
 ) -> io::Result<Option<F::File>>
@@ -255,24 +249,19 @@ fn make_next<F: Folder>(
 {
     let path = paths.next_text.as_str();
     match folder.look(paths.text.as_str())?.found {
-        None => Ok(Some(make_beside(folder, alloc, path, ALL)?)),
-        Some(look) if look.is_plain && is_there => make_like(folder, alloc, path, look),
+        None => Ok(Some(make_beside(folder, path, ALL)?)),
+        Some(look) if look.is_plain && is_there => make_like(folder, path, look),
         Some(_) => Ok(None),
     }
 }
 
 /// A new file of a path, with the mode, the owner and the group of a text; none where it can't be had.
-fn make_like<F: Folder>(
-    folder: &mut F,
-    alloc: Global,
-    path: &str,
-    like: Look,
-) -> io::Result<Option<F::File>>
+fn make_like<F: Folder>(folder: &mut F, path: &str, like: Look) -> io::Result<Option<F::File>>
     ensures made { IfOk result (λ o. IfSome o (λ file.
         MakesLike (F.file_of file) path.now like (F.steps folder.old) (F.steps folder.new))) }
     ensures only { PutsOnlyBeside path.now (F.steps folder.old) (F.steps folder.new) }
 {
-    let Ok(next) = make_beside(folder, alloc, path, 0) else {
+    let Ok(next) = make_beside(folder, path, 0) else {
         return only_name(like);
     };
     if !take_owner(folder, &next, like.owner)? {

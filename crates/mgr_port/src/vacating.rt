@@ -8,18 +8,13 @@ ghost use Rattle.mgr_port.specs.Spares.{MayRemove, PutsOnlyBeside, RemovesIf};
 use crate::folder::{Folder, Opening};
 use crate::keeping::{Keeping, keep};
 use crate::spare::{Reason, Spare};
-use std::alloc::Global;
 use std::io;
 use std::io::ErrorKind;
 
 /// The path, once nothing is lost of what stands there itself: bytes of a plain file are kept. None
 /// if nothing stands there.
 #[tactic(auto, unfolding(crate::specs::Spares::IsSpare))]
-fn spare_name<'p, F: Folder>(
-    folder: &mut F,
-    alloc: Global,
-    path: &'p str,
-) -> io::Result<Option<Spare<'p>>>
+fn spare_name<'p, F: Folder>(folder: &mut F, path: &'p str) -> io::Result<Option<Spare<'p>>>
     ensures vacated { IfOk result
         (IsVacated path.now (F.steps folder.old) (F.steps folder.new)) }
     ensures only { ChangesOnlyAt path.now (F.steps folder.old) (F.steps folder.new) }
@@ -30,16 +25,16 @@ fn spare_name<'p, F: Folder>(
     }
     match standing.if_nothing() {
         Some(spare) => Ok(Some(spare)),
-        None => Ok(Some(keep(folder, alloc, path, Keeping::ByName)?)),
+        None => Ok(Some(keep(folder, path, Keeping::ByName)?)),
     }
 }
 
 /// Has what stands under a path let go of it. Bytes of a plain file are kept.
-pub fn make_way<F: Folder>(folder: &mut F, alloc: Global, path: &str) -> io::Result<()>
+pub fn make_way<F: Folder>(folder: &mut F, path: &str) -> io::Result<()>
     ensures made { OnOk result (MakesWay path.now (F.steps folder.old) (F.steps folder.new)) }
     ensures only { ChangesOnlyAt path.now (F.steps folder.old) (F.steps folder.new) }
 {
-    match spare_name(folder, alloc, path)? {
+    match spare_name(folder, path)? {
         Some(spare) => folder.remove(spare),
         None => Ok(()),
     }
@@ -103,16 +98,11 @@ pub fn give_free_name<F: Folder>(folder: &mut F, path: &str, name: &str) -> io::
 }
 
 /// Makes a file beside another, new and empty. Bytes that stand there are kept.
-pub(crate) fn make_beside<F: Folder>(
-    folder: &mut F,
-    alloc: Global,
-    path: &str,
-    mode: u32,
-) -> io::Result<F::File>
+pub(crate) fn make_beside<F: Folder>(folder: &mut F, path: &str, mode: u32) -> io::Result<F::File>
     ensures made { IfOk result (λ file.
         MakesBeside (F.file_of file) path.now mode (F.steps folder.old) (F.steps folder.new)) }
     ensures only { PutsOnlyBeside path.now (F.steps folder.old) (F.steps folder.new) }
 {
-    make_way(folder, alloc, path)?;
+    make_way(folder, path)?;
     folder.open(path, Opening::New(mode))
 }

@@ -48,7 +48,7 @@ type Kept = (&'static [&'static str], &'static str);
 
 fn keeps(alloc: Global, row: &Kept, keeping: Keeping) -> Result<bool, AllocError> {
     let mut folder = folder_of(alloc, row.0)?;
-    let answer = keep(&mut folder, alloc, "note", keeping);
+    let answer = keep(&mut folder, "note", keeping);
     if letter(&answer) != '.' {
         return Ok(row.1.is_empty());
     }
@@ -125,26 +125,26 @@ enum Act {
 }
 
 /// Does that, and says what was answered.
-fn answer_to(folder: &mut MemoryFiles, alloc: Global, act: Act) -> char {
+fn answer_to(folder: &mut MemoryFiles, act: Act) -> char {
     match act {
-        Act::MakeWay => letter(&make_way(folder, alloc, "note")),
+        Act::MakeWay => letter(&make_way(folder, "note")),
         Act::GiveFreeName => letter(&give_free_name(folder, "note", "name")),
         Act::RemoveOpen => letter(&remove_open(folder, "note", &0)),
         Act::OpenLocked => letter(&open_locked(folder, "note", true)),
-        Act::TakeBeside => letter(&take_beside(folder, alloc, "note")),
-        Act::PutFirst => letter(&put(folder, alloc, Old::Nothing)),
-        Act::PutNext => letter(&put(folder, alloc, Old::Log)),
+        Act::TakeBeside => letter(&take_beside(folder, "note")),
+        Act::PutFirst => letter(&put(folder, Old::Nothing)),
+        Act::PutNext => letter(&put(folder, Old::Log)),
     }
 }
 
-fn put(folder: &mut MemoryFiles, alloc: Global, old: Old<'_>) -> io::Result<Named> {
+fn put(folder: &mut MemoryFiles, old: Old<'_>) -> io::Result<Named> {
     let staged = Staged {
         path: "name",
         name: "note",
         later: None,
         old,
     };
-    put_whole(folder, alloc, &0, None, staged, b"text")
+    put_whole(folder, &0, None, staged, b"text")
 }
 
 /// What is done, what stands before, what is answered, and names with what they have then, if
@@ -158,7 +158,7 @@ type Row = (
 
 fn does(alloc: Global, row: &Row) -> Result<bool, AllocError> {
     let mut folder = folder_of(alloc, row.1)?;
-    if answer_to(&mut folder, alloc, row.0) != row.2 {
+    if answer_to(&mut folder, row.0) != row.2 {
         return Ok(false);
     }
     for (name, bytes) in row.3 {
@@ -238,6 +238,6 @@ fn what_others_have_locked_is_not_opened(rt: HostRuntime) {
 fn locked_answers(alloc: Global) -> Result<(char, char), AllocError> {
     let mut folder = folder_of(alloc, &["note"])?;
     folder.lock_by_others("note");
-    let opened = answer_to(&mut folder, alloc, Act::OpenLocked);
-    Ok((opened, answer_to(&mut folder, alloc, Act::TakeBeside)))
+    let opened = answer_to(&mut folder, Act::OpenLocked);
+    Ok((opened, answer_to(&mut folder, Act::TakeBeside)))
 }

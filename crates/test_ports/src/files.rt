@@ -226,6 +226,10 @@ impl Folder for MemoryFiles {
 
     ghost file_of = { λ file. file };
 
+    fn alloc(&self) -> Global {
+        self.alloc
+    }
+
     fn look<'p>(&mut self, path: &'p str) -> io::Result<Standing<'p>> {
         let found = self.found(path);
         self.note(Step::Looks(self.copy_of(path)?, found))?;
