@@ -20,7 +20,7 @@ IsStill (Persists file) = Unit {0}
 IsStill other = ⊥
 
 -- they put and clear nothing
-still : (step : FolderStep) → IsQuietStep step → IsStill (change_of step)
+pub still : (step : FolderStep) → IsQuietStep step → IsStill (change_of step)
 still (Looks path found) quiet = tt
 still (Follows path found) quiet = tt
 still (Resolves path target) quiet = tt

@@ -1,7 +1,7 @@
 -- Steps that change nothing, one behind another.
 use Rattle.std.proofs.Common.{◌≡◌, inl, inr, ◌∙◌, ℕ, List, [], ◌∷◌, ◌++◌, Option, Some, None, Result, Ok, Err, IfOk, OnOk, OnErr, refl, sym, ap, subst, append_assoc}
 use Rattle.std.specs.Option.{option_map}
-use Rattle.mgr_port.specs.Folder.{History, FolderStep, Dates, Follows, Locks, Looks, LooksAt, Opens, Reads, IsIdleStep, IsQuietStep, AreAll, IsIdle, IsQuiet, Only, Steps, after}
+use Rattle.mgr_port.specs.Folder.{History, FolderStep, Adds, Dates, Empties, Ends, EndsInNewline, Follows, GivesTo, Links, Locks, Looks, LooksAt, Makes, Opens, Overwrites, Reads, ReadsAll, Removes, Renames, Resolves, SetsMode, Syncs, SyncsFolder, IsIdleStep, IsQuietStep, AreAll, IsIdle, IsQuiet, Only, Steps, after}
 use Rattle.mgr_port.specs.Spares.{IsKept, IsSpare, IsSpareFor, SparesText}
 use Rattle.mgr_port.specs.Staging.{MayDate}
 use Rattle.mgr_port.specs.declared.folder.Lock.{Lock}
@@ -112,6 +112,30 @@ unfolding IsSpare
 spare_kept why path found a b c is kept = inr (why, kept_later why path a b c (idle_look a b path found is) kept)
 
 -- ---- what changes nothing, of an open file too
+
+pub idle_is_quiet : (step : FolderStep) → IsIdleStep step → IsQuietStep step
+idle_is_quiet (Looks path found) idle = tt
+idle_is_quiet (Follows path found) idle = tt
+idle_is_quiet (Resolves path target) idle = tt
+idle_is_quiet (LooksAt file look) idle = tt
+idle_is_quiet (Dates file log later) idle = tt
+idle_is_quiet (Reads path bytes) idle = tt
+idle_is_quiet (Opens file path how) idle = absurd idle
+idle_is_quiet (Locks file lock) idle = absurd idle
+idle_is_quiet (Ends file size end) idle = absurd idle
+idle_is_quiet (EndsInNewline file size newline) idle = absurd idle
+idle_is_quiet (Adds file bytes) idle = absurd idle
+idle_is_quiet (Empties file) idle = absurd idle
+idle_is_quiet (SetsMode file mode) idle = absurd idle
+idle_is_quiet (GivesTo file owner) idle = absurd idle
+idle_is_quiet (Syncs file) idle = absurd idle
+idle_is_quiet (SyncsFolder path) idle = absurd idle
+idle_is_quiet (ReadsAll file bytes) idle = absurd idle
+idle_is_quiet (Links path name) idle = absurd idle
+idle_is_quiet (Makes name bytes) idle = absurd idle
+idle_is_quiet (Removes path) idle = absurd idle
+idle_is_quiet (Renames path name) idle = absurd idle
+idle_is_quiet (Overwrites file path) idle = absurd idle
 
 pub quiet_one : (a b : History) (step : FolderStep) → b ≡ after step a → IsQuietStep step → IsQuiet a b
 quiet_one a b step is quiet = only_more a a b step (only_none a a refl) is quiet

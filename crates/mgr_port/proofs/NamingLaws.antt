@@ -1,12 +1,14 @@
 -- What stands under a name once a file has taken it.
-use Rattle.std.proofs.Common.{◌≡◌, ◌≢◌, ◌⊎◌, inl, inr, ◌∙◌, ℕ, List, [], ◌∷◌, ◌++◌, Bool, true, false, Option, Some, None, codes, refl, sym, ap, subst, arith}
-use Rattle.mgr_port.specs.Bytes.{HasAfter, OfTold, change_of}
+use Rattle.std.proofs.Common.{◌≡◌, ◌≢◌, ◌⊎◌, inl, inr, ◌∙◌, ℕ, List, [], ◌∷◌, ◌++◌, Bool, true, false, Option, Some, None, codes, refl, sym, ap, subst, append_assoc, arith}
+use Rattle.std.proofs.lemmas.List.{append-nil}
+use Rattle.mgr_port.specs.Bytes.{HadFront, HasAfter, IsKnown, MayHave, MayHaveAfter, OfTold, Tells, change_of}
 use Rattle.mgr_port.specs.Disk.{whole_steps}
-use Rattle.mgr_port.specs.Folder.{History, FolderStep, Adds, Dates, Empties, Ends, EndsInNewline, Follows, GivesTo, Links, Locks, Looks, LooksAt, Makes, Opens, Overwrites, Reads, ReadsAll, Removes, Renames, Resolves, SetsMode, Syncs, SyncsFolder, AreAll, IsIdleStep, IsQuietStep, Only, after}
+use Rattle.mgr_port.specs.Disk as disk
+use Rattle.mgr_port.specs.Folder.{History, FolderStep, Adds, Dates, Empties, Ends, EndsInNewline, Follows, GivesTo, Links, Locks, Looks, LooksAt, Makes, Opens, Overwrites, Reads, ReadsAll, Removes, Renames, Resolves, SetsMode, Syncs, SyncsFolder, AreAll, IsIdle, IsIdleStep, IsQuietStep, Only, after}
 use Rattle.mgr_port.specs.Locks.{HoldsEmpty, IsTaken, MakesBeside, StandsFor}
 use Rattle.mgr_port.specs.Naming.{AreApart, Holds, Stands, StandsAfter}
 use Rattle.mgr_port.specs.Notes.{MakesLog, TakesRights, TakesTextRights}
-use Rattle.mgr_port.specs.Spares.{EndsInTilde, GivesFreeName, IsKept, IsShown, IsStepAt, IsStepOf, PutsOnlyAt}
+use Rattle.mgr_port.specs.Spares.{EndsInTilde, GivesFreeName, IsKept, IsShown, IsSpare, IsStepAt, IsStepOf, PutsOnlyAt}
 use Rattle.mgr_port.specs.Staging.{DoesAll, KeepsOld, MayDate, SyncsDated, TakesOld}
 use Rattle.mgr_port.specs.Texts.{MakesFor, MakesLike, MakesNextText, PutsBeside, PutsInPlace, PutsText, TakesMode, TakesOwner}
 use Rattle.mgr_port.specs.Verdicts.{AreOfOneFile}
@@ -20,7 +22,8 @@ use Rattle.mgr_port.specs.declared.staged.Old.{Old}
 use Rattle.mgr_port.specs.declared.staged.Old.TheVariants as old
 use Rattle.mgr_port.specs.declared.staged.Staged.{Staged}
 use Rattle.mgr_port.specs.declared.stamp.Stamp.{Stamp}
-use Rattle.mgr_port.proofs.BytesLaws.{IsStill, unchanged}
+use Rattle.mgr_port.proofs.BytesLaws.{IsStill, still, unchanged}
+use Rattle.mgr_port.proofs.FolderLaws.{idle_is_quiet}
 
 -- ---- what holds after a step, and held before it
 
@@ -54,18 +57,21 @@ module _ (Q : FolderStep → Type 0) (P : List FolderStep → Type 0) (each : (s
   over_only None b i holds = absurd (subst (OfTold P) i.is holds)
   over_only (Some steps) b i holds = over_seen i.seen steps i.all (subst (OfTold P) i.is holds)
 
--- over looks and dates
-module _ (P : List FolderStep → Type 0) (idle : (step : FolderStep) → IsIdleStep step → IsCarried P step) where
-  over_one : (a b : History) (step : FolderStep) → IsIdleStep step → b ≡ after step a → OfTold P b → OfTold P a
-  over_one a b step is_idle is holds = carry P step a b (idle step is_idle) is holds
+-- over what changes nothing
+module _ (P : List FolderStep → Type 0) (quiet : (step : FolderStep) → IsQuietStep step → IsCarried P step) where
+  over_idle : (a b : History) → IsIdle a b → OfTold P b → OfTold P a
+  over_idle a b i holds = over_only IsIdleStep P (λ step is. quiet step (idle_is_quiet step is)) a b i holds
+
+  over_one : (a b : History) (step : FolderStep) → IsQuietStep step → b ≡ after step a → OfTold P b → OfTold P a
+  over_one a b step is_quiet is holds = carry P step a b (quiet step is_quiet) is holds
 
   over_date : (file : ℕ) (log later : Option ℕ) (a b : History) → MayDate file log later a b → OfTold P b → OfTold P a
   over_date file log None a b is holds = subst (OfTold P) is holds
   over_date file log (Some later) a b (inl is) holds = subst (OfTold P) is holds
   over_date file log (Some later) a b (inr (of, known, is)) holds = over_one a b (Dates file of later) tt is holds
 
-  over_synced : (file : ℕ) (log later : Option ℕ) (a b : History) → IsCarried P (Syncs file) → SyncsDated file log later a b → OfTold P b → OfTold P a
-  over_synced file log later a b syncs (dated, may, is) holds = over_date file log later a dated may (carry P (Syncs file) dated b syncs is holds)
+  over_synced : (file : ℕ) (log later : Option ℕ) (a b : History) → SyncsDated file log later a b → OfTold P b → OfTold P a
+  over_synced file log later a b (dated, may, is) holds = over_date file log later a dated may (over_one dated b (Syncs file) tt is holds)
 
   over_shown : (why : Reason) (path : List ℕ) (own : Option Stamp) (bytes : List ℕ) (a b : History) → IsShown why path own bytes a b → OfTold P b → OfTold P a
   over_shown reason.Nothing path own bytes a b is holds = over_one a b (Follows path None) tt is holds
@@ -77,12 +83,12 @@ module _ (P : List FolderStep → Type 0) (idle : (step : FolderStep) → IsIdle
   over_shown reason.Open path own bytes a b shown holds = absurd shown
 
 -- and over names that are kept
-module _ (P : List FolderStep → Type 0) (idle : (step : FolderStep) → IsIdleStep step → IsCarried P step)
+module _ (P : List FolderStep → Type 0) (quiet : (step : FolderStep) → IsQuietStep step → IsCarried P step)
     (links : (other name : List ℕ) → EndsInTilde name → IsCarried P (Links other name)) (makes : (name bytes : List ℕ) → EndsInTilde name → IsCarried P (Makes name bytes)) where
   over_kept : (why : Reason) (path : List ℕ) (a b : History) → IsKept why path a b → OfTold P b → OfTold P a
-  over_kept reason.Linked path a b (name, seen, tilde, i, is) holds = over_only IsIdleStep P idle a seen i (carry P (Links path name) seen b (links path name tilde) is holds)
+  over_kept reason.Linked path a b (name, seen, tilde, i, is) holds = over_idle P quiet a seen i (carry P (Links path name) seen b (links path name tilde) is holds)
   over_kept reason.Copied path a b (name, bytes, seen, read, tilde, i, was, is) holds =
-      over_only IsIdleStep P idle a seen i (over_one P idle seen read (Reads path bytes) tt was (carry P (Makes name bytes) read b (makes name bytes tilde) is holds))
+      over_idle P quiet a seen i (over_one P quiet seen read (Reads path bytes) tt was (carry P (Makes name bytes) read b (makes name bytes tilde) is holds))
   over_kept reason.Nothing path a b kept holds = absurd kept
   over_kept reason.Known path a b kept holds = absurd kept
   over_kept reason.Same path a b kept holds = absurd kept
@@ -91,11 +97,60 @@ module _ (P : List FolderStep → Type 0) (idle : (step : FolderStep) → IsIdle
   over_old : (log : Option ℕ) (o : Old) (name : List ℕ) (a b : History) → KeepsOld log o name a b → OfTold P b → OfTold P a
   over_old log old.Nothing name a b is holds = subst (OfTold P) is holds
   over_old log old.Log name a b (why, kept) holds = over_kept why name a b kept holds
-  over_old log (old.Text own bytes) name a b (why, inl shown) holds = over_shown P idle why name own bytes.now a b shown holds
+  over_old log (old.Text own bytes) name a b (why, inl shown) holds = over_shown P quiet why name own bytes.now a b shown holds
   over_old log (old.Text own bytes) name a b (why, inr kept) holds = over_kept why name a b kept holds
   over_old log (old.Read size) name a b (why, checked, (file, found, opened, followed, known, one, two, same, long), kept) holds =
-      over_one P idle a followed (Follows name (Some found)) tt one
-      (over_one P idle followed checked (LooksAt file opened) tt two (over_kept why name checked b kept holds))
+      over_one P quiet a followed (Follows name (Some found)) tt one
+      (over_one P quiet followed checked (LooksAt file opened) tt two (over_kept why name checked b kept holds))
+
+-- over all that leaves bytes as they are
+module _ (P : List FolderStep → Type 0) (stays : (step : FolderStep) → IsStill (change_of step) → IsCarried P step) where
+  quiet_stays : (step : FolderStep) → IsQuietStep step → IsCarried P step
+  quiet_stays step is = stays step (still step is)
+
+  over_still : (step : FolderStep) (a b : History) → IsStill (change_of step) → b ≡ after step a → OfTold P b → OfTold P a
+  over_still step a b is_still is holds = carry P step a b (stays step is_still) is holds
+
+  over_free : (path name : List ℕ) (a b : History) → GivesFreeName path name a b → OfTold P b → OfTold P a
+  over_free path name a b (inl (linked, one, inl is)) holds = over_still (Links path name) a linked tt one (subst (OfTold P) is holds)
+  over_free path name a b (inl (linked, one, inr is)) holds = over_still (Links path name) a linked tt one (over_still (Removes path) linked b tt is holds)
+  over_free path name a b (inr (looked, one, is)) holds = over_still (Looks name None) a looked tt one (over_still (Renames path name) looked b tt is holds)
+
+  over_name : (o : Old) (path name : List ℕ) (a b : History) → TakesOld o path name a b → OfTold P b → OfTold P a
+  over_name old.Nothing path name a b free holds = over_free path name a b free holds
+  over_name old.Log path name a b is holds = over_still (Renames path name) a b tt is holds
+  over_name (old.Text own bytes) path name a b is holds = over_still (Renames path name) a b tt is holds
+  over_name (old.Read size) path name a b is holds = over_still (Renames path name) a b tt is holds
+
+  kept_stays : (why : Reason) (path : List ℕ) (a b : History) → IsKept why path a b → OfTold P b → OfTold P a
+  kept_stays why path a b kept holds = over_kept P quiet_stays (λ other name t. stays (Links other name) tt) (λ name l t. stays (Makes name l) tt) why path a b kept holds
+
+  -- what comes after a new file's bytes
+  over_last : (file : ℕ) (log : Option ℕ) (s : Staged) (a b : History) → DoesAll file log s (disk.Syncs ∷ disk.Keeps ∷ disk.TakesName ∷ disk.SyncsFolder ∷ []) a b → OfTold P b → OfTold P a
+  over_last file log s a b (synced, syncs, (kept, keeps, (named, takes, last))) holds =
+      over_synced P quiet_stays file log s.later a synced syncs
+      (over_old P quiet_stays (λ other name t. stays (Links other name) tt) (λ name l t. stays (Makes name l) tt) log s.old s.name.now synced kept keeps
+      (over_name s.old s.path.now s.name.now kept named takes (over_still (SyncsFolder s.name.now) named b tt last holds)))
+
+  over_owner : (file : ℕ) (owner : Owner) (is_owned : Bool) (a b : History) → TakesOwner file owner a b is_owned → OfTold P b → OfTold P a
+  over_owner file owner true a b (look, looked, one, inl (same, is)) holds = over_still (LooksAt file look) a looked tt one (subst (OfTold P) is holds)
+  over_owner file owner true a b (look, looked, one, inr given) holds = over_still (LooksAt file look) a looked tt one (over_still (GivesTo file owner) looked b tt given holds)
+  over_owner file owner false a b (look, other, is) holds = over_still (LooksAt file look) a b tt is holds
+
+  over_spare : (path : List ℕ) (a b : History) → IsSpare path a b → OfTold P b → OfTold P a
+  unfolding IsSpare
+  over_spare path a b (inl (found, bare, is)) holds = over_still (Looks path found) a b tt is holds
+  over_spare path a b (inr (why, kept)) holds = kept_stays why path a b kept holds
+
+  over_beside : (file : ℕ) (path : List ℕ) (mode : ℕ) (a b : History) → MakesBeside file path mode a b → OfTold P b → OfTold P a
+  over_beside file path mode a b (cleared, inl none, is) holds = over_still (Looks path None) a cleared tt none (over_still (Opens file path (opening.New mode)) cleared b tt is holds)
+  over_beside file path mode a b (cleared, inr (spared, spare, gone), is) holds =
+      over_spare path a spared spare (over_still (Removes path) spared cleared tt gone (over_still (Opens file path (opening.New mode)) cleared b tt is holds))
+
+  over_made : (file : ℕ) (path : List ℕ) (found : Option Look) (is_there : Bool) (a b : History) → MakesFor file path found is_there a b → OfTold P b → OfTold P a
+  over_made file path None is_there a b makes holds = over_beside file path 438 a b makes holds
+  over_made file path (Some look) is_there a b (plain, there, (made, owned, makes, owner, is)) holds =
+      over_beside file path 0 a made makes (over_owner file look.owner true made owned owner (over_still (SetsMode file look.mode) owned b tt is holds))
 
 -- ---- which bytes a file has
 
@@ -114,64 +169,60 @@ module _ (file : ℕ) (found : List ℕ) where
   has_over : (step : FolderStep) → IsStill (change_of step) → IsCarried HasFound step
   has_over step still steps (was, has, tells) = subst (λ l. HasAfter file l steps) (sym (unchanged file (change_of step) was found still tells.1)) has
 
-  idle_still : (step : FolderStep) → IsIdleStep step → IsStill (change_of step)
-  idle_still (Looks path seen) idle = tt
-  idle_still (Follows path seen) idle = tt
-  idle_still (Resolves path target) idle = tt
-  idle_still (LooksAt opened look) idle = tt
-  idle_still (Dates opened of later) idle = tt
-  idle_still (Reads path bytes) idle = tt
-  idle_still (Opens opened path how) idle = absurd idle
-  idle_still (Locks opened lock) idle = absurd idle
-  idle_still (Ends opened size end) idle = absurd idle
-  idle_still (EndsInNewline opened size newline) idle = absurd idle
-  idle_still (Adds opened bytes) idle = absurd idle
-  idle_still (Empties opened) idle = absurd idle
-  idle_still (SetsMode opened mode) idle = absurd idle
-  idle_still (GivesTo opened owner) idle = absurd idle
-  idle_still (Syncs opened) idle = absurd idle
-  idle_still (SyncsFolder path) idle = absurd idle
-  idle_still (ReadsAll opened bytes) idle = absurd idle
-  idle_still (Links path name) idle = absurd idle
-  idle_still (Makes name bytes) idle = absurd idle
-  idle_still (Removes path) idle = absurd idle
-  idle_still (Renames path name) idle = absurd idle
-  idle_still (Overwrites opened path) idle = absurd idle
-
   abbrev Has : History → Type 0
   Has h = OfTold HasFound h
 
   had : (step : FolderStep) (a b : History) → IsStill (change_of step) → b ≡ after step a → Has b → Has a
   had step a b still is has = carry HasFound step a b (has_over step still) is has
 
-  had_free : (path name : List ℕ) (a b : History) → GivesFreeName path name a b → Has b → Has a
-  had_free path name a b (inl (linked, one, inl is)) has = had (Links path name) a linked tt one (subst Has is has)
-  had_free path name a b (inl (linked, one, inr is)) has = had (Links path name) a linked tt one (had (Removes path) linked b tt is has)
-  had_free path name a b (inr (looked, one, is)) has = had (Looks name None) a looked tt one (had (Renames path name) looked b tt is has)
-
-  had_old : (o : Old) (path name : List ℕ) (a b : History) → TakesOld o path name a b → Has b → Has a
-  had_old old.Nothing path name a b free has = had_free path name a b free has
-  had_old old.Log path name a b is has = had (Renames path name) a b tt is has
-  had_old (old.Text own bytes) path name a b is has = had (Renames path name) a b tt is has
-  had_old (old.Read size) path name a b is has = had (Renames path name) a b tt is has
-
   -- bytes that it got when it had those
   added : (was bytes : List ℕ) (a b : History) → b ≡ after (Adds file bytes) a → ((l : List ℕ) → OfTold (HasAfter file l) a → l ≡ was) → Has b → found ≡ was ++ bytes
   added was bytes None b is known has = absurd (subst Has is has)
   added was bytes (Some steps) b is known has = let s = subst Has is has in s.2.1.0 refl ∙ ap (λ l. l ++ bytes) (known s.0 s.1)
 
-  idle_over : (step : FolderStep) → IsIdleStep step → IsCarried HasFound step
-  idle_over step idle = has_over step (idle_still step idle)
-
   had_synced : (log later : Option ℕ) (a b : History) → SyncsDated file log later a b → Has b → Has a
-  had_synced log later a b syncs has = over_synced HasFound idle_over file log later a b (has_over (Syncs file) tt) syncs has
+  had_synced log later a b syncs has = over_synced HasFound (quiet_stays HasFound has_over) file log later a b syncs has
 
   -- all that was written, if nothing else was
   whole_bytes : (log : Option ℕ) (s : Staged) (bytes : List ℕ) (a b : History) → DoesAll file log s (whole_steps bytes) a b → Has b → found ≡ bytes
-  whole_bytes log s bytes a b (one, empties, (two, writes, (three, syncs, (four, keeps, (five, takes, last))))) has =
-      let named = had_old s.old s.path.now s.name.now four five takes (had (SyncsFolder s.name.now) five b tt last has) in
-      let kept = over_old HasFound idle_over (λ other name t. has_over (Links other name) tt) (λ name l t. has_over (Makes name l) tt) log s.old s.name.now three four keeps named in
-      added [] bytes one two writes (λ l. emptied file l a one empties) (had_synced log s.later two three syncs kept)
+  whole_bytes log s bytes a b (one, empties, (two, writes, rest)) has = added [] bytes one two writes (λ l. emptied file l a one empties) (over_last HasFound has_over file log s two b rest has)
+
+-- ---- what a log has, while a text is put
+
+module _ (log : ℕ) (bytes : List ℕ) where
+  -- it had a beginning of these bytes
+  abbrev Front : List FolderStep → Type 0
+  Front steps = (old : List ℕ) × (more : List ℕ) × MayHaveAfter log old steps × (bytes ≡ old ++ more)
+
+  before_same : (step : FolderStep) → ((old new : List ℕ) → Tells log step old new → new ≡ old) → IsCarried Front step
+  before_same step same steps (l, more, (old, new, rest, has, tells, is), all) = (
+    old,
+    rest ++ more,
+    has,
+    all ∙ ap (λ p. p ++ more) (is ∙ ap (λ p. p ++ rest) (same old new tells)) ∙ append_assoc old rest more,
+  )
+
+  front_stays : (step : FolderStep) → IsStill (change_of step) → IsCarried Front step
+  front_stays step is = before_same step (λ old new tells. unchanged log (change_of step) old new is tells.1)
+
+  told_front : (a : History) → MayHave log a bytes → OfTold Front a
+  told_front None has = absurd has
+  told_front (Some steps) has = (bytes, [], has, sym (append-nil bytes))
+
+  had_front : (a : History) → OfTold Front a → HadFront log a bytes
+  had_front None front = absurd front
+  had_front (Some steps) front = front
+
+  pub text_is_elsewhere : (file : ℕ) (dated : Option ℕ) (path name text : List ℕ) (own now_own : Option Stamp) (is_there : Bool) (a made b : History) → file ≢ log
+      → MakesNextText file path name is_there a made → PutsBeside file dated path name text own now_own made b → MayHave log b bytes → HadFront log a bytes
+  text_is_elsewhere file dated path name text own now_own is_there a made b other (found, looked, one, makes)
+      (answer, locked, put, s, look, no_others, tried, next, (empty, empties, (written, writes, rest)), step, is_own) has =
+      let late = over_still Front front_stays (LooksAt file look) put b tt step (told_front b has) in
+      let last = over_last Front front_stays file dated s written put rest late in
+      let add = carry Front (Adds file text) empty written (before_same (Adds file text) (λ _ _ t. t.1.1 other)) writes last in
+      let early = carry Front (Empties file) locked empty (before_same (Empties file) (λ _ _ t. t.1.1 other)) empties add in
+      let before = over_made Front front_stays file path found is_there looked made makes (over_still Front front_stays (Locks file answer) made locked tt tried early) in
+      had_front a (over_still Front front_stays (Looks name found) a looked tt one before)
 
 -- ---- which file a path stands for
 
@@ -179,30 +230,34 @@ module _ (stamp_of : ℕ → Stamp) (path : List ℕ) (file : ℕ) where
   abbrev At : List FolderStep → Type 0
   At = StandsAfter stamp_of path file
 
-  idle_names : (step : FolderStep) → IsIdleStep step → IsCarried At step
-  idle_names (Looks other seen) idle steps s = s
-  idle_names (Follows other None) idle steps s = s
-  idle_names (Follows other (Some look)) idle steps s = s.1
-  idle_names (Resolves other target) idle steps s = s
-  idle_names (LooksAt opened look) idle steps s = s.1
-  idle_names (Dates opened of later) idle steps s = s
-  idle_names (Reads other bytes) idle steps s = s
-  idle_names (Opens opened other how) idle steps s = absurd idle
-  idle_names (Locks opened lock) idle steps s = absurd idle
-  idle_names (Ends opened size end) idle steps s = absurd idle
-  idle_names (EndsInNewline opened size newline) idle steps s = absurd idle
-  idle_names (Adds opened bytes) idle steps s = absurd idle
-  idle_names (Empties opened) idle steps s = absurd idle
-  idle_names (SetsMode opened mode) idle steps s = absurd idle
-  idle_names (GivesTo opened owner) idle steps s = absurd idle
-  idle_names (Syncs opened) idle steps s = absurd idle
-  idle_names (SyncsFolder other) idle steps s = absurd idle
-  idle_names (ReadsAll opened bytes) idle steps s = absurd idle
-  idle_names (Links other name) idle steps s = absurd idle
-  idle_names (Makes name bytes) idle steps s = absurd idle
-  idle_names (Removes other) idle steps s = absurd idle
-  idle_names (Renames other name) idle steps s = absurd idle
-  idle_names (Overwrites opened other) idle steps s = absurd idle
+  quiet_names : (step : FolderStep) → IsQuietStep step → IsCarried At step
+  quiet_names (Looks other seen) quiet steps s = s
+  quiet_names (Follows other None) quiet steps s = s
+  quiet_names (Follows other (Some look)) quiet steps s = s.1
+  quiet_names (Resolves other target) quiet steps s = s
+  quiet_names (LooksAt opened look) quiet steps s = s.1
+  quiet_names (Opens opened other opening.Read) quiet steps s = s.1
+  quiet_names (Opens opened other opening.Write) quiet steps s = s.1
+  quiet_names (Opens opened other opening.Add) quiet steps s = s.1
+  quiet_names (Opens opened other opening.Beside) quiet steps s = absurd quiet
+  quiet_names (Opens opened other (opening.New mode)) quiet steps s = absurd quiet
+  quiet_names (Locks opened lock) quiet steps s = s
+  quiet_names (Ends opened size end) quiet steps s = s
+  quiet_names (EndsInNewline opened size newline) quiet steps s = s
+  quiet_names (Adds opened bytes) quiet steps s = absurd quiet
+  quiet_names (Empties opened) quiet steps s = absurd quiet
+  quiet_names (SetsMode opened mode) quiet steps s = absurd quiet
+  quiet_names (GivesTo opened owner) quiet steps s = absurd quiet
+  quiet_names (Dates opened log later) quiet steps s = s
+  quiet_names (Syncs opened) quiet steps s = s
+  quiet_names (SyncsFolder other) quiet steps s = absurd quiet
+  quiet_names (ReadsAll opened bytes) quiet steps s = absurd quiet
+  quiet_names (Reads other bytes) quiet steps s = s
+  quiet_names (Links other new) quiet steps s = absurd quiet
+  quiet_names (Makes new bytes) quiet steps s = absurd quiet
+  quiet_names (Removes other) quiet steps s = absurd quiet
+  quiet_names (Renames other new) quiet steps s = absurd quiet
+  quiet_names (Overwrites opened other) quiet steps s = absurd quiet
 
   abbrev Here : History → Type 0
   Here h = OfTold At h
@@ -210,14 +265,14 @@ module _ (stamp_of : ℕ → Stamp) (path : List ℕ) (file : ℕ) where
   stood : (step : FolderStep) (a b : History) → IsCarried At step → b ≡ after step a → Here b → Here a
   stood step a b over is here = carry At step a b over is here
 
-  stood_idle : (step : FolderStep) (a b : History) → IsIdleStep step → b ≡ after step a → Here b → Here a
-  stood_idle step a b idle is here = stood step a b (idle_names step idle) is here
+  stood_quiet : (step : FolderStep) (a b : History) → IsQuietStep step → b ≡ after step a → Here b → Here a
+  stood_quiet step a b quiet is here = stood step a b (quiet_names step quiet) is here
 
   stood_owner : (which : ℕ) (owner : Owner) (is_owned : Bool) (a b : History) → TakesOwner which owner a b is_owned → Here b → Here a
-  stood_owner which owner true a b (look, looked, one, inl (same, is)) here = stood_idle (LooksAt which look) a looked tt one (subst Here is here)
+  stood_owner which owner true a b (look, looked, one, inl (same, is)) here = stood_quiet (LooksAt which look) a looked tt one (subst Here is here)
   stood_owner which owner true a b (look, looked, one, inr given) here =
-      stood_idle (LooksAt which look) a looked tt one (stood (GivesTo which owner) looked b (λ steps s. s) given here)
-  stood_owner which owner false a b (look, other, is) here = stood_idle (LooksAt which look) a b tt is here
+      stood_quiet (LooksAt which look) a looked tt one (stood (GivesTo which owner) looked b (λ steps s. s) given here)
+  stood_owner which owner false a b (look, other, is) here = stood_quiet (LooksAt which look) a b tt is here
 
   stood_mode : (which : ℕ) (like : Look) (a b : History) → TakesMode which like a b → Here b → Here a
   stood_mode which like a b (owned, is_owned, owner, is) here = stood_owner which like.owner is_owned a owned owner (carry At _ owned b (λ steps s. s) is here)
@@ -228,10 +283,10 @@ module _ (stamp_of : ℕ → Stamp) (path : List ℕ) (file : ℕ) where
 
   stood_rights : (which : ℕ) (standing : Option Look) (text : List ℕ) (a b : History) → TakesRights which standing text a b → Here b → Here a
   stood_rights which (Some like) text a b takes here = stood_mode which like a b takes here
-  stood_rights which None text a b (found, followed, one, takes) here = stood_idle (Follows text found) a followed tt one (stood_text_rights which found followed b takes here)
+  stood_rights which None text a b (found, followed, one, takes) here = stood_quiet (Follows text found) a followed tt one (stood_text_rights which found followed b takes here)
 
   stood_synced : (which : ℕ) (log later : Option ℕ) (a b : History) → SyncsDated which log later a b → Here b → Here a
-  stood_synced which log later a b syncs here = over_synced At idle_names which log later a b (λ steps s. s) syncs here
+  stood_synced which log later a b syncs here = over_synced At quiet_names which log later a b syncs here
 
   -- it is shown to stand for a file that is which
   is_shown : (which : ℕ) (a b : History) → AreApart stamp_of → StandsFor which path a b → Here b → file ≡ which
@@ -245,7 +300,7 @@ module _ (stamp_of : ℕ → Stamp) (path : List ℕ) (file : ℕ) where
   is_held : (which : ℕ) (a b : History) → AreApart stamp_of → HoldsEmpty which path a b → Here b → file ≡ which
   unfolding HoldsEmpty
   is_held which a b apart (look, held, (answer, locked, free, tried, stands), is, empty) here =
-      is_shown which locked held apart stands (stood_idle (LooksAt which look) held b tt is here)
+      is_shown which locked held apart stands (stood_quiet (LooksAt which look) held b tt is here)
 
   is_taken : (which : ℕ) (a b : History) → AreApart stamp_of → IsTaken which path a b → Here b → file ≡ which
   is_taken which a b apart (inl stands) here = is_shown which a b apart stands here
@@ -278,7 +333,7 @@ module _ (stamp_of : ℕ → Stamp) (path : List ℕ) (file : ℕ) (free : EndsI
   over_makes name bytes tilde steps s = s (λ same. free (subst EndsInTilde (sym same) tilde))
 
   stood_kept : (log : Option ℕ) (o : Old) (name : List ℕ) (a b : History) → KeepsOld log o name a b → Stands stamp_of path file b → Stands stamp_of path file a
-  stood_kept log o name a b keeps stands = over_old (StandsAfter stamp_of path file) (idle_names stamp_of path file) over_links over_makes log o name a b keeps stands
+  stood_kept log o name a b keeps stands = over_old (StandsAfter stamp_of path file) (quiet_names stamp_of path file) over_links over_makes log o name a b keeps stands
 
 module _ (stamp_of : ℕ → Stamp) (file : ℕ) where
   moved : (path name : List ℕ) (a b : History) → b ≡ after (Renames path name) a → Stands stamp_of name file b → Stands stamp_of path file a
@@ -290,7 +345,7 @@ module _ (stamp_of : ℕ → Stamp) (file : ℕ) where
   had_name : (path name : List ℕ) (a b : History) → GivesFreeName path name a b → Stands stamp_of name file b → Stands stamp_of path file a
   had_name path name a b (inl (link, one, inl is)) stands = linked path name a link one (subst (Stands stamp_of name file) is stands)
   had_name path name a b (inl (link, one, inr is)) stands = linked path name a link one (stood stamp_of name file (Removes path) link b (λ steps s. s.1) is stands)
-  had_name path name a b (inr (looked, one, is)) stands = stood_idle stamp_of path file (Looks name None) a looked tt one (moved path name looked b is stands)
+  had_name path name a b (inr (looked, one, is)) stands = stood_quiet stamp_of path file (Looks name None) a looked tt one (moved path name looked b is stands)
 
   taken : (o : Old) (path name : List ℕ) (a b : History) → TakesOld o path name a b → Stands stamp_of name file b → Stands stamp_of path file a
   taken old.Nothing path name a b gives stands = had_name path name a b gives stands
@@ -310,24 +365,30 @@ module _ (stamp_of : ℕ → Stamp) (file : ℕ) where
 
 -- ---- a log, and a text
 
+-- all of its lines, if nobody else writes into it
+pub log_known : (old : Option ℕ) (file : ℕ) (path name text : List ℕ) (standing : Option Look) (lines : List ℕ) (left : LeftLog) (a b : History) → MakesLog old file path name text standing lines left a b
+    → IsKnown file b lines
+log_known old file path name text standing lines left a b
+    (roomy, taken, put, look, looked, room, took, only, (righted, s, rights, is_path, is_name, is_later, is_old, does), step, (seen, at, one, two, same)) = λ found has.
+    let ended = had file found (Ends file look.stamp.length (Some left.end)) at b tt two has in
+    whole_bytes file found old s lines righted put does (had file found (LooksAt file look) put looked tt step (had file found (LooksAt file seen) looked at tt one ended))
+
 module _ (stamp_of : ℕ → Stamp) (apart : AreApart stamp_of) where
   pub log_holds : (old : Option ℕ) (file : ℕ) (path name text : List ℕ) (standing : Option Look) (lines found : List ℕ) (left : LeftLog) (a b : History) → (EndsInTilde path → ⊥)
       → MakesLog old file path name text standing lines left a b → Holds stamp_of name found b → found ≡ lines
-  log_holds old file path name text standing lines found left a b free
-      (roomy, taken, put, look, looked, room, took, only, (righted, s, rights, is_path, is_name, is_later, is_old, does), step, (seen, at, one, two, same)) (other, stands, has) =
+  log_holds old file path name text standing lines found left a b free made (other, stands, has) =
+      let (roomy, taken, put, look, looked, room, took, only, (righted, s, rights, is_path, is_name, is_later, is_old, does), step, (seen, at, one, two, same)) = made in
       let ended = stood stamp_of name other (Ends file look.stamp.length (Some left.end)) at b (λ steps t. t) two stands in
-      let there = stood_idle stamp_of name other (LooksAt file look) put looked tt step (stood_idle stamp_of name other (LooksAt file seen) looked at tt one ended) in
+      let there = stood_quiet stamp_of name other (LooksAt file look) put looked tt step (stood_quiet stamp_of name other (LooksAt file seen) looked at tt one ended) in
       let beside = whole_names stamp_of other file old s lines righted put (λ t. free (subst EndsInTilde is_path t)) does (subst (λ n. Stands stamp_of n other put) (sym is_name) there) in
       let here = stood_rights stamp_of path other file standing text taken righted rights (subst (λ p. Stands stamp_of p other righted) is_path beside) in
       let is : other ≡ file = is_taken stamp_of path other file roomy taken apart took here in
-      let had_last = had file found (Ends file look.stamp.length (Some left.end)) at b tt two (subst (λ f. OfTold (HasAfter f found) b) is has) in
-      whole_bytes file found old s lines righted put does
-      (had file found (LooksAt file look) put looked tt step (had file found (LooksAt file seen) looked at tt one had_last))
+      log_known old file path name text standing lines left a b made found (subst (λ f. OfTold (HasAfter f found) b) is has)
 
   text_beside : (log : Option ℕ) (file : ℕ) (path name bytes found : List ℕ) (own now_own : Option Stamp) (is_there : Bool) (seen made b : History) → (EndsInTilde path → ⊥)
       → MakesNextText file path name is_there seen made → PutsBeside file log path name bytes own now_own made b → Holds stamp_of name found b → found ≡ bytes
   text_beside log file path name bytes found own now_own is_there seen made b free (standing, looked, one, makes) (answer, locked, put, s, look, no_others, tried, next, does, step, is_own) (other, stands, has) =
-      let there = stood_idle stamp_of name other (LooksAt file look) put b tt step stands in
+      let there = stood_quiet stamp_of name other (LooksAt file look) put b tt step stands in
       let beside = whole_names stamp_of other file log s bytes locked put (λ t. free (subst EndsInTilde next.is_path t)) does (subst (λ n. Stands stamp_of n other put) (sym next.is_name) there) in
       let here = stood stamp_of path other (Locks file answer) made locked (λ steps t. t) tried (subst (λ p. Stands stamp_of p other locked) next.is_path beside) in
       let is : other ≡ file = made_for stamp_of path other file standing is_there looked made makes here in
@@ -336,7 +397,7 @@ module _ (stamp_of : ℕ → Stamp) (apart : AreApart stamp_of) where
   text_in_place : (log : Option ℕ) (name bytes found : List ℕ) (own now_own : Option Stamp) (a b : History) → PutsInPlace log name bytes own now_own a b
       → Holds stamp_of name found b → found ≡ bytes
   text_in_place log name bytes found own now_own a b (file, spared, over, written, synced, look, spares, overwrites, writes, syncs, step, is_own) (other, stands, has) =
-      let late = stood_synced stamp_of name other file log (Some 100) written synced syncs (stood_idle stamp_of name other (LooksAt file look) synced b tt step stands) in
+      let late = stood_synced stamp_of name other file log (Some 100) written synced syncs (stood_quiet stamp_of name other (LooksAt file look) synced b tt step stands) in
       let is : other ≡ file = is_overwritten stamp_of name other file spared over overwrites (stood stamp_of name other (Adds file bytes) over written (λ steps t. t) writes late) in
       let had_last = had file found (LooksAt file look) synced b tt step (subst (λ f. OfTold (HasAfter f found) b) is has) in
       added file found [] bytes over written writes (λ l. overwritten file name l spared over overwrites) (had_synced file found log (Some 100) written synced syncs had_last)
@@ -348,36 +409,6 @@ module _ (stamp_of : ℕ → Stamp) (apart : AreApart stamp_of) where
   text_holds log text path name bytes found own now_own a b free (inr (known, seen, puts)) holds = text_in_place log name bytes found known now_own seen b puts holds
 
 -- ---- what stands elsewhere
-
-module _ (stamp_of : ℕ → Stamp) (here : List ℕ) (file : ℕ) where
-  quiet_names : (step : FolderStep) → IsQuietStep step → IsCarried (StandsAfter stamp_of here file) step
-  quiet_names (Looks other seen) quiet steps s = s
-  quiet_names (Follows other None) quiet steps s = s
-  quiet_names (Follows other (Some look)) quiet steps s = s.1
-  quiet_names (Resolves other target) quiet steps s = s
-  quiet_names (LooksAt opened look) quiet steps s = s.1
-  quiet_names (Opens opened other opening.Read) quiet steps s = s.1
-  quiet_names (Opens opened other opening.Write) quiet steps s = s.1
-  quiet_names (Opens opened other opening.Add) quiet steps s = s.1
-  quiet_names (Opens opened other opening.Beside) quiet steps s = absurd quiet
-  quiet_names (Opens opened other (opening.New mode)) quiet steps s = absurd quiet
-  quiet_names (Locks opened lock) quiet steps s = s
-  quiet_names (Ends opened size end) quiet steps s = s
-  quiet_names (EndsInNewline opened size newline) quiet steps s = s
-  quiet_names (Adds opened bytes) quiet steps s = absurd quiet
-  quiet_names (Empties opened) quiet steps s = absurd quiet
-  quiet_names (SetsMode opened mode) quiet steps s = absurd quiet
-  quiet_names (GivesTo opened owner) quiet steps s = absurd quiet
-  quiet_names (Dates opened log later) quiet steps s = s
-  quiet_names (Syncs opened) quiet steps s = s
-  quiet_names (SyncsFolder other) quiet steps s = absurd quiet
-  quiet_names (ReadsAll opened bytes) quiet steps s = absurd quiet
-  quiet_names (Reads other bytes) quiet steps s = s
-  quiet_names (Links other new) quiet steps s = absurd quiet
-  quiet_names (Makes new bytes) quiet steps s = absurd quiet
-  quiet_names (Removes other) quiet steps s = absurd quiet
-  quiet_names (Renames other new) quiet steps s = absurd quiet
-  quiet_names (Overwrites opened other) quiet steps s = absurd quiet
 
 module _ (stamp_of : ℕ → Stamp) (path name here : List ℕ) (file : ℕ) (off_path : here ≢ path) (off_name : here ≢ name) (not_kept : EndsInTilde here → ⊥) where
   other_new : (new : List ℕ) → EndsInTilde new → here ≢ new
@@ -442,11 +473,10 @@ module _ (stamp_of : ℕ → Stamp) (path name here : List ℕ) (file : ℕ) (of
   put_names (Renames other new) of steps s = (s.1 (λ same. off_name (same ∙ of.1))).1
   put_names (Overwrites opened other) of steps s = s.1 (λ same. off_name (same ∙ of))
 
-  step_names : (step : FolderStep) → IsIdleStep step ⊎ IsQuietStep step ⊎ IsStepAt path step ⊎ IsStepOf path name step → IsCarried (StandsAfter stamp_of here file) step
-  step_names step (inl idle) = idle_names stamp_of here file step idle
-  step_names step (inr (inl quiet)) = quiet_names stamp_of here file step quiet
-  step_names step (inr (inr (inl at))) = at_names step at
-  step_names step (inr (inr (inr of))) = put_names step of
+  step_names : (step : FolderStep) → IsQuietStep step ⊎ IsStepAt path step ⊎ IsStepOf path name step → IsCarried (StandsAfter stamp_of here file) step
+  step_names step (inl quiet) = quiet_names stamp_of here file step quiet
+  step_names step (inr (inl at)) = at_names step at
+  step_names step (inr (inr of)) = put_names step of
 
   pub stood_elsewhere : (a b : History) → PutsOnlyAt path name a b → Stands stamp_of here file b → Stands stamp_of here file a
   stood_elsewhere a b puts stands = over_only _ (StandsAfter stamp_of here file) step_names a b puts stands

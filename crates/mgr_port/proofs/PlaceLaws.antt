@@ -2,7 +2,7 @@
 use Rattle.std.proofs.Common.{◌≡◌, ◌⊎◌, inl, inr, ℕ, Bool, true, false, List, [], ◌∷◌, Option, Some, None, Result, Ok, Err, IfOk, OnErr, OnOk, ◌++◌, refl, subst}
 use Rattle.mgr_port.specs.Disk.{DiskStep}
 use Rattle.mgr_port.specs.Disk as disk
-use Rattle.mgr_port.specs.Folder.{History, FolderStep, Adds, Dates, Empties, Follows, GivesTo, Links, Looks, LooksAt, Makes, Reads, Removes, Renames, Syncs, SyncsFolder, AreAll, IsIdle, IsIdleStep, IsQuiet, IsQuietStep, Only, Steps, Writes, after}
+use Rattle.mgr_port.specs.Folder.{History, FolderStep, Adds, Dates, Empties, Follows, GivesTo, Links, Looks, LooksAt, Makes, Reads, Removes, Renames, Syncs, SyncsFolder, AreAll, IsIdle, IsQuiet, IsQuietStep, Only, Steps, Writes, after}
 use Rattle.mgr_port.specs.Growth.{AddsFront, IsAdded}
 use Rattle.mgr_port.specs.Notes.{Leaves, MayRemoveIf}
 use Rattle.mgr_port.specs.Spares.{ChangesOnlyAt, GivesFreeName, IsKept, IsOfFile, IsOneOfMore, IsShown, IsStepAt, IsStepOf, MayRemove, PutsOnlyAt, SparesText}
@@ -19,7 +19,7 @@ use Rattle.mgr_port.specs.declared.spare.Reason.{Reason}
 use Rattle.mgr_port.specs.declared.spare.Reason.TheVariants as reason
 use Rattle.mgr_port.specs.declared.stamp.Stamp.{Stamp}
 use Rattle.mgr_port.proofs.BytesLaws.{longer_quiet, shown_quiet}
-use Rattle.mgr_port.proofs.FolderLaws.{only_chain, only_more, only_none}
+use Rattle.mgr_port.proofs.FolderLaws.{idle_is_quiet, only_chain, only_more, only_none}
 
 all_of : {P Q : FolderStep → Type 0} (steps : List FolderStep) → ((step : FolderStep) → P step → Q step) → AreAll P steps → AreAll Q steps
 all_of [] f all = tt
@@ -29,10 +29,10 @@ only_of : {P Q : FolderStep → Type 0} (a b : History) → ((step : FolderStep)
 only_of a b f i = record { seen = i.seen; all = all_of i.seen f i.all; is = i.is }
 
 pub at_idle : (path : List ℕ) (a b : History) → IsIdle a b → ChangesOnlyAt path a b
-at_idle path a b idle = only_of a b (λ step is. inl is) idle
+at_idle path a b idle = only_of a b (λ step is. inl (idle_is_quiet step is)) idle
 
 pub at_quiet : (path : List ℕ) (a b : History) → IsQuiet a b → ChangesOnlyAt path a b
-at_quiet path a b quiet = only_of a b (λ step is. inr (inl is)) quiet
+at_quiet path a b quiet = only_of a b (λ step is. inl is) quiet
 
 pub at_none : (path : List ℕ) (a b : History) → b ≡ a → ChangesOnlyAt path a b
 at_none path a b is = only_none a b is
@@ -44,14 +44,14 @@ pub at_chain : (path : List ℕ) (a b c : History) → ChangesOnlyAt path a b �
 at_chain path a b c one two = only_chain a b c one two
 
 -- one step that is looked at, and one that changes something
-pub then_look : (path : List ℕ) (a b c : History) (step : FolderStep) → ChangesOnlyAt path a b → c ≡ after step b → IsIdleStep step → ChangesOnlyAt path a c
-then_look path a b c step before is idle = only_more a b c step before is (inl idle)
+pub then_look : (path : List ℕ) (a b c : History) (step : FolderStep) → ChangesOnlyAt path a b → c ≡ after step b → IsQuietStep step → ChangesOnlyAt path a c
+then_look path a b c step before is quiet = only_more a b c step before is (inl quiet)
 
 pub then_step : (path : List ℕ) (a b c : History) (step : FolderStep) → ChangesOnlyAt path a b → c ≡ after step b → IsStepAt path step → ChangesOnlyAt path a c
-then_step path a b c step before is there = only_more a b c step before is (inr (inr there))
+then_step path a b c step before is there = only_more a b c step before is (inr there)
 
-pub at_look : (path : List ℕ) (a b : History) (step : FolderStep) → b ≡ after step a → IsIdleStep step → ChangesOnlyAt path a b
-at_look path a b step is idle = then_look path a a b step (at_none path a a refl) is idle
+pub at_look : (path : List ℕ) (a b : History) (step : FolderStep) → b ≡ after step a → IsQuietStep step → ChangesOnlyAt path a b
+at_look path a b step is quiet = then_look path a a b step (at_none path a a refl) is quiet
 
 -- it was done, or failed
 pub then_may : {A E : Type 0} (r : Result A E) (path : List ℕ) (a b c : History) (step : A → FolderStep) → ChangesOnlyAt path a b → Steps r step b c → ((x : A) → IsStepAt path (step x))
@@ -90,21 +90,20 @@ at_leaving next log path a b (gone, one, two) = at_chain path a gone b (at_remov
 module _ (path name : List ℕ) where
   -- the same at the path alone
   abbrev IsPut : FolderStep → Type 0
-  IsPut step = IsIdleStep step ⊎ IsQuietStep step ⊎ IsStepAt path step ⊎ IsStepOf path name step
+  IsPut step = IsQuietStep step ⊎ IsStepAt path step ⊎ IsStepOf path name step
 
-  put_step : (step : FolderStep) → IsIdleStep step ⊎ IsQuietStep step ⊎ IsStepAt path step → IsPut step
-  put_step step (inl idle) = inl idle
-  put_step step (inr (inl quiet)) = inr (inl quiet)
-  put_step step (inr (inr at)) = inr (inr (inl at))
+  put_step : (step : FolderStep) → IsQuietStep step ⊎ IsStepAt path step → IsPut step
+  put_step step (inl quiet) = inl quiet
+  put_step step (inr at) = inr (inl at)
 
   pub puts_at : (a b : History) → ChangesOnlyAt path a b → PutsOnlyAt path name a b
   puts_at a b only = only_of a b put_step only
 
   pub puts_idle : (a b : History) → IsIdle a b → PutsOnlyAt path name a b
-  puts_idle a b idle = only_of a b (λ step is. inl is) idle
+  puts_idle a b idle = only_of a b (λ step is. inl (idle_is_quiet step is)) idle
 
   pub puts_quiet : (a b : History) → IsQuiet a b → PutsOnlyAt path name a b
-  puts_quiet a b quiet = only_of a b (λ step is. inr (inl is)) quiet
+  puts_quiet a b quiet = only_of a b (λ step is. inl is) quiet
 
   pub puts_none : (a b : History) → b ≡ a → PutsOnlyAt path name a b
   puts_none a b is = only_none a b is
@@ -113,10 +112,10 @@ module _ (path name : List ℕ) where
   puts_chain a b c one two = only_chain a b c one two
 
   pub puts_look : (a b c : History) (step : FolderStep) → PutsOnlyAt path name a b → c ≡ after step b → IsQuietStep step → PutsOnlyAt path name a c
-  puts_look a b c step before is quiet = only_more a b c step before is (inr (inl quiet))
+  puts_look a b c step before is quiet = only_more a b c step before is (inl quiet)
 
   pub puts_step : (a b c : History) (step : FolderStep) → PutsOnlyAt path name a b → c ≡ after step b → IsStepOf path name step → PutsOnlyAt path name a c
-  puts_step a b c step before is of = only_more a b c step before is (inr (inr (inr of)))
+  puts_step a b c step before is of = only_more a b c step before is (inr (inr of))
 
   -- it was done, or failed
   pub puts_may : {A E : Type 0} (r : Result A E) (a b c : History) (step : A → FolderStep) → PutsOnlyAt path name a b → Steps r step b c → ((x : A) → IsPut (step x)) → PutsOnlyAt path name a c
@@ -155,7 +154,7 @@ module _ (path name : List ℕ) where
   puts_kept : (why : Reason) (a b : History) → IsKept why name a b → PutsOnlyAt path name a b
   puts_kept reason.Linked a b (kept, seen, tilde, idle, is) = puts_step a seen b (Links name kept) (puts_idle a seen idle) is (inr (refl, tilde))
   puts_kept reason.Copied a b (kept, bytes, seen, read, tilde, idle, was, is) =
-      only_more a read b (Makes kept bytes) (puts_look a seen read (Reads name bytes) (puts_idle a seen idle) was tt) is (inr (inr (inl tilde)))
+      only_more a read b (Makes kept bytes) (puts_look a seen read (Reads name bytes) (puts_idle a seen idle) was tt) is (inr (inl tilde))
   puts_kept reason.Nothing a b kept = absurd kept
   puts_kept reason.Known a b kept = absurd kept
   puts_kept reason.Same a b kept = absurd kept
@@ -183,7 +182,7 @@ module _ (path name : List ℕ) where
 
   puts_free : (a b : History) → GivesFreeName path name a b → PutsOnlyAt path name a b
   puts_free a b (inl (linked, one, inl is)) = puts_chain a linked b (puts_one a linked (Links path name) one (inl (refl, refl))) (puts_none linked b is)
-  puts_free a b (inl (linked, one, inr is)) = only_more a linked b (Removes path) (puts_one a linked (Links path name) one (inl (refl, refl))) is (inr (inr (inl refl)))
+  puts_free a b (inl (linked, one, inr is)) = only_more a linked b (Removes path) (puts_one a linked (Links path name) one (inl (refl, refl))) is (inr (inl refl))
   puts_free a b (inr (looked, one, is)) = puts_step a looked b (Renames path name) (puts_look a a looked (Looks name None) (puts_none a a refl) one tt) is (refl, refl)
 
   puts_name : (o : Old) (a b : History) → TakesOld o path name a b → PutsOnlyAt path name a b
@@ -193,10 +192,10 @@ module _ (path name : List ℕ) where
   puts_name (old.Read size) a b is = puts_one a b (Renames path name) is (refl, refl)
 
   pub puts_synced : (file : ℕ) (log later : Option ℕ) (a b : History) → SyncsDated file log later a b → PutsOnlyAt path name a b
-  puts_synced file log None a b (dated, may, is) = only_more a dated b (Syncs file) (puts_none a dated may) is (inr (inl tt))
-  puts_synced file log (Some later) a b (dated, inl may, is) = only_more a dated b (Syncs file) (puts_none a dated may) is (inr (inl tt))
+  puts_synced file log None a b (dated, may, is) = only_more a dated b (Syncs file) (puts_none a dated may) is (inl tt)
+  puts_synced file log (Some later) a b (dated, inl may, is) = only_more a dated b (Syncs file) (puts_none a dated may) is (inl tt)
   puts_synced file log (Some later) a b (dated, inr (of, known, date), is) =
-      only_more a dated b (Syncs file) (puts_look a a dated (Dates file of later) (puts_none a a refl) date tt) is (inr (inl tt))
+      only_more a dated b (Syncs file) (puts_look a a dated (Dates file of later) (puts_none a a refl) date tt) is (inl tt)
 
 module _ (file : ℕ) (log : Option ℕ) (s : Staged) where
   puts_does : (step : DiskStep) (a b : History) → Does file log s step a b → PutsOnlyAt s.path.now s.name.now a b

@@ -1,6 +1,6 @@
 -- Why nothing is lost of what stands under a path if that goes.
 use Rattle.std.specs.Prelude.{◌≡◌, ◌⊎◌, ◌<◌, ℕ, List, ◌++◌, ◌∷◌, [], false, Option, Some, None, string_bytes}
-use Rattle.mgr_port.specs.Folder.{History, FolderStep, IsIdle, IsIdleStep, IsQuietStep, Only, Looks, Follows, LooksAt, Opens, Reads, ReadsAll, Links, Makes, Removes, Renames, after}
+use Rattle.mgr_port.specs.Folder.{History, FolderStep, IsIdle, IsQuietStep, Only, Looks, Follows, LooksAt, Opens, Reads, ReadsAll, Links, Makes, Removes, Renames, after}
 use Rattle.mgr_port.specs.Folder.{Adds, Empties, GivesTo, Overwrites, SetsMode, SyncsFolder}
 use Rattle.mgr_port.specs.Verdicts.{AreOfOneFile}
 use Rattle.mgr_port.specs.declared.folder.Opening.TheVariants as opening
@@ -130,7 +130,7 @@ IsStepAt path (ReadsAll file bytes) = Unit {0}
 IsStepAt path other = ⊥
 
 abbrev pub ChangesOnlyAt : List ℕ → History → History → Type 0
-ChangesOnlyAt path old now = Only (λ step. IsIdleStep step ⊎ IsQuietStep step ⊎ IsStepAt path step) old now
+ChangesOnlyAt path old now = Only (λ step. IsQuietStep step ⊎ IsStepAt path step) old now
 
 -- ---- what changes at a path, and at the name that its file is to take
 
@@ -149,7 +149,7 @@ IsStepOf path name (Overwrites file other) = other ≡ name
 IsStepOf path name other = ⊥
 
 abbrev pub PutsOnlyAt : List ℕ → List ℕ → History → History → Type 0
-PutsOnlyAt path name old now = Only (λ step. IsIdleStep step ⊎ IsQuietStep step ⊎ IsStepAt path step ⊎ IsStepOf path name step) old now
+PutsOnlyAt path name old now = Only (λ step. IsQuietStep step ⊎ IsStepAt path step ⊎ IsStepOf path name step) old now
 
 -- the same at the paths of a log or of a text; at this path, whatever name its file is to take; and at none
 abbrev pub PutsLogOnly : Paths → History → History → Type 0

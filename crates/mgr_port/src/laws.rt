@@ -1,6 +1,6 @@
 //! Theorems about files that are written whole, paths that go, and logs that grow. Each function does
 //! nothing: its contract is the theorem.
-ghost use Rattle.std.specs.Prelude.{◌≡◌, ◌≢◌, ◌⊎◌, ℕ, List, ◌++◌, true, false, Option, Some, None, IfSome, codes, length};
+ghost use Rattle.std.specs.Prelude.{◌≡◌, ◌≢◌, ◌⊎◌, ℕ, Bool, List, ◌++◌, true, false, Option, Some, None, IfSome, codes, length};
 ghost use Rattle.mgr_port.specs.declared.log.FoundLog.{FoundLog};
 ghost use Rattle.mgr_port.specs.declared.log.LeftLog.{LeftLog};
 ghost use Rattle.mgr_port.specs.declared.spare.Look.{Look};
@@ -14,7 +14,7 @@ ghost use Rattle.mgr_port.specs.Growth.{AddsFront, IsAdded};
 ghost use Rattle.mgr_port.specs.Naming.{AreApart, Holds, Stands};
 ghost use Rattle.mgr_port.specs.Notes.{LoadsLog, MakesLog};
 ghost use Rattle.mgr_port.specs.Spares.{EndsInTilde, IsNothing, PutsOnlyAt};
-ghost use Rattle.mgr_port.specs.Texts.{PutsText};
+ghost use Rattle.mgr_port.specs.Texts.{MakesNextText, PutsBeside, PutsText};
 ghost use Rattle.mgr_port.specs.Verdicts.{MayGrow};
 ghost use Rattle.mgr_port.specs.Worlds.{World, Has, Shows, IsLinked, IsMade, IsLeftAlone, IsBare, StoodUnder, Locks};
 ghost use Rattle.mgr_port.specs.Worlds.{EndsAt, Grows};
@@ -64,7 +64,8 @@ pub fn a_note_has_one_session()
 /// If others only put something behind a log, what was read of it, and then each lines that were added,
 /// are a beginning of what it has later, so of what it is read as. Whatever else they do, a log of
 /// which lines may be added still has all that was read, if nothing was changed in place before its
-/// last bytes: these are looked at. `load` and `append` take these steps.
+/// last bytes: these are looked at. `load` and `append` take these steps, and a text that is put beside
+/// leaves a log as it is, if its new file is another one.
 pub fn a_log_that_was_read_only_grows()
     ensures grown { (file : ℕ) (before : List ℕ) (a b : World) (left : LeftLog) (found : FoundLog)
         → EndsAt (a.bytes file) (length (a.bytes file)) left.end before
@@ -81,6 +82,11 @@ pub fn a_log_that_was_read_only_grows()
         → AddsFront file lines old now → MayHave file now bytes → HadFront file old bytes }
     ensures quiet { (file : ℕ) (bytes : List ℕ) (old now : History) → IsQuiet old now
         → MayHave file now bytes → HadFront file old bytes }
+    ensures text { (log file : ℕ) (dated : Option ℕ) (path name text bytes : List ℕ)
+        (own now_own : Option Stamp) (is_there : Bool) (old made now : History) → file ≢ log
+        → MakesNextText file path name is_there old made
+        → PutsBeside file dated path name text own now_own made now
+        → MayHave log now bytes → HadFront log old bytes }
 {}
 
 /// If all that a log had is on the device, and nobody else writes into it, it has that whenever the
@@ -112,6 +118,10 @@ pub fn calls_leave_what_a_port_is_held_to()
         (old now : History) → AddsFront file lines old now → IsKnown file old bytes
         → OfTold (HasAfter file found) now → Leaves Append false lines
         (record { log = Some bytes; text = text }) (record { log = Some found; text = text }) }
+    ensures known { (before : Option ℕ) (file : ℕ) (path name beside lines : List ℕ)
+        (standing : Option Look) (left : LeftLog) (old now : History)
+        → MakesLog before file path name beside standing lines left old now
+        → IsKnown file now lines }
     ensures made { (stamp_of : ℕ → Stamp) (file : ℕ) (name beside lines found : List ℕ)
         (left : LeftLog) (text : Option (List ℕ)) (old now : History) → AreApart stamp_of
         → MakesLog None file (name ++ codes ".new") name beside None lines left old now
@@ -123,17 +133,17 @@ pub fn calls_leave_what_a_port_is_held_to()
         → MakesLog before file (name ++ codes ".new") name beside standing lines left old now
         → Holds stamp_of name found now → Leaves Replace true lines
         (record { log = log; text = text }) (record { log = Some found; text = text }) }
-    ensures put { (stamp_of : ℕ → Stamp) (file kept : Option ℕ) (name bytes found : List ℕ)
+    ensures put { (stamp_of : ℕ → Stamp) (dated held : Option ℕ) (name bytes found : List ℕ)
         (own now_own : Option Stamp) (log text : Option (List ℕ)) (old now : History)
         → AreApart stamp_of
-        → PutsText file kept (name ++ codes ".ops.text") name bytes own now_own old now
+        → PutsText dated held (name ++ codes ".ops.text") name bytes own now_own old now
         → Holds stamp_of name found now → Leaves PutText true bytes
         (record { log = log; text = text }) (record { log = log; text = Some found }) }
 {}
 
-/// A call that puts something under a name, and writes it at a path beside, leaves what stands under
-/// any other name, whatever it answers: a text that is put leaves the log, and a log that is written
-/// anew the text. If it fails, what is kept under the name is still there, or has another one.
+/// A call that puts something under a name, and writes it at a path beside, leaves each other name to
+/// the file that it stands for, whatever it answers, if nobody else takes part: a text that is put
+/// leaves the log its name, and a log that is written anew the text.
 pub fn what_stands_elsewhere_is_left()
     ensures { (stamp_of : ℕ → Stamp) (path name other : List ℕ) (file : ℕ) (old now : History)
         → PutsOnlyAt path name old now → other ≢ path → other ≢ name → (EndsInTilde other → ⊥)

@@ -1,4 +1,5 @@
 use Rattle.mgr_port.proofs.BytesLaws.{before_quiet, front_is_there, lines_are_there, read_is_there}
+use Rattle.mgr_port.proofs.NamingLaws.{text_is_elsewhere}
 use Rattle.mgr_port.proofs.WorldLaws.{grown}
 use Rattle.mgr_port.proofs.laws.a_log_that_was_read_only_grows.Goals as goal
 
@@ -16,3 +17,7 @@ returns-clause-failed c file lines bytes old now front has = front_is_there file
 
 pub returns-clause-quiet : goal.returns-clause-quiet
 returns-clause-quiet c file bytes old now quiet has = before_quiet file old now bytes quiet has
+
+pub returns-clause-text : goal.returns-clause-text
+returns-clause-text c log file dated path name text bytes own now_own is_there old made now other makes puts has =
+    text_is_elsewhere log bytes file dated path name text own now_own is_there old made now other makes puts has

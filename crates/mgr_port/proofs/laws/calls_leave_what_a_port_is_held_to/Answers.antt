@@ -1,6 +1,6 @@
 use Rattle.std.proofs.Common.{Some, None}
 use Rattle.mgr_port.proofs.BytesLaws.{as_appended, as_begun, read_known}
-use Rattle.mgr_port.proofs.NamingLaws.{log_holds, next_log_is_not_kept, next_text_is_not_kept, text_holds}
+use Rattle.mgr_port.proofs.NamingLaws.{log_holds, log_known, next_log_is_not_kept, next_text_is_not_kept, text_holds}
 use Rattle.mgr_port.proofs.laws.calls_leave_what_a_port_is_held_to.Goals as goal
 
 pub returns-clause-read : goal.returns-clause-read
@@ -29,3 +29,6 @@ returns-clause-put c stamp_of file kept name bytes found own now_own log text ol
   log = log;
   text = Some (text_holds stamp_of apart file kept _ name bytes found own now_own old now (next_text_is_not_kept name) puts holds k);
 }
+
+pub returns-clause-known : goal.returns-clause-known
+returns-clause-known c before file path name beside lines standing left old now makes = log_known before file path name beside standing lines left old now makes

@@ -8,4 +8,4 @@ returns-in-Some-found-clause-only g c = λ path name.
 
 pub returns-in-None-clause-only : goal.returns-in-None-clause-only
 returns-in-None-clause-only g c = λ path name.
-    puts_may path name _ _ _ _ _ (puts_look path name _ _ _ _ (puts_none path name _ _ refl) c.in_ok-like.ensures.step tt) c.set_mode.ensures.step (λ _. inr (inr (inr tt)))
+    puts_may path name _ _ _ _ _ (puts_look path name _ _ _ _ (puts_none path name _ _ refl) c.in_ok-like.ensures.step tt) c.set_mode.ensures.step (λ _. inr (inr tt))
