@@ -1,14 +1,13 @@
 -- What stands under a name once a file has taken it.
-use Rattle.std.proofs.Common.{◌≡◌, ◌≢◌, ◌⊎◌, inl, inr, ◌∙◌, ℕ, List, [], ◌∷◌, ◌++◌, Bool, true, false, Option, Some, None, codes, refl, sym, ap, subst, append_assoc, arith}
-use Rattle.std.proofs.lemmas.List.{append-nil}
+use Rattle.std.proofs.Common.{◌≡◌, ◌≢◌, ◌⊎◌, inl, inr, ◌∙◌, ℕ, List, [], ◌∷◌, ◌++◌, Bool, true, false, Option, Some, None, codes, refl, sym, ap, subst, append_assoc, arith, length}
+use Rattle.std.proofs.lemmas.List.{append-nil, length-append}
 use Rattle.mgr_port.specs.Bytes.{HadFront, HasAfter, IsKnown, MayHave, MayHaveAfter, OfTold, Tells, change_of}
-use Rattle.mgr_port.specs.Disk.{whole_steps}
-use Rattle.mgr_port.specs.Disk as disk
+use Rattle.mgr_port.specs.Disk.{last_steps, steps_to}
 use Rattle.mgr_port.specs.Folder.{History, FolderStep, Adds, Dates, Empties, Ends, EndsInNewline, Follows, GivesTo, Links, Locks, Looks, LooksAt, Makes, Opens, Overwrites, Reads, ReadsAll, Removes, Renames, Resolves, SetsMode, Syncs, SyncsFolder, AreAll, IsIdle, IsIdleStep, IsQuietStep, Only, after}
 use Rattle.mgr_port.specs.Locks.{HoldsEmpty, IsTaken, MakesBeside, StandsFor}
 use Rattle.mgr_port.specs.Naming.{AreApart, Holds, Stands, StandsAfter}
-use Rattle.mgr_port.specs.Notes.{MakesLog, TakesRights, TakesTextRights}
-use Rattle.mgr_port.specs.Spares.{EndsInTilde, GivesFreeName, IsKept, IsShown, IsSpare, IsStepAt, IsStepOf, PutsOnlyAt}
+use Rattle.mgr_port.specs.Notes.{LeavesNext, MakesLog, PutsLog, TakesRights, TakesTextRights}
+use Rattle.mgr_port.specs.Spares.{EndsInTilde, GivesFreeName, IsKept, IsRightsStep, IsShown, IsSpare, IsStepAt, IsStepOf, IsWaitingStep, PutsOnlyAt, WaitsBeside}
 use Rattle.mgr_port.specs.Staging.{DoesAll, KeepsOld, MayDate, SyncsDated, TakesOld}
 use Rattle.mgr_port.specs.Texts.{MakesFor, MakesLike, MakesNextText, PutsBeside, PutsInPlace, PutsText, TakesMode, TakesOwner}
 use Rattle.mgr_port.specs.Verdicts.{AreOfOneFile}
@@ -18,6 +17,8 @@ use Rattle.mgr_port.specs.declared.spare.Look.{Look}
 use Rattle.mgr_port.specs.declared.spare.Owner.{Owner}
 use Rattle.mgr_port.specs.declared.spare.Reason.{Reason}
 use Rattle.mgr_port.specs.declared.spare.Reason.TheVariants as reason
+use Rattle.mgr_port.specs.declared.staged.Named.{Named}
+use Rattle.mgr_port.specs.declared.staged.Named.TheVariants as named
 use Rattle.mgr_port.specs.declared.staged.Old.{Old}
 use Rattle.mgr_port.specs.declared.staged.Old.TheVariants as old
 use Rattle.mgr_port.specs.declared.staged.Staged.{Staged}
@@ -126,11 +127,16 @@ module _ (P : List FolderStep → Type 0) (stays : (step : FolderStep) → IsSti
   kept_stays why path a b kept holds = over_kept P quiet_stays (λ other name t. stays (Links other name) tt) (λ name l t. stays (Makes name l) tt) why path a b kept holds
 
   -- what comes after a new file's bytes
-  over_last : (file : ℕ) (log : Option ℕ) (s : Staged) (a b : History) → DoesAll file log s (disk.Syncs ∷ disk.Keeps ∷ disk.TakesName ∷ disk.SyncsFolder ∷ []) a b → OfTold P b → OfTold P a
-  over_last file log s a b (synced, syncs, (kept, keeps, (named, takes, last))) holds =
-      over_synced P quiet_stays file log s.later a synced syncs
-      (over_old P quiet_stays (λ other name t. stays (Links other name) tt) (λ name l t. stays (Makes name l) tt) log s.old s.name.now synced kept keeps
-      (over_name s.old s.path.now s.name.now kept named takes (over_still (SyncsFolder s.name.now) named b tt last holds)))
+  over_synced_old : (file : ℕ) (log : Option ℕ) (s : Staged) (a b c : History) → SyncsDated file log s.later a b → KeepsOld log s.old s.name.now b c → OfTold P c → OfTold P a
+  over_synced_old file log s a b c syncs keeps holds =
+      over_synced P quiet_stays file log s.later a b syncs
+      (over_old P quiet_stays (λ other name t. stays (Links other name) tt) (λ name l t. stays (Makes name l) tt) log s.old s.name.now b c keeps holds)
+
+  over_last : (file : ℕ) (log : Option ℕ) (s : Staged) (n : Named) (a b : History) → DoesAll file log s (last_steps n) a b → OfTold P b → OfTold P a
+  over_last file log s named.Settled a b (synced, syncs, (kept, keeps, (given, takes, last))) holds =
+      over_synced_old file log s a synced kept syncs keeps (over_name s.old s.path.now s.name.now kept given takes (over_still (SyncsFolder s.name.now) given b tt last holds))
+  over_last file log s (named.Unsettled error) a b (synced, syncs, (kept, keeps, takes)) holds =
+      over_synced_old file log s a synced kept syncs keeps (over_name s.old s.path.now s.name.now kept b takes holds)
 
   over_owner : (file : ℕ) (owner : Owner) (is_owned : Bool) (a b : History) → TakesOwner file owner a b is_owned → OfTold P b → OfTold P a
   over_owner file owner true a b (look, looked, one, inl (same, is)) holds = over_still (LooksAt file look) a looked tt one (subst (OfTold P) is holds)
@@ -151,6 +157,12 @@ module _ (P : List FolderStep → Type 0) (stays : (step : FolderStep) → IsSti
   over_made file path None is_there a b makes holds = over_beside file path 438 a b makes holds
   over_made file path (Some look) is_there a b (plain, there, (made, owned, makes, owner, is)) holds =
       over_beside file path 0 a made makes (over_owner file look.owner true made owned owner (over_still (SetsMode file look.mode) owned b tt is holds))
+
+-- the parts of what a new file's steps do
+put_parts : (file : ℕ) (log : Option ℕ) (s : Staged) (n : Named) (bytes : List ℕ) (a b : History) → DoesAll file log s (steps_to n bytes) a b
+    → (one : History) × (two : History) × (one ≡ after (Empties file) a) × (two ≡ after (Adds file bytes) one) × DoesAll file log s (last_steps n) two b
+put_parts file log s named.Settled bytes a b (one, empties, (two, writes, rest)) = (one, two, empties, writes, rest)
+put_parts file log s (named.Unsettled error) bytes a b (one, empties, (two, writes, rest)) = (one, two, empties, writes, rest)
 
 -- ---- which bytes a file has
 
@@ -184,8 +196,10 @@ module _ (file : ℕ) (found : List ℕ) where
   had_synced log later a b syncs has = over_synced HasFound (quiet_stays HasFound has_over) file log later a b syncs has
 
   -- all that was written, if nothing else was
-  whole_bytes : (log : Option ℕ) (s : Staged) (bytes : List ℕ) (a b : History) → DoesAll file log s (whole_steps bytes) a b → Has b → found ≡ bytes
-  whole_bytes log s bytes a b (one, empties, (two, writes, rest)) has = added [] bytes one two writes (λ l. emptied file l a one empties) (over_last HasFound has_over file log s two b rest has)
+  whole_bytes : (log : Option ℕ) (s : Staged) (n : Named) (bytes : List ℕ) (a b : History) → DoesAll file log s (steps_to n bytes) a b → Has b → found ≡ bytes
+  whole_bytes log s n bytes a b does has =
+      let (one, two, empties, writes, rest) = put_parts file log s n bytes a b does in
+      added [] bytes one two writes (λ l. emptied file l a one empties) (over_last HasFound has_over file log s n two b rest has)
 
 -- ---- what a log has, while a text is put
 
@@ -218,7 +232,7 @@ module _ (log : ℕ) (bytes : List ℕ) where
   text_is_elsewhere file dated path name text own now_own is_there a made b other (found, looked, one, makes)
       (answer, locked, put, s, look, no_others, tried, next, (empty, empties, (written, writes, rest)), step, is_own) has =
       let late = over_still Front front_stays (LooksAt file look) put b tt step (told_front b has) in
-      let last = over_last Front front_stays file dated s written put rest late in
+      let last = over_last Front front_stays file dated s named.Settled written put rest late in
       let add = carry Front (Adds file text) empty written (before_same (Adds file text) (λ _ _ t. t.1.1 other)) writes last in
       let early = carry Front (Empties file) locked empty (before_same (Empties file) (λ _ _ t. t.1.1 other)) empties add in
       let before = over_made Front front_stays file path found is_there looked made makes (over_still Front front_stays (Locks file answer) made locked tt tried early) in
@@ -258,6 +272,30 @@ module _ (stamp_of : ℕ → Stamp) (path : List ℕ) (file : ℕ) where
   quiet_names (Removes other) quiet steps s = absurd quiet
   quiet_names (Renames other new) quiet steps s = absurd quiet
   quiet_names (Overwrites opened other) quiet steps s = absurd quiet
+
+  rights_names : (step : FolderStep) → IsRightsStep step → IsCarried At step
+  rights_names (Looks other seen) rights steps s = absurd rights
+  rights_names (Follows other seen) rights steps s = absurd rights
+  rights_names (Resolves other target) rights steps s = absurd rights
+  rights_names (LooksAt opened look) rights steps s = absurd rights
+  rights_names (Opens opened other how) rights steps s = absurd rights
+  rights_names (Locks opened lock) rights steps s = absurd rights
+  rights_names (Ends opened size end) rights steps s = absurd rights
+  rights_names (EndsInNewline opened size newline) rights steps s = absurd rights
+  rights_names (Adds opened bytes) rights steps s = absurd rights
+  rights_names (Empties opened) rights steps s = absurd rights
+  rights_names (SetsMode opened mode) rights steps s = s
+  rights_names (GivesTo opened owner) rights steps s = s
+  rights_names (Dates opened log later) rights steps s = absurd rights
+  rights_names (Syncs opened) rights steps s = absurd rights
+  rights_names (SyncsFolder other) rights steps s = absurd rights
+  rights_names (ReadsAll opened bytes) rights steps s = absurd rights
+  rights_names (Reads other bytes) rights steps s = absurd rights
+  rights_names (Links other new) rights steps s = absurd rights
+  rights_names (Makes new bytes) rights steps s = absurd rights
+  rights_names (Removes other) rights steps s = absurd rights
+  rights_names (Renames other new) rights steps s = absurd rights
+  rights_names (Overwrites opened other) rights steps s = absurd rights
 
   abbrev Here : History → Type 0
   Here h = OfTold At h
@@ -353,46 +391,68 @@ module _ (stamp_of : ℕ → Stamp) (file : ℕ) where
   taken (old.Text own bytes) path name a b is stands = moved path name a b is stands
   taken (old.Read size) path name a b is stands = moved path name a b is stands
 
-  -- what has the name, stood at the path before
-  whole_names : (which : ℕ) (log : Option ℕ) (s : Staged) (bytes : List ℕ) (a b : History) → (EndsInTilde s.path.now → ⊥) → DoesAll which log s (whole_steps bytes) a b
+  last_names : (which : ℕ) (log : Option ℕ) (s : Staged) (n : Named) (a b : History) → (EndsInTilde s.path.now → ⊥) → DoesAll which log s (last_steps n) a b
       → Stands stamp_of s.name.now file b → Stands stamp_of s.path.now file a
-  whole_names which log s bytes a b free (one, empties, (two, writes, (three, syncs, (four, keeps, (five, takes, last))))) stands =
+  last_names which log s named.Settled a b free (synced, syncs, (kept, keeps, (given, takes, last))) stands =
       let path = s.path.now in
-      let named = taken s.old path s.name.now four five takes (stood stamp_of s.name.now file (SyncsFolder s.name.now) five b (λ steps t. t) last stands) in
-      let kept = stood_kept stamp_of path file free log s.old s.name.now three four keeps named in
-      let synced = stood_synced stamp_of path file which log s.later two three syncs kept in
-      stood stamp_of path file (Empties which) a one (λ steps t. t) empties (stood stamp_of path file (Adds which bytes) one two (λ steps t. t) writes synced)
+      let named = taken s.old path s.name.now kept given takes (stood stamp_of s.name.now file (SyncsFolder s.name.now) given b (λ steps t. t) last stands) in
+      stood_synced stamp_of path file which log s.later a synced syncs (stood_kept stamp_of path file free log s.old s.name.now synced kept keeps named)
+  last_names which log s (named.Unsettled error) a b free (synced, syncs, (kept, keeps, takes)) stands =
+      let path = s.path.now in
+      stood_synced stamp_of path file which log s.later a synced syncs
+      (stood_kept stamp_of path file free log s.old s.name.now synced kept keeps (taken s.old path s.name.now kept b takes stands))
+
+  -- what has the name, stood at the path before
+  whole_names : (which : ℕ) (log : Option ℕ) (s : Staged) (n : Named) (bytes : List ℕ) (a b : History) → (EndsInTilde s.path.now → ⊥) → DoesAll which log s (steps_to n bytes) a b
+      → Stands stamp_of s.name.now file b → Stands stamp_of s.path.now file a
+  whole_names which log s n bytes a b free does stands =
+      let (one, two, empties, writes, rest) = put_parts which log s n bytes a b does in
+      let path = s.path.now in
+      let late = last_names which log s n two b free rest stands in
+      stood stamp_of path file (Empties which) a one (λ steps t. t) empties (stood stamp_of path file (Adds which bytes) one two (λ steps t. t) writes late)
 
 -- ---- a log, and a text
 
 -- all of its lines, if nobody else writes into it
+put_known : (old : Option ℕ) (file : ℕ) (path name text : List ℕ) (standing : Option Look) (n : Named) (lines : List ℕ) (a b : History) → PutsLog old file path name text standing (steps_to n lines) a b
+    → IsKnown file b lines
+put_known old file path name text standing n lines a b (roomy, taken, room, took, only, (righted, s, rights, is_path, is_name, is_later, is_old, does)) = λ found has.
+    whole_bytes file found old s n lines righted b does has
+
 pub log_known : (old : Option ℕ) (file : ℕ) (path name text : List ℕ) (standing : Option Look) (lines : List ℕ) (left : LeftLog) (a b : History) → MakesLog old file path name text standing lines left a b
     → IsKnown file b lines
-log_known old file path name text standing lines left a b
-    (roomy, taken, put, look, looked, room, took, only, (righted, s, rights, is_path, is_name, is_later, is_old, does), step, (seen, at, one, two, same)) = λ found has.
+log_known old file path name text standing lines left a b (put, look, looked, puts, step, (seen, at, one, two, same)) = λ found has.
     let ended = had file found (Ends file look.stamp.length (Some left.end)) at b tt two has in
-    whole_bytes file found old s lines righted put does (had file found (LooksAt file look) put looked tt step (had file found (LooksAt file seen) looked at tt one ended))
+    put_known old file path name text standing named.Settled lines a put puts found
+    (had file found (LooksAt file look) put looked tt step (had file found (LooksAt file seen) looked at tt one ended))
 
 module _ (stamp_of : ℕ → Stamp) (apart : AreApart stamp_of) where
-  pub log_holds : (old : Option ℕ) (file : ℕ) (path name text : List ℕ) (standing : Option Look) (lines found : List ℕ) (left : LeftLog) (a b : History) → (EndsInTilde path → ⊥)
-      → MakesLog old file path name text standing lines left a b → Holds stamp_of name found b → found ≡ lines
-  log_holds old file path name text standing lines found left a b free made (other, stands, has) =
-      let (roomy, taken, put, look, looked, room, took, only, (righted, s, rights, is_path, is_name, is_later, is_old, does), step, (seen, at, one, two, same)) = made in
-      let ended = stood stamp_of name other (Ends file look.stamp.length (Some left.end)) at b (λ steps t. t) two stands in
-      let there = stood_quiet stamp_of name other (LooksAt file look) put looked tt step (stood_quiet stamp_of name other (LooksAt file seen) looked at tt one ended) in
-      let beside = whole_names stamp_of other file old s lines righted put (λ t. free (subst EndsInTilde is_path t)) does (subst (λ n. Stands stamp_of n other put) (sym is_name) there) in
+  put_holds : (old : Option ℕ) (file : ℕ) (path name text : List ℕ) (standing : Option Look) (n : Named) (lines found : List ℕ) (a b : History) → (EndsInTilde path → ⊥)
+      → PutsLog old file path name text standing (steps_to n lines) a b → Holds stamp_of name found b → found ≡ lines
+  put_holds old file path name text standing n lines found a b free puts (other, stands, has) =
+      let (roomy, taken, room, took, only, (righted, s, rights, is_path, is_name, is_later, is_old, does)) = puts in
+      let beside = whole_names stamp_of other file old s n lines righted b (λ t. free (subst EndsInTilde is_path t)) does (subst (λ m. Stands stamp_of m other b) (sym is_name) stands) in
       let here = stood_rights stamp_of path other file standing text taken righted rights (subst (λ p. Stands stamp_of p other righted) is_path beside) in
       let is : other ≡ file = is_taken stamp_of path other file roomy taken apart took here in
-      log_known old file path name text standing lines left a b made found (subst (λ f. OfTold (HasAfter f found) b) is has)
+      put_known old file path name text standing n lines a b puts found (subst (λ f. OfTold (HasAfter f found) b) is has)
+
+  pub log_holds : (old : Option ℕ) (file : ℕ) (path name text : List ℕ) (standing : Option Look) (lines found : List ℕ) (left : LeftLog) (a b : History) → (EndsInTilde path → ⊥)
+      → MakesLog old file path name text standing lines left a b → Holds stamp_of name found b → found ≡ lines
+  log_holds old file path name text standing lines found left a b free (put, look, looked, puts, step, (seen, at, one, two, same)) (other, stands, has) =
+      let ended = stood stamp_of name other (Ends file look.stamp.length (Some left.end)) at b (λ steps t. t) two stands in
+      let there = stood_quiet stamp_of name other (LooksAt file look) put looked tt step (stood_quiet stamp_of name other (LooksAt file seen) looked at tt one ended) in
+      let had_last = had other found (Ends file look.stamp.length (Some left.end)) at b tt two has in
+      let whole = had other found (LooksAt file look) put looked tt step (had other found (LooksAt file seen) looked at tt one had_last) in
+      put_holds old file path name text standing named.Settled lines found a put free puts (other, there, whole)
 
   text_beside : (log : Option ℕ) (file : ℕ) (path name bytes found : List ℕ) (own now_own : Option Stamp) (is_there : Bool) (seen made b : History) → (EndsInTilde path → ⊥)
       → MakesNextText file path name is_there seen made → PutsBeside file log path name bytes own now_own made b → Holds stamp_of name found b → found ≡ bytes
   text_beside log file path name bytes found own now_own is_there seen made b free (standing, looked, one, makes) (answer, locked, put, s, look, no_others, tried, next, does, step, is_own) (other, stands, has) =
       let there = stood_quiet stamp_of name other (LooksAt file look) put b tt step stands in
-      let beside = whole_names stamp_of other file log s bytes locked put (λ t. free (subst EndsInTilde next.is_path t)) does (subst (λ n. Stands stamp_of n other put) (sym next.is_name) there) in
+      let beside = whole_names stamp_of other file log s named.Settled bytes locked put (λ t. free (subst EndsInTilde next.is_path t)) does (subst (λ n. Stands stamp_of n other put) (sym next.is_name) there) in
       let here = stood stamp_of path other (Locks file answer) made locked (λ steps t. t) tried (subst (λ p. Stands stamp_of p other locked) next.is_path beside) in
       let is : other ≡ file = made_for stamp_of path other file standing is_there looked made makes here in
-      whole_bytes file found log s bytes locked put does (had file found (LooksAt file look) put b tt step (subst (λ f. OfTold (HasAfter f found) b) is has))
+      whole_bytes file found log s named.Settled bytes locked put does (had file found (LooksAt file look) put b tt step (subst (λ f. OfTold (HasAfter f found) b) is has))
 
   text_in_place : (log : Option ℕ) (name bytes found : List ℕ) (own now_own : Option Stamp) (a b : History) → PutsInPlace log name bytes own now_own a b
       → Holds stamp_of name found b → found ≡ bytes
@@ -410,7 +470,7 @@ module _ (stamp_of : ℕ → Stamp) (apart : AreApart stamp_of) where
 
 -- ---- what stands elsewhere
 
-module _ (stamp_of : ℕ → Stamp) (path name here : List ℕ) (file : ℕ) (off_path : here ≢ path) (off_name : here ≢ name) (not_kept : EndsInTilde here → ⊥) where
+module _ (stamp_of : ℕ → Stamp) (path here : List ℕ) (file : ℕ) (off_path : here ≢ path) (not_kept : EndsInTilde here → ⊥) where
   other_new : (new : List ℕ) → EndsInTilde new → here ≢ new
   other_new new tilde same = not_kept (subst EndsInTilde (sym same) tilde)
 
@@ -443,6 +503,7 @@ module _ (stamp_of : ℕ → Stamp) (path name here : List ℕ) (file : ℕ) (of
   at_names (Renames other new) at steps s = absurd at
   at_names (Overwrites opened other) at steps s = absurd at
 
+module _ (stamp_of : ℕ → Stamp) (path name here : List ℕ) (file : ℕ) (off_path : here ≢ path) (off_name : here ≢ name) (not_kept : EndsInTilde here → ⊥) where
   put_names : (step : FolderStep) → IsStepOf path name step → IsCarried (StandsAfter stamp_of here file) step
   put_names (Looks other seen) of steps s = absurd of
   put_names (Follows other None) of steps s = absurd of
@@ -459,27 +520,163 @@ module _ (stamp_of : ℕ → Stamp) (path name here : List ℕ) (file : ℕ) (of
   put_names (EndsInNewline opened size newline) of steps s = absurd of
   put_names (Adds opened bytes) of steps s = s
   put_names (Empties opened) of steps s = s
-  put_names (SetsMode opened mode) of steps s = s
-  put_names (GivesTo opened owner) of steps s = s
+  put_names (SetsMode opened mode) of steps s = absurd of
+  put_names (GivesTo opened owner) of steps s = absurd of
   put_names (Dates opened log later) of steps s = absurd of
   put_names (Syncs opened) of steps s = absurd of
   put_names (SyncsFolder other) of steps s = s
   put_names (ReadsAll opened bytes) of steps s = absurd of
   put_names (Reads other bytes) of steps s = absurd of
   put_names (Links other new) (inl of) steps s = s.1 (λ same. off_name (same ∙ of.1))
-  put_names (Links other new) (inr of) steps s = s.1 (other_new new of.1)
+  put_names (Links other new) (inr of) steps s = s.1 (other_new stamp_of path here file off_path not_kept new of.1)
   put_names (Makes new bytes) of steps s = absurd of
   put_names (Removes other) of steps s = absurd of
   put_names (Renames other new) of steps s = (s.1 (λ same. off_name (same ∙ of.1))).1
   put_names (Overwrites opened other) of steps s = s.1 (λ same. off_name (same ∙ of))
 
-  step_names : (step : FolderStep) → IsQuietStep step ⊎ IsStepAt path step ⊎ IsStepOf path name step → IsCarried (StandsAfter stamp_of here file) step
+  step_names : (step : FolderStep) → IsQuietStep step ⊎ IsStepAt path step ⊎ IsRightsStep step ⊎ IsStepOf path name step → IsCarried (StandsAfter stamp_of here file) step
   step_names step (inl quiet) = quiet_names stamp_of here file step quiet
-  step_names step (inr (inl at)) = at_names step at
-  step_names step (inr (inr of)) = put_names step of
+  step_names step (inr (inl at)) = at_names stamp_of path here file off_path not_kept step at
+  step_names step (inr (inr (inl rights))) = rights_names stamp_of here file step rights
+  step_names step (inr (inr (inr of))) = put_names step of
 
   pub stood_elsewhere : (a b : History) → PutsOnlyAt path name a b → Stands stamp_of here file b → Stands stamp_of here file a
   stood_elsewhere a b puts stands = over_only _ (StandsAfter stamp_of here file) step_names a b puts stands
+
+-- ---- a log, while one that is to take its name waits
+
+at_still : (path : List ℕ) (step : FolderStep) → IsStepAt path step → IsStill (change_of step)
+at_still path (Looks other seen) at = absurd at
+at_still path (Follows other seen) at = absurd at
+at_still path (Resolves other target) at = absurd at
+at_still path (LooksAt opened look) at = absurd at
+at_still path (Opens opened other how) at = tt
+at_still path (Locks opened lock) at = absurd at
+at_still path (Ends opened size end) at = absurd at
+at_still path (EndsInNewline opened size newline) at = absurd at
+at_still path (Adds opened bytes) at = absurd at
+at_still path (Empties opened) at = absurd at
+at_still path (SetsMode opened mode) at = absurd at
+at_still path (GivesTo opened owner) at = absurd at
+at_still path (Dates opened log later) at = absurd at
+at_still path (Syncs opened) at = absurd at
+at_still path (SyncsFolder other) at = absurd at
+at_still path (ReadsAll opened bytes) at = tt
+at_still path (Reads other bytes) at = absurd at
+at_still path (Links other new) at = tt
+at_still path (Makes new bytes) at = tt
+at_still path (Removes other) at = tt
+at_still path (Renames other new) at = absurd at
+at_still path (Overwrites opened other) at = absurd at
+
+rights_still : (step : FolderStep) → IsRightsStep step → IsStill (change_of step)
+rights_still (Looks other seen) rights = absurd rights
+rights_still (Follows other seen) rights = absurd rights
+rights_still (Resolves other target) rights = absurd rights
+rights_still (LooksAt opened look) rights = absurd rights
+rights_still (Opens opened other how) rights = absurd rights
+rights_still (Locks opened lock) rights = absurd rights
+rights_still (Ends opened size end) rights = absurd rights
+rights_still (EndsInNewline opened size newline) rights = absurd rights
+rights_still (Adds opened bytes) rights = absurd rights
+rights_still (Empties opened) rights = absurd rights
+rights_still (SetsMode opened mode) rights = tt
+rights_still (GivesTo opened owner) rights = tt
+rights_still (Dates opened log later) rights = absurd rights
+rights_still (Syncs opened) rights = absurd rights
+rights_still (SyncsFolder other) rights = absurd rights
+rights_still (ReadsAll opened bytes) rights = absurd rights
+rights_still (Reads other bytes) rights = absurd rights
+rights_still (Links other new) rights = absurd rights
+rights_still (Makes new bytes) rights = absurd rights
+rights_still (Removes other) rights = absurd rights
+rights_still (Renames other new) rights = absurd rights
+rights_still (Overwrites opened other) rights = absurd rights
+
+module _ (stamp_of : ℕ → Stamp) (next : ℕ) (path name : List ℕ) (off_path : name ≢ path) (not_kept : EndsInTilde name → ⊥) (file : ℕ) where
+  waiting_names : (step : FolderStep) → IsWaitingStep next name step → IsCarried (StandsAfter stamp_of name file) step
+  waiting_names (Looks other seen) waiting steps s = absurd waiting
+  waiting_names (Follows other seen) waiting steps s = absurd waiting
+  waiting_names (Resolves other target) waiting steps s = absurd waiting
+  waiting_names (LooksAt opened look) waiting steps s = absurd waiting
+  waiting_names (Opens opened other how) waiting steps s = absurd waiting
+  waiting_names (Locks opened lock) waiting steps s = absurd waiting
+  waiting_names (Ends opened size end) waiting steps s = absurd waiting
+  waiting_names (EndsInNewline opened size newline) waiting steps s = absurd waiting
+  waiting_names (Adds opened bytes) waiting steps s = s
+  waiting_names (Empties opened) waiting steps s = s
+  waiting_names (SetsMode opened mode) waiting steps s = absurd waiting
+  waiting_names (GivesTo opened owner) waiting steps s = absurd waiting
+  waiting_names (Dates opened log later) waiting steps s = absurd waiting
+  waiting_names (Syncs opened) waiting steps s = absurd waiting
+  waiting_names (SyncsFolder other) waiting steps s = absurd waiting
+  waiting_names (ReadsAll opened bytes) waiting steps s = absurd waiting
+  waiting_names (Reads other bytes) waiting steps s = absurd waiting
+  waiting_names (Links other new) waiting steps s = s.1 (λ same. not_kept (subst EndsInTilde (sym same) waiting.1))
+  waiting_names (Makes new bytes) waiting steps s = absurd waiting
+  waiting_names (Removes other) waiting steps s = absurd waiting
+  waiting_names (Renames other new) waiting steps s = absurd waiting
+  waiting_names (Overwrites opened other) waiting steps s = absurd waiting
+
+  wait_names : (step : FolderStep) → IsQuietStep step ⊎ IsStepAt path step ⊎ IsRightsStep step ⊎ IsWaitingStep next name step → IsCarried (StandsAfter stamp_of name file) step
+  wait_names step (inl quiet) = quiet_names stamp_of name file step quiet
+  wait_names step (inr (inl at)) = at_names stamp_of path name file off_path not_kept step at
+  wait_names step (inr (inr (inl rights))) = rights_names stamp_of name file step rights
+  wait_names step (inr (inr (inr waiting))) = waiting_names step waiting
+
+  stood_waiting : (a b : History) → WaitsBeside next path name a b → Stands stamp_of name file b → Stands stamp_of name file a
+  stood_waiting a b waits stands = over_only _ (StandsAfter stamp_of name file) wait_names a b waits stands
+
+-- if it is another file
+module _ (next : ℕ) (path name : List ℕ) (file : ℕ) (other : file ≢ next) (found : List ℕ) where
+  not_written : (written : ℕ) (bytes was : List ℕ) (steps : List FolderStep) → written ≡ next → (written ≢ file → found ≡ was) → HasAfter file was steps → HasAfter file found steps
+  not_written written bytes was steps is same has = subst (λ l. HasAfter file l steps) (sym (same (λ e. other (sym e ∙ is)))) has
+
+  waiting_bytes : (step : FolderStep) → IsWaitingStep next name step → IsCarried (HasAfter file found) step
+  waiting_bytes (Looks other seen) waiting steps has = absurd waiting
+  waiting_bytes (Follows other seen) waiting steps has = absurd waiting
+  waiting_bytes (Resolves other target) waiting steps has = absurd waiting
+  waiting_bytes (LooksAt opened look) waiting steps has = absurd waiting
+  waiting_bytes (Opens opened other how) waiting steps has = absurd waiting
+  waiting_bytes (Locks opened lock) waiting steps has = absurd waiting
+  waiting_bytes (Ends opened size end) waiting steps has = absurd waiting
+  waiting_bytes (EndsInNewline opened size newline) waiting steps has = absurd waiting
+  waiting_bytes (Adds opened bytes) waiting steps (was, has, tells) = not_written opened bytes was steps waiting tells.1.1 has
+  waiting_bytes (Empties opened) waiting steps (was, has, tells) = not_written opened [] was steps waiting tells.1.1 has
+  waiting_bytes (SetsMode opened mode) waiting steps has = absurd waiting
+  waiting_bytes (GivesTo opened owner) waiting steps has = absurd waiting
+  waiting_bytes (Dates opened log later) waiting steps has = absurd waiting
+  waiting_bytes (Syncs opened) waiting steps has = absurd waiting
+  waiting_bytes (SyncsFolder other) waiting steps has = absurd waiting
+  waiting_bytes (ReadsAll opened bytes) waiting steps has = absurd waiting
+  waiting_bytes (Reads other bytes) waiting steps has = absurd waiting
+  waiting_bytes (Links other new) waiting steps has = has_over file found (Links other new) tt steps has
+  waiting_bytes (Makes new bytes) waiting steps has = absurd waiting
+  waiting_bytes (Removes other) waiting steps has = absurd waiting
+  waiting_bytes (Renames other new) waiting steps has = absurd waiting
+  waiting_bytes (Overwrites opened other) waiting steps has = absurd waiting
+
+  wait_bytes : (step : FolderStep) → IsQuietStep step ⊎ IsStepAt path step ⊎ IsRightsStep step ⊎ IsWaitingStep next name step → IsCarried (HasAfter file found) step
+  wait_bytes step (inl quiet) = has_over file found step (still step quiet)
+  wait_bytes step (inr (inl at)) = has_over file found step (at_still path step at)
+  wait_bytes step (inr (inr (inl rights))) = has_over file found step (rights_still step rights)
+  wait_bytes step (inr (inr (inr waiting))) = waiting_bytes step waiting
+
+  had_waiting : (a b : History) → WaitsBeside next path name a b → OfTold (HasAfter file found) b → OfTold (HasAfter file found) a
+  had_waiting a b waits has = over_only _ (HasAfter file found) wait_bytes a b waits has
+
+module _ (stamp_of : ℕ → Stamp) (apart : AreApart stamp_of) where
+  -- the log is the old one, or has all of the lines
+  pub left_holds : (next : ℕ) (old : Option ℕ) (path name text : List ℕ) (standing : Option Look) (lines found : List ℕ) (a b : History) → name ≢ path → (EndsInTilde path → ⊥) → (EndsInTilde name → ⊥)
+      → LeavesNext next old path name text standing lines a b → (Stands stamp_of name next a → ⊥) → Holds stamp_of name found b → Holds stamp_of name found a ⊎ (found ≡ lines)
+  left_holds next old path name text standing lines found a b off_path free not_kept (inl waits) not_next (file, stands, has) =
+      let stood = stood_waiting stamp_of next path name off_path not_kept file a b waits stands in
+      let other : file ≢ next = λ same. not_next (subst (λ f. Stands stamp_of name f a) same stood) in
+      inl (file, stood, had_waiting next path name file other found a b waits has)
+  left_holds next old path name text standing lines found a b off_path free not_kept (inr (n, begun, put, puts, quiet)) not_next (file, stands, has) =
+      let there = over_only IsQuietStep (StandsAfter stamp_of name file) (quiet_names stamp_of name file) put b quiet stands in
+      let whole = over_only IsQuietStep (HasAfter file found) (λ step q. has_over file found step (still step q)) put b quiet has in
+      inr (put_holds stamp_of apart old next path name text standing n lines found begun put free puts (file, there, whole))
 
 -- ---- names beside
 
@@ -500,3 +697,7 @@ next_log_is_not_kept name kept = no_kept name 46 (110 ∷ 101 ∷ 119 ∷ []) (�
 
 pub next_text_is_not_kept : (name : List ℕ) → EndsInTilde (name ++ codes ".ops.text") → ⊥
 next_text_is_not_kept name kept = no_kept name 46 (111 ∷ 112 ∷ 115 ∷ 46 ∷ 116 ∷ 101 ∷ 120 ∷ 116 ∷ []) (λ e. absurd omega (arith, e)) kept
+
+-- and has another name than what it is beside
+pub next_log_differs : (name : List ℕ) → name ≢ name ++ codes ".new"
+next_log_differs name same = let long = length-append name (codes ".new") in absurd omega (arith, long, ap length same)

@@ -1,13 +1,13 @@
 -- What a note asks of the folder that its files stand in.
-use Rattle.std.proofs.Common.{◌≡◌, inr, ℕ, false, List, Option, Some, None, Result, Ok, Err, IfOk, IfSome, OnOk, refl, ap, subst, sym, ◌∙◌}
+use Rattle.std.proofs.Common.{◌≡◌, inl, inr, ℕ, false, List, Option, Some, None, Result, Ok, Err, IfOk, IfSome, OnErr, OnOk, refl, ap, subst, sym, ◌∙◌}
 use Rattle.std.specs.Option.{option_map}
 use Rattle.std.specs.Prelude.{IsSomeAnd, is_some, string_bytes}
-use Rattle.mgr_port.specs.Disk.{steps_to, whole_steps}
+use Rattle.mgr_port.specs.Disk.{DiskStep, steps_to}
 use Rattle.mgr_port.specs.Folder.{History, Follows, IsQuiet, LooksAt, after}
 use Rattle.mgr_port.specs.Growth.{IsAdded}
 use Rattle.mgr_port.specs.Locks.{IsTaken, OpensLocked}
-use Rattle.mgr_port.specs.Notes.{IsLeftAt, LoadsLog, MakesLog, MakesRoom, MakesRoomIf, NamesLog, ReadsLog, TakesRights, old_for}
-use Rattle.mgr_port.specs.Spares.{ChangesOnlyAt}
+use Rattle.mgr_port.specs.Notes.{IsLeftAt, LeavesLog, LoadsLog, MakesLog, MakesRoom, MakesRoomIf, NamesLog, PutsLog, ReadsLog, TakesRights, old_for}
+use Rattle.mgr_port.specs.Spares.{ChangesOnlyAt, WaitsBeside}
 use Rattle.mgr_port.specs.Staging.{DoesAll, IsSettled}
 use Rattle.mgr_port.specs.Texts.{NamesText, PutsBeside, PutsInPlace, PutsText}
 use Rattle.mgr_port.specs.declared.log.LeftLog.{LeftLog}
@@ -17,6 +17,7 @@ use Rattle.mgr_port.specs.declared.staged.Named.{Named}
 use Rattle.mgr_port.specs.declared.staged.Named.TheVariants as named
 use Rattle.mgr_port.specs.declared.staged.Staged.{Staged}
 use Rattle.mgr_port.specs.declared.stamp.Stamp.{Stamp}
+use Rattle.mgr_port.proofs.PlaceLaws.{waits_chain, waits_quiet}
 
 -- the next log has its rights, and the name
 pub named_log : {E : Type 0} (r : Result Named E) (file : ℕ) (log : Option ℕ) (s : Staged) (path name text spelled : List ℕ) (standing : Option Look) (lines : List ℕ) (before righted now : History)
@@ -26,25 +27,51 @@ named_log (Err e) file log s path name text spelled standing lines before righte
 named_log (Ok n) file log s path name text spelled standing lines before righted now is rights is_path is_name is_later is_old does =
     (righted, s, subst (λ t. TakesRights file standing t before righted) is rights, is_path, is_name, is_later, is_old, does)
 
--- the log has its name, on the device
-pub made_log : {A E : Type 0} (r : Result A E) (n : Named) (was log : Option ℕ) (file : ℕ) (path spelled name text : List ℕ) (standing : Option Look) (lines : List ℕ) (left : LeftLog) (before roomy taken put looked now : History) (look : Look)
-    → OnOk r (IsSettled n) → spelled ≡ path → log ≡ was → MakesRoomIf was path before roomy → IsTaken file spelled roomy taken → ChangesOnlyAt spelled roomy taken → NamesLog file log path name text standing (steps_to n lines) taken put
-    → looked ≡ after (LooksAt file look) put → IsLeftAt file left look.stamp.length looked now → OnOk r (MakesLog was file path name text standing lines left before now)
-made_log (Err e) n was log file path spelled name text standing lines left before roomy taken put looked now look settled is known room took only named step leaves = tt
-made_log (Ok x) named.Settled was log file path spelled name text standing lines left before roomy taken put looked now look settled is known room took only named step (seen, at, one, two, same) = (
+-- the next log was held, and has the name
+pub put_log : (was log : Option ℕ) (file : ℕ) (path spelled name text : List ℕ) (standing : Option Look) (steps : List DiskStep) (before roomy taken put : History)
+    → spelled ≡ path → log ≡ was → MakesRoomIf was path before roomy → IsTaken file spelled roomy taken → ChangesOnlyAt spelled roomy taken → NamesLog file log path name text standing steps taken put
+    → PutsLog was file path name text standing steps before put
+put_log was log file path spelled name text standing steps before roomy taken put is known room took only named = (
   roomy,
   taken,
-  put,
-  look,
-  looked,
   room,
   subst (λ p. IsTaken file p roomy taken) is took,
   subst (λ p. ChangesOnlyAt p roomy taken) is only,
-  subst (λ l. NamesLog file l path name text standing (whole_steps lines) taken put) known named,
-  step,
-  (seen, at, one, two, same),
+  subst (λ l. NamesLog file l path name text standing steps taken put) known named,
 )
-made_log (Ok x) (named.Unsettled error) was log file path spelled name text standing lines left before roomy taken put looked now look settled is known room took only named step leaves = absurd settled
+
+-- and that is on the device
+pub made_log : {A E : Type 0} (r : Result A E) (n : Named) (was : Option ℕ) (file : ℕ) (path name text : List ℕ) (standing : Option Look) (lines : List ℕ) (left : LeftLog) (before put looked now : History) (look : Look)
+    → OnOk r (IsSettled n) → PutsLog was file path name text standing (steps_to n lines) before put → looked ≡ after (LooksAt file look) put → IsLeftAt file left look.stamp.length looked now
+    → OnOk r (MakesLog was file path name text standing lines left before now)
+made_log (Err e) n was file path name text standing lines left before put looked now look settled puts step leaves = tt
+made_log (Ok x) named.Settled was file path name text standing lines left before put looked now look settled puts step leaves = (put, look, looked, puts, step, leaves)
+made_log (Ok x) (named.Unsettled error) was file path name text standing lines left before put looked now look settled puts step leaves = absurd settled
+
+-- or may not be
+pub left_log : {A E : Type 0} (r : Result A E) (n : Named) (was : Option ℕ) (file : ℕ) (path name text : List ℕ) (standing : Option Look) (lines : List ℕ) (before put now : History)
+    → PutsLog was file path name text standing (steps_to n lines) before put → IsQuiet put now → OnErr r (LeavesLog was path name text standing lines before now)
+left_log (Ok x) n was file path name text standing lines before put now puts quiet = tt
+left_log (Err e) n was file path name text standing lines before put now puts quiet = (file, inr (n, before, put, puts, quiet))
+
+-- it waited when that was tried
+pub left_early : {A E : Type 0} (r : Result A E) (was : Option ℕ) (file : ℕ) (path name text : List ℕ) (standing : Option Look) (lines : List ℕ) (before now : History)
+    → WaitsBeside file path name before now → OnErr r (LeavesLog was path name text standing lines before now)
+left_early (Ok x) was file path name text standing lines before now waits = tt
+left_early (Err e) was file path name text standing lines before now waits = (file, inl waits)
+
+-- the same after a look
+pub left_after_look : {A E : Type 0} (r : Result A E) (was known : Option ℕ) (path name text : List ℕ) (standing : Option Look) (lines : List ℕ) (before looked now : History) → was ≡ known
+    → IsQuiet before looked → OnErr r (LeavesLog was path name text standing lines looked now) → OnErr r (LeavesLog known path name text standing lines before now)
+left_after_look (Ok x) was known path name text standing lines before looked now is quiet leaves = tt
+left_after_look (Err e) was known path name text standing lines before looked now is quiet (file, inl waits) =
+    (file, inl (waits_chain file path name before looked now (waits_quiet file path name before looked quiet) waits))
+left_after_look (Err e) was known path name text standing lines before looked now is quiet (file, inr (n, begun, put, puts, last)) =
+    (file, inr (n, begun, put, subst (λ l. PutsLog l file path name text standing (steps_to n lines) begun put) is puts, last))
+
+pub left_of_what_stands : {A E : Type 0} (r : Result A E) (P : Option Look → Type 0) (standing : Option Look) → OnErr r (P standing) → OnErr r ((found : Option Look) × P found)
+left_of_what_stands (Ok x) P standing leaves = tt
+left_of_what_stands (Err e) P standing leaves = (standing, leaves)
 
 -- the log that is open has made room
 pub room_made : {A B E : Type 0} (r : Result A E) (o : Option B) (log : B) (file_of : B → ℕ) (path spelled : List ℕ) (a b : History) → o ≡ Some log → spelled ≡ path

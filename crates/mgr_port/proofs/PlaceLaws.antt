@@ -1,11 +1,11 @@
 -- Steps that change something at one path alone, one after another.
-use Rattle.std.proofs.Common.{◌≡◌, ◌⊎◌, inl, inr, ℕ, Bool, true, false, List, [], ◌∷◌, Option, Some, None, Result, Ok, Err, IfOk, OnErr, OnOk, ◌++◌, refl, subst}
-use Rattle.mgr_port.specs.Disk.{DiskStep}
+use Rattle.std.proofs.Common.{◌≡◌, ◌⊎◌, inl, inr, ℕ, Bool, true, false, List, [], ◌∷◌, Option, Some, None, Result, Ok, Err, IfOk, OnErr, OnOk, ◌++◌, refl, sym, subst}
+use Rattle.mgr_port.specs.Disk.{DiskStep, BeginsSteps, unnamed_steps}
 use Rattle.mgr_port.specs.Disk as disk
 use Rattle.mgr_port.specs.Folder.{History, FolderStep, Adds, Dates, Empties, Follows, GivesTo, Links, Looks, LooksAt, Makes, Reads, Removes, Renames, Syncs, SyncsFolder, AreAll, IsIdle, IsQuiet, IsQuietStep, Only, Steps, Writes, after}
 use Rattle.mgr_port.specs.Growth.{AddsFront, IsAdded}
 use Rattle.mgr_port.specs.Notes.{Leaves, MayRemoveIf}
-use Rattle.mgr_port.specs.Spares.{ChangesOnlyAt, GivesFreeName, IsKept, IsOfFile, IsOneOfMore, IsShown, IsStepAt, IsStepOf, MayRemove, PutsOnlyAt, SparesText}
+use Rattle.mgr_port.specs.Spares.{ChangesOnlyAt, GivesFreeName, IsKept, IsOfFile, IsOneOfMore, IsRightsStep, IsShown, IsStepAt, IsStepOf, IsWaitingStep, MayRemove, PutsOnlyAt, SetsRights, SparesText, WaitsBeside}
 use Rattle.mgr_port.specs.Staging.{Does, DoesAll, KeepsOld, StopsBefore, SyncsDated, TakesOld}
 use Rattle.mgr_port.specs.Texts.{TakesOwner}
 use Rattle.mgr_port.specs.declared.spare.Owner.{Owner}
@@ -85,12 +85,33 @@ at_removal_if P (Some file) path a b may = at_removal P file path a b may
 pub at_leaving : (next log : Option ℕ) (path : List ℕ) (a b : History) → Leaves next log path a b → ChangesOnlyAt path a b
 at_leaving next log path a b (gone, one, two) = at_chain path a gone b (at_removal_if IsOfFile next path a gone one) (at_removal_if IsOneOfMore log path gone b two)
 
+-- ---- rights
+
+pub rights_none : (a b : History) → b ≡ a → SetsRights a b
+rights_none a b is = only_none a b is
+
+pub rights_look : (a b c : History) (step : FolderStep) → SetsRights a b → c ≡ after step b → IsQuietStep step → SetsRights a c
+rights_look a b c step before is quiet = only_more a b c step before is (inl quiet)
+
+pub rights_chain : (a b c : History) → SetsRights a b → SetsRights b c → SetsRights a c
+rights_chain a b c one two = only_chain a b c one two
+
+pub rights_may : {A E : Type 0} (r : Result A E) (a b c : History) (step : A → FolderStep) → SetsRights a b → Steps r step b c → ((x : A) → IsRightsStep (step x)) → SetsRights a c
+rights_may (Ok x) a b c step before is set = only_more a b c (step x) before is (inr (set x))
+rights_may (Err e) a b c step before is set = rights_chain a b c before (rights_none b c is)
+
+pub rights_owner : (file : ℕ) (owner : Owner) (is_owned : Bool) (a b : History) → TakesOwner file owner a b is_owned → SetsRights a b
+rights_owner file owner true a b (look, looked, one, inl (same, is)) = rights_chain a looked b (rights_look a a looked (LooksAt file look) (rights_none a a refl) one tt) (rights_none looked b is)
+rights_owner file owner true a b (look, looked, one, inr is) =
+    only_more a looked b (GivesTo file owner) (rights_look a a looked (LooksAt file look) (rights_none a a refl) one tt) is (inr tt)
+rights_owner file owner false a b (look, other, is) = rights_look a a b (LooksAt file look) (rights_none a a refl) is tt
+
 -- ---- what changes at a path, and at the name that its file is to take
 
 module _ (path name : List ℕ) where
   -- the same at the path alone
   abbrev IsPut : FolderStep → Type 0
-  IsPut step = IsQuietStep step ⊎ IsStepAt path step ⊎ IsStepOf path name step
+  IsPut step = IsQuietStep step ⊎ IsStepAt path step ⊎ IsRightsStep step ⊎ IsStepOf path name step
 
   put_step : (step : FolderStep) → IsQuietStep step ⊎ IsStepAt path step → IsPut step
   put_step step (inl quiet) = inl quiet
@@ -115,12 +136,22 @@ module _ (path name : List ℕ) where
   puts_look a b c step before is quiet = only_more a b c step before is (inl quiet)
 
   pub puts_step : (a b c : History) (step : FolderStep) → PutsOnlyAt path name a b → c ≡ after step b → IsStepOf path name step → PutsOnlyAt path name a c
-  puts_step a b c step before is of = only_more a b c step before is (inr (inr of))
+  puts_step a b c step before is of = only_more a b c step before is (inr (inr (inr of)))
+
+  put_rights : (step : FolderStep) → IsQuietStep step ⊎ IsRightsStep step → IsPut step
+  put_rights step (inl quiet) = inl quiet
+  put_rights step (inr rights) = inr (inr (inl rights))
+
+  pub puts_rights : (a b : History) → SetsRights a b → PutsOnlyAt path name a b
+  puts_rights a b rights = only_of a b put_rights rights
 
   -- it was done, or failed
   pub puts_may : {A E : Type 0} (r : Result A E) (a b c : History) (step : A → FolderStep) → PutsOnlyAt path name a b → Steps r step b c → ((x : A) → IsPut (step x)) → PutsOnlyAt path name a c
   puts_may (Ok x) a b c step before is put = only_more a b c (step x) before is (put x)
   puts_may (Err e) a b c step before is put = puts_chain a b c before (puts_none b c is)
+
+  pub puts_right : (a b c : History) (step : FolderStep) → PutsOnlyAt path name a b → c ≡ after step b → IsRightsStep step → PutsOnlyAt path name a c
+  puts_right a b c step before is rights = only_more a b c step before is (inr (inr (inl rights)))
 
   -- a beginning of bytes may have been written
   pub puts_begun : (file : ℕ) (bytes : List ℕ) (a b c : History) → PutsOnlyAt path name a b
@@ -146,9 +177,7 @@ module _ (path name : List ℕ) where
   puts_one a b step is of = puts_step a a b step (puts_none a a refl) is of
 
   pub puts_owner : (file : ℕ) (owner : Owner) (is_owned : Bool) (a b : History) → TakesOwner file owner a b is_owned → PutsOnlyAt path name a b
-  puts_owner file owner true a b (look, looked, one, inl (same, is)) = puts_chain a looked b (puts_look a a looked (LooksAt file look) (puts_none a a refl) one tt) (puts_none looked b is)
-  puts_owner file owner true a b (look, looked, one, inr is) = puts_step a looked b (GivesTo file owner) (puts_look a a looked (LooksAt file look) (puts_none a a refl) one tt) is tt
-  puts_owner file owner false a b (look, other, is) = puts_look a a b (LooksAt file look) (puts_none a a refl) is tt
+  puts_owner file owner is_owned a b takes = puts_rights a b (rights_owner file owner is_owned a b takes)
 
   -- what stands under the name is kept, or nothing is lost of it
   puts_kept : (why : Reason) (a b : History) → IsKept why name a b → PutsOnlyAt path name a b
@@ -223,3 +252,110 @@ module _ (file : ℕ) (log : Option ℕ) (s : Staged) where
 
 pub puts_paths : (path beside name spelled : List ℕ) (a b : History) → path ≡ beside → name ≡ spelled → PutsOnlyAt path name a b → PutsOnlyAt beside spelled a b
 puts_paths path beside name spelled a b is named puts = subst (λ n. PutsOnlyAt beside n a b) named (subst (λ p. PutsOnlyAt p name a b) is puts)
+
+-- ---- a file that is still to take its name
+
+module _ (file : ℕ) (path name : List ℕ) where
+  wait_at : (step : FolderStep) → IsQuietStep step ⊎ IsStepAt path step → IsQuietStep step ⊎ IsStepAt path step ⊎ IsRightsStep step ⊎ IsWaitingStep file name step
+  wait_at step (inl quiet) = inl quiet
+  wait_at step (inr at) = inr (inl at)
+
+  wait_rights : (step : FolderStep) → IsQuietStep step ⊎ IsRightsStep step → IsQuietStep step ⊎ IsStepAt path step ⊎ IsRightsStep step ⊎ IsWaitingStep file name step
+  wait_rights step (inl quiet) = inl quiet
+  wait_rights step (inr rights) = inr (inr (inl rights))
+
+  pub waits_at : (a b : History) → ChangesOnlyAt path a b → WaitsBeside file path name a b
+  waits_at a b only = only_of a b wait_at only
+
+  pub waits_rights : (a b : History) → SetsRights a b → WaitsBeside file path name a b
+  waits_rights a b rights = only_of a b wait_rights rights
+
+  pub waits_quiet : (a b : History) → IsQuiet a b → WaitsBeside file path name a b
+  waits_quiet a b quiet = only_of a b (λ step is. inl is) quiet
+
+  pub waits_none : (a b : History) → b ≡ a → WaitsBeside file path name a b
+  waits_none a b is = only_none a b is
+
+  pub waits_chain : (a b c : History) → WaitsBeside file path name a b → WaitsBeside file path name b c → WaitsBeside file path name a c
+  waits_chain a b c one two = only_chain a b c one two
+
+  pub waits_look : (a b c : History) (step : FolderStep) → WaitsBeside file path name a b → c ≡ after step b → IsQuietStep step → WaitsBeside file path name a c
+  waits_look a b c step before is quiet = only_more a b c step before is (inl quiet)
+
+  waits_one : (a b : History) (step : FolderStep) → b ≡ after step a → IsWaitingStep file name step → WaitsBeside file path name a b
+  waits_one a b step is waiting = only_more a a b step (waits_none a a refl) is (inr (inr (inr waiting)))
+
+  waits_kept : (why : Reason) (a b : History) → IsKept why name a b → WaitsBeside file path name a b
+  waits_kept reason.Linked a b (kept, seen, tilde, idle, is) =
+      only_more a seen b (Links name kept) (only_of a seen (λ step i. inl (idle_is_quiet step i)) idle) is (inr (inr (inr (refl, tilde))))
+  waits_kept reason.Copied a b (kept, bytes, seen, read, tilde, idle, was, is) =
+      only_more a read b (Makes kept bytes) (waits_look a seen read (Reads name bytes) (only_of a seen (λ step i. inl (idle_is_quiet step i)) idle) was tt) is (inr (inl tilde))
+  waits_kept reason.Nothing a b kept = absurd kept
+  waits_kept reason.Known a b kept = absurd kept
+  waits_kept reason.Same a b kept = absurd kept
+  waits_kept reason.Open a b kept = absurd kept
+
+  waits_shown : (why : Reason) (own : Option Stamp) (bytes : List ℕ) (a b : History) → IsShown why name own bytes a b → WaitsBeside file path name a b
+  waits_shown reason.Nothing own bytes a b is = waits_look a a b (Follows name None) (waits_none a a refl) is tt
+  waits_shown reason.Known own bytes a b (look, known, is) = waits_look a a b (Follows name (Some look)) (waits_none a a refl) is tt
+  waits_shown reason.Same own bytes a b (look, followed, one, two) =
+      waits_look a followed b (Reads name bytes) (waits_look a a followed (Follows name (Some look)) (waits_none a a refl) one tt) two tt
+  waits_shown reason.Linked own bytes a b shown = absurd shown
+  waits_shown reason.Copied own bytes a b shown = absurd shown
+  waits_shown reason.Open own bytes a b shown = absurd shown
+
+  waits_old : (log : Option ℕ) (o : Old) (a b : History) → KeepsOld log o name a b → WaitsBeside file path name a b
+  waits_old log old.Nothing a b is = waits_none a b is
+  waits_old log old.Log a b (why, kept) = waits_kept why a b kept
+  waits_old log (old.Text own bytes) a b (why, inl shown) = waits_shown why own bytes.now a b shown
+  waits_old log (old.Text own bytes) a b (why, inr kept) = waits_kept why a b kept
+  waits_old log (old.Read size) a b (why, checked, (other, found, opened, followed, known, one, two, same, long), kept) =
+      waits_chain a checked b (waits_look a followed checked (LooksAt other opened) (waits_look a a followed (Follows name (Some found)) (waits_none a a refl) one tt) two tt) (waits_kept why checked b kept)
+
+  waits_synced : (log later : Option ℕ) (a b : History) → SyncsDated file log later a b → WaitsBeside file path name a b
+  waits_synced log None a b (dated, may, is) = waits_look a dated b (Syncs file) (waits_none a dated may) is tt
+  waits_synced log (Some later) a b (dated, inl may, is) = waits_look a dated b (Syncs file) (waits_none a dated may) is tt
+  waits_synced log (Some later) a b (dated, inr (of, known, date), is) =
+      waits_look a dated b (Syncs file) (waits_look a a dated (Dates file of later) (waits_none a a refl) date tt) is tt
+
+-- steps before the name is taken
+abbrev IsUnnamed : DiskStep → Type 0
+IsUnnamed disk.TakesName = ⊥
+IsUnnamed disk.SyncsFolder = ⊥
+IsUnnamed other = Unit {0}
+
+abbrev AreUnnamed : List DiskStep → Type 0
+AreUnnamed [] = Unit {0}
+AreUnnamed (step ∷ steps) = IsUnnamed step × AreUnnamed steps
+
+begun_unnamed : (wanted made : List DiskStep) → AreUnnamed wanted → BeginsSteps made wanted → AreUnnamed made
+begun_unnamed [] made all is = subst AreUnnamed (sym is) tt
+begun_unnamed (step ∷ wanted) made all (inl is) = subst AreUnnamed (sym is) tt
+begun_unnamed (step ∷ wanted) made all (inr (inl (part, more, same, is))) = subst AreUnnamed (sym is) (tt, tt)
+begun_unnamed (step ∷ wanted) made (one, all) (inr (inr (others, is, begins))) = subst AreUnnamed (sym is) (one, begun_unnamed wanted others all begins)
+
+module _ (file : ℕ) (log : Option ℕ) (s : Staged) where
+  waits_does : (step : DiskStep) (a b : History) → IsUnnamed step → Does file log s step a b → WaitsBeside file s.path.now s.name.now a b
+  waits_does disk.Empties a b is does = waits_one file s.path.now s.name.now a b (Empties file) does refl
+  waits_does (disk.Writes bytes) a b is does = waits_one file s.path.now s.name.now a b (Adds file bytes) does refl
+  waits_does disk.Syncs a b is does = waits_synced file s.path.now s.name.now log s.later a b does
+  waits_does disk.Keeps a b is does = waits_old file s.path.now s.name.now log s.old a b does
+  waits_does disk.TakesName a b is does = absurd is
+  waits_does disk.SyncsFolder a b is does = absurd is
+  waits_does disk.Removes a b is does = waits_at file s.path.now s.name.now a b (at_removal IsOfFile file s.path.now a b does)
+
+  waits_all : (made : List DiskStep) (a b : History) → AreUnnamed made → DoesAll file log s made a b → WaitsBeside file s.path.now s.name.now a b
+  waits_all [] a b all is = waits_none file s.path.now s.name.now a b is
+  waits_all (step ∷ []) a b (one, all) does = waits_does step a b one does
+  waits_all (step ∷ next ∷ later) a b (one, all) (done, does, rest) =
+      waits_chain file s.path.now s.name.now a done b (waits_does step a done one does) (waits_all (next ∷ later) done b all rest)
+
+  -- its rights were set, and then it was put in part
+  pub waits_stopped : {A E : Type 0} (r : Result A E) (path name bytes : List ℕ) (a b c : History) → s.path.now ≡ path → s.name.now ≡ name → SetsRights a b
+      → OnErr r (StopsBefore file log s (unnamed_steps bytes) b c) → OnErr r (WaitsBeside file path name a c)
+  waits_stopped (Ok x) path name bytes a b c is named rights stops = tt
+  waits_stopped (Err e) path name bytes a b c is named rights t =
+      let all = begun_unnamed (unnamed_steps bytes) t.made (tt, (tt, (tt, (tt, tt)))) t.begins in
+      let put = waits_chain file s.path.now s.name.now b t.done c (waits_all t.made b t.done all t.does) (only_of t.done c (λ step i. inl (idle_is_quiet step i)) t.idle) in
+      waits_chain file path name a b c (waits_rights file path name a b rights)
+      (subst (λ n. WaitsBeside file path n b c) named (subst (λ p. WaitsBeside file p s.name.now b c) is put))

@@ -1,14 +1,15 @@
 -- What a note asks of the folder that its files stand in.
 use Rattle.std.specs.Prelude.{◌≡◌, ◌⊎◌, ℕ, List, Option, Some, None, length}
-use Rattle.mgr_port.specs.Disk.{DiskStep, whole_steps}
+use Rattle.mgr_port.specs.Disk.{DiskStep, steps_to, whole_steps}
 use Rattle.mgr_port.specs.Folder.{History, Ends, Follows, IsQuiet, LooksAt, ReadsAll, SetsMode, after}
 use Rattle.mgr_port.specs.Locks.{HoldsNext, IsTaken, OpensLocked, StandsFor, StandsForAnother}
-use Rattle.mgr_port.specs.Spares.{ChangesOnlyAt, IsOfFile, IsOneOfMore, MakesWay, MayRemove, RemovesIf}
+use Rattle.mgr_port.specs.Spares.{ChangesOnlyAt, IsOfFile, IsOneOfMore, MakesWay, MayRemove, RemovesIf, WaitsBeside}
 use Rattle.mgr_port.specs.Staging.{DoesAll}
 use Rattle.mgr_port.specs.Texts.{TakesMode}
 use Rattle.mgr_port.specs.declared.log.LeftLog.{LeftLog}
 use Rattle.mgr_port.specs.declared.note.Note.{Note}
 use Rattle.mgr_port.specs.declared.spare.Look.{Look}
+use Rattle.mgr_port.specs.declared.staged.Named.{Named}
 use Rattle.mgr_port.specs.declared.staged.Old.{Old}
 use Rattle.mgr_port.specs.declared.staged.Old.TheVariants as old
 use Rattle.mgr_port.specs.declared.staged.Staged.{Staged}
@@ -81,9 +82,23 @@ NamesLog file log path name text standing steps before now =
     (righted : History) × (s : Staged) × TakesRights file standing text before righted
     × (s.path.now ≡ path) × (s.name.now ≡ name) × (s.later ≡ None) × (s.old ≡ old_for standing) × DoesAll file log s steps righted now
 
--- the next log is held, gets all of its bytes, and then the name, which is on the device; and it is left so
+-- the next log is held, and named by these steps
+abbrev pub PutsLog : Option ℕ → ℕ → List ℕ → List ℕ → List ℕ → Option Look → List DiskStep → History → History → Type 0
+PutsLog old file path name text standing steps before put =
+    (roomy : History) × (taken : History) × MakesRoomIf old path before roomy × IsTaken file path roomy taken × ChangesOnlyAt path roomy taken
+    × NamesLog file old path name text standing steps taken put
+
+-- it gets all of its bytes, and then the name, which is on the device; and it is left so
 abbrev pub MakesLog : Option ℕ → ℕ → List ℕ → List ℕ → List ℕ → Option Look → List ℕ → LeftLog → History → History → Type 0
 MakesLog old file path name text standing lines left before now =
-    (roomy : History) × (taken : History) × (put : History) × (look : Look) × (looked : History)
-    × MakesRoomIf old path before roomy × IsTaken file path roomy taken × ChangesOnlyAt path roomy taken × NamesLog file old path name text standing (whole_steps lines) taken put
+    (put : History) × (look : Look) × (looked : History) × PutsLog old file path name text standing (whole_steps lines) before put
     × (looked ≡ after (LooksAt file look) put) × IsLeftAt file left look.stamp.length looked now
+
+-- It did not get the name; or it did, with all of its bytes, and that may not be on the device.
+abbrev pub LeavesNext : ℕ → Option ℕ → List ℕ → List ℕ → List ℕ → Option Look → List ℕ → History → History → Type 0
+LeavesNext file old path name text standing lines before now =
+    WaitsBeside file path name before now
+    ⊎ ((named : Named) × (begun : History) × (put : History) × PutsLog old file path name text standing (steps_to named lines) begun put × IsQuiet put now)
+
+abbrev pub LeavesLog : Option ℕ → List ℕ → List ℕ → List ℕ → Option Look → List ℕ → History → History → Type 0
+LeavesLog old path name text standing lines before now = (file : ℕ) × LeavesNext file old path name text standing lines before now

@@ -134,14 +134,21 @@ ChangesOnlyAt path old now = Only (λ step. IsQuietStep step ⊎ IsStepAt path s
 
 -- ---- what changes at a path, and at the name that its file is to take
 
--- A file is made at the path, gets bytes and rights, and takes the name; or the file of the name is written over. What stands
+abbrev pub IsRightsStep : FolderStep → Type 0
+IsRightsStep (SetsMode file mode) = Unit {0}
+IsRightsStep (GivesTo file owner) = Unit {0}
+IsRightsStep other = ⊥
+
+-- a file gets rights, and nothing else changes
+abbrev pub SetsRights : History → History → Type 0
+SetsRights old now = Only (λ step. IsQuietStep step ⊎ IsRightsStep step) old now
+
+-- A file is made at the path, gets bytes, and takes the name; or the file of the name is written over. What stands
 -- there gets another name before.
 abbrev pub IsStepOf : List ℕ → List ℕ → FolderStep → Type 0
 IsStepOf path name (Opens file other (opening.New mode)) = other ≡ path
 IsStepOf path name (Adds file bytes) = Unit {0}
 IsStepOf path name (Empties file) = Unit {0}
-IsStepOf path name (SetsMode file mode) = Unit {0}
-IsStepOf path name (GivesTo file owner) = Unit {0}
 IsStepOf path name (SyncsFolder other) = Unit {0}
 IsStepOf path name (Links other new) = ((other ≡ path) × (new ≡ name)) ⊎ ((other ≡ name) × EndsInTilde new)
 IsStepOf path name (Renames other new) = (other ≡ path) × (new ≡ name)
@@ -149,7 +156,7 @@ IsStepOf path name (Overwrites file other) = other ≡ name
 IsStepOf path name other = ⊥
 
 abbrev pub PutsOnlyAt : List ℕ → List ℕ → History → History → Type 0
-PutsOnlyAt path name old now = Only (λ step. IsQuietStep step ⊎ IsStepAt path step ⊎ IsStepOf path name step) old now
+PutsOnlyAt path name old now = Only (λ step. IsQuietStep step ⊎ IsStepAt path step ⊎ IsRightsStep step ⊎ IsStepOf path name step) old now
 
 -- the same at the paths of a log or of a text; at this path, whatever name its file is to take; and at none
 abbrev pub PutsLogOnly : Paths → History → History → Type 0
@@ -163,3 +170,16 @@ PutsOnlyBeside path old now = (name : List ℕ) → PutsOnlyAt path name old now
 
 abbrev pub ChangesNoName : History → History → Type 0
 ChangesNoName old now = (path : List ℕ) → PutsOnlyBeside path old now
+
+-- ---- a file that is still to take its name
+
+-- This file gets bytes. What stands under the name gets another one.
+abbrev pub IsWaitingStep : ℕ → List ℕ → FolderStep → Type 0
+IsWaitingStep file name (Adds other bytes) = other ≡ file
+IsWaitingStep file name (Empties other) = other ≡ file
+IsWaitingStep file name (Links other new) = (other ≡ name) × EndsInTilde new
+IsWaitingStep file name other = ⊥
+
+-- A file of a path gets bytes and rights, and nothing takes the name.
+abbrev pub WaitsBeside : ℕ → List ℕ → List ℕ → History → History → Type 0
+WaitsBeside file path name old now = Only (λ step. IsQuietStep step ⊎ IsStepAt path step ⊎ IsRightsStep step ⊎ IsWaitingStep file name step) old now

@@ -1,7 +1,7 @@
 //! What files are, and who may do what with them.
 ghost use Rattle.std.specs.Prelude.{◌≡◌, IfOk, OnErr, OnOk};
 ghost use Rattle.mgr_port.specs.Folder.{IsQuiet};
-ghost use Rattle.mgr_port.specs.Spares.{ChangesNoName};
+ghost use Rattle.mgr_port.specs.Spares.{SetsRights};
 ghost use Rattle.mgr_port.specs.Texts.{FollowsPlain, TakesMode, TakesOwner};
 ghost use Rattle.mgr_port.specs.Verdicts.{mode_like};
 
@@ -32,7 +32,7 @@ pub(crate) fn plain_if_there<F: Folder>(folder: &mut F, path: &str) -> io::Resul
 pub(crate) fn take_mode<F: Folder>(folder: &mut F, log: &F::File, like: Look) -> io::Result<()>
     ensures taken { OnOk result
         (TakesMode (F.file_of log.now) like (F.steps folder.old) (F.steps folder.new)) }
-    ensures only { ChangesNoName (F.steps folder.old) (F.steps folder.new) }
+    ensures only { SetsRights (F.steps folder.old) (F.steps folder.new) }
 {
     let is_owned = take_owner(folder, log, like.owner)?;
     folder.set_mode(log, mode_like(like.mode, is_owned))

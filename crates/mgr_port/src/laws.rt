@@ -12,7 +12,7 @@ ghost use Rattle.mgr_port.specs.Bytes.{HadFront, HasAfter, HasFrontOf, HasLines,
 ghost use Rattle.mgr_port.specs.Bytes.{MayHave, MayStand, OfTold};
 ghost use Rattle.mgr_port.specs.Growth.{AddsFront, IsAdded};
 ghost use Rattle.mgr_port.specs.Naming.{AreApart, Holds, Stands};
-ghost use Rattle.mgr_port.specs.Notes.{LoadsLog, MakesLog};
+ghost use Rattle.mgr_port.specs.Notes.{LeavesNext, LoadsLog, MakesLog};
 ghost use Rattle.mgr_port.specs.Spares.{EndsInTilde, IsNothing, PutsOnlyAt};
 ghost use Rattle.mgr_port.specs.Texts.{MakesNextText, PutsBeside, PutsText};
 ghost use Rattle.mgr_port.specs.Verdicts.{MayGrow};
@@ -133,6 +133,22 @@ pub fn calls_leave_what_a_port_is_held_to()
         → MakesLog before file (name ++ codes ".new") name beside standing lines left old now
         → Holds stamp_of name found now → Leaves Replace true lines
         (record { log = log; text = text }) (record { log = Some found; text = text }) }
+    ensures unmade { (stamp_of : ℕ → Stamp) (before : Option ℕ) (file : ℕ)
+        (name beside lines found : List ℕ) (text : Option (List ℕ)) (old now : History)
+        → AreApart stamp_of → (EndsInTilde name → ⊥)
+        → LeavesNext file before (name ++ codes ".new") name beside None lines old now
+        → ((other : ℕ) → Stands stamp_of name other old → ⊥)
+        → Holds stamp_of name found now → Leaves Append false lines
+        (record { log = None; text = text }) (record { log = Some found; text = text }) }
+    ensures unreplaced { (stamp_of : ℕ → Stamp) (before : Option ℕ) (file : ℕ)
+        (name beside lines bytes found : List ℕ) (standing : Option Look)
+        (text : Option (List ℕ)) (old now : History) → AreApart stamp_of
+        → (EndsInTilde name → ⊥)
+        → LeavesNext file before (name ++ codes ".new") name beside standing lines old now
+        → (Stands stamp_of name file old → ⊥)
+        → ((l : List ℕ) → Holds stamp_of name l old → l ≡ bytes)
+        → Holds stamp_of name found now → Leaves Replace false lines
+        (record { log = Some bytes; text = text }) (record { log = Some found; text = text }) }
     ensures put { (stamp_of : ℕ → Stamp) (dated held : Option ℕ) (name bytes found : List ℕ)
         (own now_own : Option Stamp) (log text : Option (List ℕ)) (old now : History)
         → AreApart stamp_of

@@ -5,9 +5,9 @@ ghost use Rattle.mgr_port.specs.Disk.{steps_to};
 ghost use Rattle.mgr_port.specs.Folder.{Follows, after};
 ghost use Rattle.mgr_port.specs.Growth.{AddsFront, IsAdded};
 ghost use Rattle.mgr_port.specs.Locks.{HoldsInItsPlace, HoldsNext, IsTaken, OpensLocked};
-ghost use Rattle.mgr_port.specs.Notes.{KeepsPlace, Leaves, LoadsLog, MakesLog, MakesRoomIf, MayRemoveIf, NamesLog};
+ghost use Rattle.mgr_port.specs.Notes.{KeepsPlace, Leaves, LeavesLog, LoadsLog, MakesLog, MakesRoomIf, MayRemoveIf, NamesLog};
 ghost use Rattle.mgr_port.specs.Notes.{ReadsLog, TakesRights, closed, old_for};
-ghost use Rattle.mgr_port.specs.Spares.{ChangesNoName, ChangesOnlyAt, IsOfFile, PutsLogOnly, PutsTextOnly};
+ghost use Rattle.mgr_port.specs.Spares.{ChangesOnlyAt, IsOfFile, PutsLogOnly, PutsTextOnly, SetsRights, WaitsBeside};
 ghost use Rattle.mgr_port.specs.Texts.{PutsText};
 ghost use Rattle.mgr_port.specs.declared.spare.Look.{Look};
 
@@ -137,6 +137,10 @@ impl<T: Drop> Note<T> {
             (string_bytes self.old.paths.log) (string_bytes self.old.paths.text) None
             lines.now log.left (after (Follows (string_bytes self.old.paths.log) None)
             (F.steps folder.old)) (F.steps folder.new))) }
+        ensures failed { self.old.log ≡ None → OnErr result (LeavesLog None
+            (string_bytes self.old.paths.next_log) (string_bytes self.old.paths.log)
+            (string_bytes self.old.paths.text) None
+            lines.now (F.steps folder.old) (F.steps folder.new)) }
         ensures only { PutsLogOnly self.old.paths (F.steps folder.old) (F.steps folder.new) }
     {
         let path = self.paths.log.as_str();
@@ -161,6 +165,11 @@ impl<T: Drop> Note<T> {
             (string_bytes self.old.paths.log) (string_bytes self.old.paths.text) standing
             lines.now log.left (after (Follows (string_bytes self.old.paths.log) standing)
             (F.steps folder.old)) (F.steps folder.new))) }
+        ensures failed { OnErr result ((standing : Option Look) × LeavesLog
+            (option_map (λ log. F.file_of log.file) self.old.log)
+            (string_bytes self.old.paths.next_log)
+            (string_bytes self.old.paths.log) (string_bytes self.old.paths.text) standing
+            lines.now (F.steps folder.old) (F.steps folder.new)) }
         ensures only { PutsLogOnly self.old.paths (F.steps folder.old) (F.steps folder.new) }
     {
         let standing = folder.follow(self.paths.log.as_str())?.found;
@@ -180,6 +189,11 @@ impl<T: Drop> Note<T> {
             (string_bytes self.old.paths.next_log)
             (string_bytes self.old.paths.log) (string_bytes self.old.paths.text) standing
             lines.now log.left (F.steps folder.old) (F.steps folder.new))) }
+        ensures failed { OnErr result (LeavesLog
+            (option_map (λ log. F.file_of log.file) self.old.log)
+            (string_bytes self.old.paths.next_log)
+            (string_bytes self.old.paths.log) (string_bytes self.old.paths.text) standing
+            lines.now (F.steps folder.old) (F.steps folder.new)) }
         ensures only { PutsLogOnly self.old.paths (F.steps folder.old) (F.steps folder.new) }
     {
         self.make_room(folder)?;
@@ -388,6 +402,9 @@ fn name_next<F: Folder>(
         (option_map (λ l. F.file_of l.now) log.entry) (string_bytes paths.now.next_log)
         (string_bytes paths.now.log) (string_bytes paths.now.text) standing
         (steps_to named lines.now) (F.steps folder.old) (F.steps folder.new)) }
+    ensures unnamed { OnErr result (WaitsBeside (F.file_of next.now)
+        (string_bytes paths.now.next_log) (string_bytes paths.now.log)
+        (F.steps folder.old) (F.steps folder.new)) }
     ensures only { PutsLogOnly paths.now (F.steps folder.old) (F.steps folder.new) }
 {
     take_rights(folder, next, standing, paths.text.as_str())?;
@@ -421,7 +438,7 @@ fn take_rights<F: Folder>(
     ensures taken { OnOk result
         (TakesRights (F.file_of log.now) standing text.now
         (F.steps folder.old) (F.steps folder.new)) }
-    ensures only { ChangesNoName (F.steps folder.old) (F.steps folder.new) }
+    ensures only { SetsRights (F.steps folder.old) (F.steps folder.new) }
 {
     if let Some(like) = standing {
         return take_mode(folder, log, like);

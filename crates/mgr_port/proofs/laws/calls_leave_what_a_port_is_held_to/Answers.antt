@@ -1,6 +1,6 @@
-use Rattle.std.proofs.Common.{Some, None}
+use Rattle.std.proofs.Common.{inl, inr, ℕ, List, Some, None, ap, refl}
 use Rattle.mgr_port.proofs.BytesLaws.{as_appended, as_begun, read_known}
-use Rattle.mgr_port.proofs.NamingLaws.{log_holds, log_known, next_log_is_not_kept, next_text_is_not_kept, text_holds}
+use Rattle.mgr_port.proofs.NamingLaws.{left_holds, log_holds, log_known, next_log_differs, next_log_is_not_kept, next_text_is_not_kept, text_holds}
 use Rattle.mgr_port.proofs.laws.calls_leave_what_a_port_is_held_to.Goals as goal
 
 pub returns-clause-read : goal.returns-clause-read
@@ -32,3 +32,21 @@ returns-clause-put c stamp_of file kept name bytes found own now_own log text ol
 
 pub returns-clause-known : goal.returns-clause-known
 returns-clause-known c before file path name beside lines standing left old now makes = log_known before file path name beside standing lines left old now makes
+
+pub returns-clause-unmade : goal.returns-clause-unmade
+returns-clause-unmade c stamp_of before file name beside lines found text old now apart not_kept leaves none holds = (
+  elim (left_holds stamp_of apart file before _ name beside None lines found old now (next_log_differs name) (next_log_is_not_kept name) not_kept leaves (none file) holds) [
+    | inl held ↦ absurd (none held.0 held.1)
+    | inr is ↦ inr (ap (λ (l : List ℕ). Some l) is)
+  ],
+  refl,
+)
+
+pub returns-clause-unreplaced : goal.returns-clause-unreplaced
+returns-clause-unreplaced c stamp_of before file name beside lines bytes found standing text old now apart not_kept leaves other had holds = (
+  elim (left_holds stamp_of apart file before _ name beside standing lines found old now (next_log_differs name) (next_log_is_not_kept name) not_kept leaves other holds) [
+    | inl held ↦ inl (ap (λ (l : List ℕ). Some l) (had found held))
+    | inr is ↦ inr (ap (λ (l : List ℕ). Some l) is)
+  ],
+  refl,
+)

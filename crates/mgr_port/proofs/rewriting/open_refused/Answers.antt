@@ -1,4 +1,4 @@
-use Rattle.mgr_port.proofs.PlaceLaws.{puts_at, puts_chain, puts_idle, puts_look, puts_none}
+use Rattle.mgr_port.proofs.PlaceLaws.{puts_at, puts_chain, puts_idle, puts_look, puts_none, puts_rights}
 use Rattle.mgr_port.proofs.RewritingLaws.{opened_new, opened_there}
 use Rattle.mgr_port.proofs.rewriting.open_refused.Goals as goal
 
@@ -20,8 +20,8 @@ returns-in_err-like-clause-only g c = λ name.
 
 pub returns-in_err-take_mode-clause-only : goal.returns-in_err-take_mode-clause-only
 returns-in_err-take_mode-clause-only g c = λ name.
-    puts_chain _ name _ _ _ (puts_look _ name _ _ _ _ (puts_chain _ name _ _ _ (puts_idle _ name _ _ c.in_ok-is_plain_there.ensures.idle) (puts_at _ name _ _ c.in_ok-refused.ensures.only)) c.in_ok-like.ensures.step tt) (c.in_err-take_mode.ensures.only _ name)
+    puts_chain _ name _ _ _ (puts_look _ name _ _ _ _ (puts_chain _ name _ _ _ (puts_idle _ name _ _ c.in_ok-is_plain_there.ensures.idle) (puts_at _ name _ _ c.in_ok-refused.ensures.only)) c.in_ok-like.ensures.step tt) (puts_rights _ name _ _ c.in_err-take_mode.ensures.only)
 
 pub returns-clause-only : goal.returns-clause-only
 returns-clause-only g c = λ name.
-    puts_chain _ name _ _ _ (puts_look _ name _ _ _ _ (puts_chain _ name _ _ _ (puts_idle _ name _ _ c.in_ok-is_plain_there.ensures.idle) (puts_at _ name _ _ c.in_ok-refused.ensures.only)) c.in_ok-like.ensures.step tt) (c.in_ok-take_mode.ensures.only _ name)
+    puts_chain _ name _ _ _ (puts_look _ name _ _ _ _ (puts_chain _ name _ _ _ (puts_idle _ name _ _ c.in_ok-is_plain_there.ensures.idle) (puts_at _ name _ _ c.in_ok-refused.ensures.only)) c.in_ok-like.ensures.step tt) (puts_rights _ name _ _ c.in_ok-take_mode.ensures.only)

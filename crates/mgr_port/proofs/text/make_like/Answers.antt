@@ -1,4 +1,4 @@
-use Rattle.mgr_port.proofs.PlaceLaws.{at_removal, puts_at, puts_chain, puts_none, puts_owner, puts_step}
+use Rattle.mgr_port.proofs.PlaceLaws.{at_removal, puts_at, puts_chain, puts_none, puts_owner, puts_right}
 use Rattle.mgr_port.proofs.text.make_like.Goals as goal
 
 pub returns-in_err-remove_open-clause-only : goal.returns-in_err-remove_open-clause-only
@@ -18,4 +18,4 @@ returns-in_err-set_mode-clause-only g c = λ name.
 
 pub returns-clause-only : goal.returns-clause-only
 returns-clause-only g c = λ name.
-    puts_step _ name _ _ _ _ (puts_chain _ name _ _ _ (c.make_beside.ensures.only name) (puts_owner _ name _ _ _ _ _ c.in_ok-take_owner.ensures.taken)) c.in_ok-set_mode.ensures.step tt
+    puts_right _ name _ _ _ _ (puts_chain _ name _ _ _ (c.make_beside.ensures.only name) (puts_owner _ name _ _ _ _ _ c.in_ok-take_owner.ensures.taken)) c.in_ok-set_mode.ensures.step tt

@@ -17,4 +17,4 @@ returns-in_err-sync-clause-only g c = λ name.
 pub returns-clause-only : goal.returns-clause-only
 returns-clause-only g c = λ name.
     let written = puts_step _ name _ _ _ _ (puts_chain _ name _ _ _ (c.in_ok-refused.ensures.only name) (c.in_ok-end_line.ensures.only _ name)) c.in_ok-write.ensures.step tt in
-    puts_may _ name _ _ _ _ _ (puts_look _ name _ _ _ _ written c.in_ok-sync.ensures.step tt) c.sync_folder.ensures.step (λ _. inr (inr tt))
+    puts_may _ name _ _ _ _ _ (puts_look _ name _ _ _ _ written c.in_ok-sync.ensures.step tt) c.sync_folder.ensures.step (λ _. inr (inr (inr tt)))

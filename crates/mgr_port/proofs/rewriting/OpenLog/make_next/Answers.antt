@@ -1,4 +1,4 @@
-use Rattle.mgr_port.proofs.PlaceLaws.{at_removal, puts_at, puts_chain, puts_look, puts_none}
+use Rattle.mgr_port.proofs.PlaceLaws.{at_removal, puts_at, puts_chain, puts_look, puts_none, puts_rights}
 use Rattle.mgr_port.proofs.rewriting.OpenLog.make_next.Goals as goal
 
 pub returns-in_err-next-clause-only : goal.returns-in_err-next-clause-only
@@ -12,9 +12,9 @@ returns-in_err-like-clause-only g c = λ name.
 pub returns-in_err-take_mode-clause-only : goal.returns-in_err-take_mode-clause-only
 returns-in_err-take_mode-clause-only g c = λ name.
     let taken = puts_chain _ name _ _ _ (puts_at _ name _ _ (at_removal _ _ _ _ _ c.remove_second_name.ensures.tried)) (puts_at _ name _ _ c.in_ok-next.ensures.only) in
-    puts_chain _ name _ _ _ (puts_look _ name _ _ _ _ taken c.in_ok-like.ensures.step tt) (c.in_err-take_mode.ensures.only _ name)
+    puts_chain _ name _ _ _ (puts_look _ name _ _ _ _ taken c.in_ok-like.ensures.step tt) (puts_rights _ name _ _ c.in_err-take_mode.ensures.only)
 
 pub returns-clause-only : goal.returns-clause-only
 returns-clause-only g c = λ name.
     let taken = puts_chain _ name _ _ _ (puts_at _ name _ _ (at_removal _ _ _ _ _ c.remove_second_name.ensures.tried)) (puts_at _ name _ _ c.in_ok-next.ensures.only) in
-    puts_chain _ name _ _ _ (puts_look _ name _ _ _ _ taken c.in_ok-like.ensures.step tt) (c.in_ok-take_mode.ensures.only _ name)
+    puts_chain _ name _ _ _ (puts_look _ name _ _ _ _ taken c.in_ok-like.ensures.step tt) (puts_rights _ name _ _ c.in_ok-take_mode.ensures.only)
