@@ -72,9 +72,6 @@ idle_look a b path found is = idle_one a b (Looks path found) is tt
 pub idle_follow : (a b : History) (path : List ℕ) (found : Option Look) → b ≡ after (Follows path found) a → IsIdle a b
 idle_follow a b path found is = idle_one a b (Follows path found) is tt
 
-pub idle_look_at : (a b : History) (file : ℕ) (look : Look) → b ≡ after (LooksAt file look) a → IsIdle a b
-idle_look_at a b file look is = idle_one a b (LooksAt file look) is tt
-
 pub idle_read : (a b : History) (path bytes : List ℕ) → b ≡ after (Reads path bytes) a → IsIdle a b
 idle_read a b path bytes is = idle_one a b (Reads path bytes) is tt
 

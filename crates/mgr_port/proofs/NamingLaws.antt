@@ -503,8 +503,8 @@ module _ (stamp_of : ℕ → Stamp) (path here : List ℕ) (file : ℕ) (off_pat
   at_names (Renames other new) at steps s = absurd at
   at_names (Overwrites opened other) at steps s = absurd at
 
-module _ (stamp_of : ℕ → Stamp) (path name here : List ℕ) (file : ℕ) (off_path : here ≢ path) (off_name : here ≢ name) (not_kept : EndsInTilde here → ⊥) where
-  put_names : (step : FolderStep) → IsStepOf path name step → IsCarried (StandsAfter stamp_of here file) step
+module _ (stamp_of : ℕ → Stamp) (next : ℕ) (path name here : List ℕ) (file : ℕ) (off_path : here ≢ path) (off_name : here ≢ name) (not_kept : EndsInTilde here → ⊥) where
+  put_names : (step : FolderStep) → IsStepOf next path name step → IsCarried (StandsAfter stamp_of here file) step
   put_names (Looks other seen) of steps s = absurd of
   put_names (Follows other None) of steps s = absurd of
   put_names (Follows other (Some look)) of steps s = absurd of
@@ -532,15 +532,15 @@ module _ (stamp_of : ℕ → Stamp) (path name here : List ℕ) (file : ℕ) (of
   put_names (Makes new bytes) of steps s = absurd of
   put_names (Removes other) of steps s = absurd of
   put_names (Renames other new) of steps s = (s.1 (λ same. off_name (same ∙ of.1))).1
-  put_names (Overwrites opened other) of steps s = s.1 (λ same. off_name (same ∙ of))
+  put_names (Overwrites opened other) of steps s = s.1 (λ same. off_name (same ∙ of.0))
 
-  step_names : (step : FolderStep) → IsQuietStep step ⊎ IsStepAt path step ⊎ IsRightsStep step ⊎ IsStepOf path name step → IsCarried (StandsAfter stamp_of here file) step
+  step_names : (step : FolderStep) → IsQuietStep step ⊎ IsStepAt path step ⊎ IsRightsStep step ⊎ IsStepOf next path name step → IsCarried (StandsAfter stamp_of here file) step
   step_names step (inl quiet) = quiet_names stamp_of here file step quiet
   step_names step (inr (inl at)) = at_names stamp_of path here file off_path not_kept step at
   step_names step (inr (inr (inl rights))) = rights_names stamp_of here file step rights
   step_names step (inr (inr (inr of))) = put_names step of
 
-  pub stood_elsewhere : (a b : History) → PutsOnlyAt path name a b → Stands stamp_of here file b → Stands stamp_of here file a
+  pub stood_elsewhere : (a b : History) → PutsOnlyAt next path name a b → Stands stamp_of here file b → Stands stamp_of here file a
   stood_elsewhere a b puts stands = over_only _ (StandsAfter stamp_of here file) step_names a b puts stands
 
 -- ---- a log, while one that is to take its name waits
@@ -677,6 +677,59 @@ module _ (stamp_of : ℕ → Stamp) (apart : AreApart stamp_of) where
       let there = over_only IsQuietStep (StandsAfter stamp_of name file) (quiet_names stamp_of name file) put b quiet stands in
       let whole = over_only IsQuietStep (HasAfter file found) (λ step q. has_over file found step (still step q)) put b quiet has in
       inr (put_holds stamp_of apart old next path name text standing n lines found begun put free puts (file, there, whole))
+
+-- ---- a log, while a text is put that may fail
+
+-- if another file is written
+module _ (next : ℕ) (path name : List ℕ) (file : ℕ) (other : file ≢ next) (found : List ℕ) where
+  put_bytes : (step : FolderStep) → IsStepOf next path name step → IsCarried (HasAfter file found) step
+  put_bytes (Looks there seen) of steps has = absurd of
+  put_bytes (Follows there seen) of steps has = absurd of
+  put_bytes (Resolves there target) of steps has = absurd of
+  put_bytes (LooksAt opened look) of steps has = absurd of
+  put_bytes (Opens opened there opening.Read) of steps has = absurd of
+  put_bytes (Opens opened there opening.Write) of steps has = absurd of
+  put_bytes (Opens opened there opening.Add) of steps has = absurd of
+  put_bytes (Opens opened there opening.Beside) of steps has = absurd of
+  put_bytes (Opens opened there (opening.New mode)) of steps has = has_over file found (Opens opened there (opening.New mode)) tt steps has
+  put_bytes (Locks opened lock) of steps has = absurd of
+  put_bytes (Ends opened size end) of steps has = absurd of
+  put_bytes (EndsInNewline opened size newline) of steps has = absurd of
+  put_bytes (Adds opened bytes) of steps (was, has, tells) = not_written next path name file other found opened bytes was steps of tells.1.1 has
+  put_bytes (Empties opened) of steps (was, has, tells) = not_written next path name file other found opened [] was steps of tells.1.1 has
+  put_bytes (SetsMode opened mode) of steps has = absurd of
+  put_bytes (GivesTo opened owner) of steps has = absurd of
+  put_bytes (Dates opened log later) of steps has = absurd of
+  put_bytes (Syncs opened) of steps has = absurd of
+  put_bytes (SyncsFolder there) of steps has = has_over file found (SyncsFolder there) tt steps has
+  put_bytes (ReadsAll opened bytes) of steps has = absurd of
+  put_bytes (Reads there bytes) of steps has = absurd of
+  put_bytes (Links there new) of steps has = has_over file found (Links there new) tt steps has
+  put_bytes (Makes new bytes) of steps has = absurd of
+  put_bytes (Removes there) of steps has = absurd of
+  put_bytes (Renames there new) of steps has = has_over file found (Renames there new) tt steps has
+  put_bytes (Overwrites opened there) of steps (was, has, tells) = not_written next path name file other found opened [] was steps of.1 tells.1.1 has
+
+  step_bytes : (step : FolderStep) → IsQuietStep step ⊎ IsStepAt path step ⊎ IsRightsStep step ⊎ IsStepOf next path name step → IsCarried (HasAfter file found) step
+  step_bytes step (inl quiet) = has_over file found step (still step quiet)
+  step_bytes step (inr (inl at)) = has_over file found step (at_still path step at)
+  step_bytes step (inr (inr (inl rights))) = has_over file found step (rights_still step rights)
+  step_bytes step (inr (inr (inr of))) = put_bytes step of
+
+  pub had_elsewhere : (a b : History) → PutsOnlyAt next path name a b → OfTold (HasAfter file found) b → OfTold (HasAfter file found) a
+  had_elsewhere a b puts has = over_only _ (HasAfter file found) step_bytes a b puts has
+
+module _ (stamp_of : ℕ → Stamp) (path name log : List ℕ) (off_path : log ≢ path) (off_name : log ≢ name) (not_kept : EndsInTilde log → ⊥) where
+  held_elsewhere : (next : ℕ) (found : List ℕ) (a b : History) → PutsOnlyAt next path name a b → (Stands stamp_of log next a → ⊥) → Holds stamp_of log found b → Holds stamp_of log found a
+  held_elsewhere next found a b puts not_next (file, stands, has) =
+      let stood = stood_elsewhere stamp_of next path name log file off_path off_name not_kept a b puts stands in
+      let other : file ≢ next = λ same. not_next (subst (λ f. Stands stamp_of log f a) same stood) in
+      (file, stood, had_elsewhere next path name file other found a b puts has)
+
+  -- of a text that is put in two ways
+  pub held_twice : (next over : ℕ) (found : List ℕ) (a b c : History) → PutsOnlyAt next path name a b → PutsOnlyAt over path name b c → (Stands stamp_of log next a → ⊥) → (Stands stamp_of log over b → ⊥)
+      → Holds stamp_of log found c → Holds stamp_of log found a
+  held_twice next over found a b c first second not_next not_over holds = held_elsewhere next found a b first not_next (held_elsewhere over found b c second not_over holds)
 
 -- ---- names beside
 

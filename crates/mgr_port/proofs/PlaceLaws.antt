@@ -108,79 +108,79 @@ rights_owner file owner false a b (look, other, is) = rights_look a a b (LooksAt
 
 -- ---- what changes at a path, and at the name that its file is to take
 
-module _ (path name : List ℕ) where
+module _ (file : ℕ) (path name : List ℕ) where
   -- the same at the path alone
   abbrev IsPut : FolderStep → Type 0
-  IsPut step = IsQuietStep step ⊎ IsStepAt path step ⊎ IsRightsStep step ⊎ IsStepOf path name step
+  IsPut step = IsQuietStep step ⊎ IsStepAt path step ⊎ IsRightsStep step ⊎ IsStepOf file path name step
 
   put_step : (step : FolderStep) → IsQuietStep step ⊎ IsStepAt path step → IsPut step
   put_step step (inl quiet) = inl quiet
   put_step step (inr at) = inr (inl at)
 
-  pub puts_at : (a b : History) → ChangesOnlyAt path a b → PutsOnlyAt path name a b
+  pub puts_at : (a b : History) → ChangesOnlyAt path a b → PutsOnlyAt file path name a b
   puts_at a b only = only_of a b put_step only
 
-  pub puts_idle : (a b : History) → IsIdle a b → PutsOnlyAt path name a b
+  pub puts_idle : (a b : History) → IsIdle a b → PutsOnlyAt file path name a b
   puts_idle a b idle = only_of a b (λ step is. inl (idle_is_quiet step is)) idle
 
-  pub puts_quiet : (a b : History) → IsQuiet a b → PutsOnlyAt path name a b
+  pub puts_quiet : (a b : History) → IsQuiet a b → PutsOnlyAt file path name a b
   puts_quiet a b quiet = only_of a b (λ step is. inl is) quiet
 
-  pub puts_none : (a b : History) → b ≡ a → PutsOnlyAt path name a b
+  pub puts_none : (a b : History) → b ≡ a → PutsOnlyAt file path name a b
   puts_none a b is = only_none a b is
 
-  pub puts_chain : (a b c : History) → PutsOnlyAt path name a b → PutsOnlyAt path name b c → PutsOnlyAt path name a c
+  pub puts_chain : (a b c : History) → PutsOnlyAt file path name a b → PutsOnlyAt file path name b c → PutsOnlyAt file path name a c
   puts_chain a b c one two = only_chain a b c one two
 
-  pub puts_look : (a b c : History) (step : FolderStep) → PutsOnlyAt path name a b → c ≡ after step b → IsQuietStep step → PutsOnlyAt path name a c
+  pub puts_look : (a b c : History) (step : FolderStep) → PutsOnlyAt file path name a b → c ≡ after step b → IsQuietStep step → PutsOnlyAt file path name a c
   puts_look a b c step before is quiet = only_more a b c step before is (inl quiet)
 
-  pub puts_step : (a b c : History) (step : FolderStep) → PutsOnlyAt path name a b → c ≡ after step b → IsStepOf path name step → PutsOnlyAt path name a c
+  pub puts_step : (a b c : History) (step : FolderStep) → PutsOnlyAt file path name a b → c ≡ after step b → IsStepOf file path name step → PutsOnlyAt file path name a c
   puts_step a b c step before is of = only_more a b c step before is (inr (inr (inr of)))
 
   put_rights : (step : FolderStep) → IsQuietStep step ⊎ IsRightsStep step → IsPut step
   put_rights step (inl quiet) = inl quiet
   put_rights step (inr rights) = inr (inr (inl rights))
 
-  pub puts_rights : (a b : History) → SetsRights a b → PutsOnlyAt path name a b
+  pub puts_rights : (a b : History) → SetsRights a b → PutsOnlyAt file path name a b
   puts_rights a b rights = only_of a b put_rights rights
 
   -- it was done, or failed
-  pub puts_may : {A E : Type 0} (r : Result A E) (a b c : History) (step : A → FolderStep) → PutsOnlyAt path name a b → Steps r step b c → ((x : A) → IsPut (step x)) → PutsOnlyAt path name a c
+  pub puts_may : {A E : Type 0} (r : Result A E) (a b c : History) (step : A → FolderStep) → PutsOnlyAt file path name a b → Steps r step b c → ((x : A) → IsPut (step x)) → PutsOnlyAt file path name a c
   puts_may (Ok x) a b c step before is put = only_more a b c (step x) before is (put x)
   puts_may (Err e) a b c step before is put = puts_chain a b c before (puts_none b c is)
 
-  pub puts_right : (a b c : History) (step : FolderStep) → PutsOnlyAt path name a b → c ≡ after step b → IsRightsStep step → PutsOnlyAt path name a c
+  pub puts_right : (a b c : History) (step : FolderStep) → PutsOnlyAt file path name a b → c ≡ after step b → IsRightsStep step → PutsOnlyAt file path name a c
   puts_right a b c step before is rights = only_more a b c step before is (inr (inr (inl rights)))
 
   -- a beginning of bytes may have been written
-  pub puts_begun : (file : ℕ) (bytes : List ℕ) (a b c : History) → PutsOnlyAt path name a b
-      → (c ≡ b) ⊎ ((front : List ℕ) × (rest : List ℕ) × (bytes ≡ front ++ rest) × (c ≡ after (Adds file front) b)) → PutsOnlyAt path name a c
-  puts_begun file bytes a b c before (inl is) = puts_chain a b c before (puts_none b c is)
-  puts_begun file bytes a b c before (inr (front, rest, parts, is)) = puts_step a b c (Adds file front) before is tt
+  pub puts_begun : (bytes : List ℕ) (a b c : History) → PutsOnlyAt file path name a b
+      → (c ≡ b) ⊎ ((front : List ℕ) × (rest : List ℕ) × (bytes ≡ front ++ rest) × (c ≡ after (Adds file front) b)) → PutsOnlyAt file path name a c
+  puts_begun bytes a b c before (inl is) = puts_chain a b c before (puts_none b c is)
+  puts_begun bytes a b c before (inr (front, rest, parts, is)) = puts_step a b c (Adds file front) before is refl
 
-  pub puts_written : {A E : Type 0} (r : Result A E) (file : ℕ) (bytes : List ℕ) (a b c : History) → PutsOnlyAt path name a b → Writes r file bytes b c → PutsOnlyAt path name a c
-  puts_written (Ok x) file bytes a b c before is = puts_step a b c (Adds file bytes) before is tt
-  puts_written (Err e) file bytes a b c before begun = puts_begun file bytes a b c before begun
+  pub puts_written : {A E : Type 0} (r : Result A E) (bytes : List ℕ) (a b c : History) → PutsOnlyAt file path name a b → Writes r file bytes b c → PutsOnlyAt file path name a c
+  puts_written (Ok x) bytes a b c before is = puts_step a b c (Adds file bytes) before is refl
+  puts_written (Err e) bytes a b c before begun = puts_begun bytes a b c before begun
 
   -- lines were added, or a beginning of them
-  pub puts_added : {A E : Type 0} (r : Result A E) (file : ℕ) (log lines : List ℕ) (left longer : LeftLog) (a b : History) → OnOk r (IsAdded file log left lines longer a b)
-      → OnErr r (AddsFront file lines a b) → PutsOnlyAt path name a b
-  puts_added (Ok x) file log lines left longer a b (shown, added, shows, is, later) front =
-      puts_chain a added b (puts_step a shown added (Adds file lines) (puts_quiet a shown (shown_quiet file log left a shown shows)) is tt)
+  pub puts_added : {A E : Type 0} (r : Result A E) (log lines : List ℕ) (left longer : LeftLog) (a b : History) → OnOk r (IsAdded file log left lines longer a b)
+      → OnErr r (AddsFront file lines a b) → PutsOnlyAt file path name a b
+  puts_added (Ok x) log lines left longer a b (shown, added, shows, is, later) front =
+      puts_chain a added b (puts_step a shown added (Adds file lines) (puts_quiet a shown (shown_quiet file log left a shown shows)) is refl)
       (puts_quiet added b (longer_quiet file log left longer added b later))
-  puts_added (Err e) file log lines left longer a b added (inl quiet) = puts_quiet a b quiet
-  puts_added (Err e) file log lines left longer a b none (inr (front, rest, shown, added, parts, first, is, last)) =
-      puts_chain a added b (puts_step a shown added (Adds file front) (puts_quiet a shown first) is tt) (puts_quiet added b last)
+  puts_added (Err e) log lines left longer a b added (inl quiet) = puts_quiet a b quiet
+  puts_added (Err e) log lines left longer a b none (inr (front, rest, shown, added, parts, first, is, last)) =
+      puts_chain a added b (puts_step a shown added (Adds file front) (puts_quiet a shown first) is refl) (puts_quiet added b last)
 
-  puts_one : (a b : History) (step : FolderStep) → b ≡ after step a → IsStepOf path name step → PutsOnlyAt path name a b
+  puts_one : (a b : History) (step : FolderStep) → b ≡ after step a → IsStepOf file path name step → PutsOnlyAt file path name a b
   puts_one a b step is of = puts_step a a b step (puts_none a a refl) is of
 
-  pub puts_owner : (file : ℕ) (owner : Owner) (is_owned : Bool) (a b : History) → TakesOwner file owner a b is_owned → PutsOnlyAt path name a b
-  puts_owner file owner is_owned a b takes = puts_rights a b (rights_owner file owner is_owned a b takes)
+  pub puts_owner : (which : ℕ) (owner : Owner) (is_owned : Bool) (a b : History) → TakesOwner which owner a b is_owned → PutsOnlyAt file path name a b
+  puts_owner which owner is_owned a b takes = puts_rights a b (rights_owner which owner is_owned a b takes)
 
   -- what stands under the name is kept, or nothing is lost of it
-  puts_kept : (why : Reason) (a b : History) → IsKept why name a b → PutsOnlyAt path name a b
+  puts_kept : (why : Reason) (a b : History) → IsKept why name a b → PutsOnlyAt file path name a b
   puts_kept reason.Linked a b (kept, seen, tilde, idle, is) = puts_step a seen b (Links name kept) (puts_idle a seen idle) is (inr (refl, tilde))
   puts_kept reason.Copied a b (kept, bytes, seen, read, tilde, idle, was, is) =
       only_more a read b (Makes kept bytes) (puts_look a seen read (Reads name bytes) (puts_idle a seen idle) was tt) is (inr (inl tilde))
@@ -189,7 +189,7 @@ module _ (path name : List ℕ) where
   puts_kept reason.Same a b kept = absurd kept
   puts_kept reason.Open a b kept = absurd kept
 
-  puts_shown : (why : Reason) (own : Option Stamp) (bytes : List ℕ) (a b : History) → IsShown why name own bytes a b → PutsOnlyAt path name a b
+  puts_shown : (why : Reason) (own : Option Stamp) (bytes : List ℕ) (a b : History) → IsShown why name own bytes a b → PutsOnlyAt file path name a b
   puts_shown reason.Nothing own bytes a b is = puts_look a a b (Follows name None) (puts_none a a refl) is tt
   puts_shown reason.Known own bytes a b (look, known, is) = puts_look a a b (Follows name (Some look)) (puts_none a a refl) is tt
   puts_shown reason.Same own bytes a b (look, followed, one, two) =
@@ -198,60 +198,60 @@ module _ (path name : List ℕ) where
   puts_shown reason.Copied own bytes a b shown = absurd shown
   puts_shown reason.Open own bytes a b shown = absurd shown
 
-  pub puts_spared : (own : Option Stamp) (bytes : List ℕ) (a b : History) → SparesText name own bytes a b → PutsOnlyAt path name a b
+  pub puts_spared : (own : Option Stamp) (bytes : List ℕ) (a b : History) → SparesText name own bytes a b → PutsOnlyAt file path name a b
   puts_spared own bytes a b (why, inl shown) = puts_shown why own bytes a b shown
   puts_spared own bytes a b (why, inr kept) = puts_kept why a b kept
 
-  puts_old : (log : Option ℕ) (o : Old) (a b : History) → KeepsOld log o name a b → PutsOnlyAt path name a b
+  puts_old : (log : Option ℕ) (o : Old) (a b : History) → KeepsOld log o name a b → PutsOnlyAt file path name a b
   puts_old log old.Nothing a b is = puts_none a b is
   puts_old log old.Log a b (why, kept) = puts_kept why a b kept
   puts_old log (old.Text own bytes) a b spared = puts_spared own bytes.now a b spared
-  puts_old log (old.Read size) a b (why, checked, (file, found, opened, followed, known, one, two, same, long), kept) =
-      puts_chain a checked b (puts_look a followed checked (LooksAt file opened) (puts_look a a followed (Follows name (Some found)) (puts_none a a refl) one tt) two tt) (puts_kept why checked b kept)
+  puts_old log (old.Read size) a b (why, checked, (other, found, opened, followed, known, one, two, same, long), kept) =
+      puts_chain a checked b (puts_look a followed checked (LooksAt other opened) (puts_look a a followed (Follows name (Some found)) (puts_none a a refl) one tt) two tt) (puts_kept why checked b kept)
 
-  puts_free : (a b : History) → GivesFreeName path name a b → PutsOnlyAt path name a b
+  puts_free : (a b : History) → GivesFreeName path name a b → PutsOnlyAt file path name a b
   puts_free a b (inl (linked, one, inl is)) = puts_chain a linked b (puts_one a linked (Links path name) one (inl (refl, refl))) (puts_none linked b is)
   puts_free a b (inl (linked, one, inr is)) = only_more a linked b (Removes path) (puts_one a linked (Links path name) one (inl (refl, refl))) is (inr (inl refl))
   puts_free a b (inr (looked, one, is)) = puts_step a looked b (Renames path name) (puts_look a a looked (Looks name None) (puts_none a a refl) one tt) is (refl, refl)
 
-  puts_name : (o : Old) (a b : History) → TakesOld o path name a b → PutsOnlyAt path name a b
+  puts_name : (o : Old) (a b : History) → TakesOld o path name a b → PutsOnlyAt file path name a b
   puts_name old.Nothing a b free = puts_free a b free
   puts_name old.Log a b is = puts_one a b (Renames path name) is (refl, refl)
   puts_name (old.Text own bytes) a b is = puts_one a b (Renames path name) is (refl, refl)
   puts_name (old.Read size) a b is = puts_one a b (Renames path name) is (refl, refl)
 
-  pub puts_synced : (file : ℕ) (log later : Option ℕ) (a b : History) → SyncsDated file log later a b → PutsOnlyAt path name a b
-  puts_synced file log None a b (dated, may, is) = only_more a dated b (Syncs file) (puts_none a dated may) is (inl tt)
-  puts_synced file log (Some later) a b (dated, inl may, is) = only_more a dated b (Syncs file) (puts_none a dated may) is (inl tt)
-  puts_synced file log (Some later) a b (dated, inr (of, known, date), is) =
-      only_more a dated b (Syncs file) (puts_look a a dated (Dates file of later) (puts_none a a refl) date tt) is (inl tt)
+  pub puts_synced : (which : ℕ) (log later : Option ℕ) (a b : History) → SyncsDated which log later a b → PutsOnlyAt file path name a b
+  puts_synced which log None a b (dated, may, is) = only_more a dated b (Syncs which) (puts_none a dated may) is (inl tt)
+  puts_synced which log (Some later) a b (dated, inl may, is) = only_more a dated b (Syncs which) (puts_none a dated may) is (inl tt)
+  puts_synced which log (Some later) a b (dated, inr (of, known, date), is) =
+      only_more a dated b (Syncs which) (puts_look a a dated (Dates which of later) (puts_none a a refl) date tt) is (inl tt)
 
 module _ (file : ℕ) (log : Option ℕ) (s : Staged) where
-  puts_does : (step : DiskStep) (a b : History) → Does file log s step a b → PutsOnlyAt s.path.now s.name.now a b
-  puts_does disk.Empties a b is = puts_one s.path.now s.name.now a b (Empties file) is tt
-  puts_does (disk.Writes bytes) a b is = puts_one s.path.now s.name.now a b (Adds file bytes) is tt
-  puts_does disk.Syncs a b syncs = puts_synced s.path.now s.name.now file log s.later a b syncs
-  puts_does disk.Keeps a b keeps = puts_old s.path.now s.name.now log s.old a b keeps
-  puts_does disk.TakesName a b takes = puts_name s.path.now s.name.now s.old a b takes
-  puts_does disk.SyncsFolder a b is = puts_one s.path.now s.name.now a b (SyncsFolder s.name.now) is tt
-  puts_does disk.Removes a b gone = puts_at s.path.now s.name.now a b (at_removal IsOfFile file s.path.now a b gone)
+  puts_does : (step : DiskStep) (a b : History) → Does file log s step a b → PutsOnlyAt file s.path.now s.name.now a b
+  puts_does disk.Empties a b is = puts_one file s.path.now s.name.now a b (Empties file) is refl
+  puts_does (disk.Writes bytes) a b is = puts_one file s.path.now s.name.now a b (Adds file bytes) is refl
+  puts_does disk.Syncs a b syncs = puts_synced file s.path.now s.name.now file log s.later a b syncs
+  puts_does disk.Keeps a b keeps = puts_old file s.path.now s.name.now log s.old a b keeps
+  puts_does disk.TakesName a b takes = puts_name file s.path.now s.name.now s.old a b takes
+  puts_does disk.SyncsFolder a b is = puts_one file s.path.now s.name.now a b (SyncsFolder s.name.now) is tt
+  puts_does disk.Removes a b gone = puts_at file s.path.now s.name.now a b (at_removal IsOfFile file s.path.now a b gone)
 
   -- all of a new file's steps, or some
-  pub puts_all : (steps : List DiskStep) (a b : History) → DoesAll file log s steps a b → PutsOnlyAt s.path.now s.name.now a b
-  puts_all [] a b is = puts_none s.path.now s.name.now a b is
+  pub puts_all : (steps : List DiskStep) (a b : History) → DoesAll file log s steps a b → PutsOnlyAt file s.path.now s.name.now a b
+  puts_all [] a b is = puts_none file s.path.now s.name.now a b is
   puts_all (step ∷ []) a b does = puts_does step a b does
-  puts_all (step ∷ next ∷ later) a b (done, does, rest) = puts_chain s.path.now s.name.now a done b (puts_does step a done does) (puts_all (next ∷ later) done b rest)
+  puts_all (step ∷ next ∷ later) a b (done, does, rest) = puts_chain file s.path.now s.name.now a done b (puts_does step a done does) (puts_all (next ∷ later) done b rest)
 
-  pub puts_some : (wanted : List DiskStep) (a b : History) → StopsBefore file log s wanted a b → PutsOnlyAt s.path.now s.name.now a b
-  puts_some wanted a b t = puts_chain s.path.now s.name.now a t.done b (puts_all t.made a t.done t.does) (puts_idle s.path.now s.name.now t.done b t.idle)
+  pub puts_some : (wanted : List DiskStep) (a b : History) → StopsBefore file log s wanted a b → PutsOnlyAt file s.path.now s.name.now a b
+  puts_some wanted a b t = puts_chain file s.path.now s.name.now a t.done b (puts_all t.made a t.done t.does) (puts_idle file s.path.now s.name.now t.done b t.idle)
 
   pub puts_whole : {E : Type 0} (r : Result Named E) (steps : Named → List DiskStep) (wanted : List DiskStep) (a b : History) → IfOk r (λ n. DoesAll file log s (steps n) a b)
-      → OnErr r (StopsBefore file log s wanted a b) → PutsOnlyAt s.path.now s.name.now a b
+      → OnErr r (StopsBefore file log s wanted a b) → PutsOnlyAt file s.path.now s.name.now a b
   puts_whole (Ok n) steps wanted a b does stops = puts_all (steps n) a b does
   puts_whole (Err e) steps wanted a b does stops = puts_some wanted a b stops
 
-pub puts_paths : (path beside name spelled : List ℕ) (a b : History) → path ≡ beside → name ≡ spelled → PutsOnlyAt path name a b → PutsOnlyAt beside spelled a b
-puts_paths path beside name spelled a b is named puts = subst (λ n. PutsOnlyAt beside n a b) named (subst (λ p. PutsOnlyAt p name a b) is puts)
+pub puts_paths : (file : ℕ) (path beside name spelled : List ℕ) (a b : History) → path ≡ beside → name ≡ spelled → PutsOnlyAt file path name a b → PutsOnlyAt file beside spelled a b
+puts_paths file path beside name spelled a b is named puts = subst (λ n. PutsOnlyAt file beside n a b) named (subst (λ p. PutsOnlyAt file p name a b) is puts)
 
 -- ---- a file that is still to take its name
 

@@ -143,33 +143,39 @@ IsRightsStep other = ⊥
 abbrev pub SetsRights : History → History → Type 0
 SetsRights old now = Only (λ step. IsQuietStep step ⊎ IsRightsStep step) old now
 
--- A file is made at the path, gets bytes, and takes the name; or the file of the name is written over. What stands
--- there gets another name before.
-abbrev pub IsStepOf : List ℕ → List ℕ → FolderStep → Type 0
-IsStepOf path name (Opens file other (opening.New mode)) = other ≡ path
-IsStepOf path name (Adds file bytes) = Unit {0}
-IsStepOf path name (Empties file) = Unit {0}
-IsStepOf path name (SyncsFolder other) = Unit {0}
-IsStepOf path name (Links other new) = ((other ≡ path) × (new ≡ name)) ⊎ ((other ≡ name) × EndsInTilde new)
-IsStepOf path name (Renames other new) = (other ≡ path) × (new ≡ name)
-IsStepOf path name (Overwrites file other) = other ≡ name
-IsStepOf path name other = ⊥
+-- A file is made at the path, this one gets bytes, and it takes the name; or this one, which has the name, is written over.
+-- What stands there gets another name before.
+abbrev pub IsStepOf : ℕ → List ℕ → List ℕ → FolderStep → Type 0
+IsStepOf file path name (Opens opened other (opening.New mode)) = other ≡ path
+IsStepOf file path name (Adds other bytes) = other ≡ file
+IsStepOf file path name (Empties other) = other ≡ file
+IsStepOf file path name (SyncsFolder other) = Unit {0}
+IsStepOf file path name (Links other new) = ((other ≡ path) × (new ≡ name)) ⊎ ((other ≡ name) × EndsInTilde new)
+IsStepOf file path name (Renames other new) = (other ≡ path) × (new ≡ name)
+IsStepOf file path name (Overwrites opened other) = (other ≡ name) × (opened ≡ file)
+IsStepOf file path name other = ⊥
 
-abbrev pub PutsOnlyAt : List ℕ → List ℕ → History → History → Type 0
-PutsOnlyAt path name old now = Only (λ step. IsQuietStep step ⊎ IsStepAt path step ⊎ IsRightsStep step ⊎ IsStepOf path name step) old now
+abbrev pub PutsOnlyAt : ℕ → List ℕ → List ℕ → History → History → Type 0
+PutsOnlyAt file path name old now = Only (λ step. IsQuietStep step ⊎ IsStepAt path step ⊎ IsRightsStep step ⊎ IsStepOf file path name step) old now
 
--- the same at the paths of a log or of a text; at this path, whatever name its file is to take; and at none
+-- the same at the paths of a log; and at those of a text, of which one file is written beside and then one in place
 abbrev pub PutsLogOnly : Paths → History → History → Type 0
-PutsLogOnly paths old now = PutsOnlyAt (string_bytes paths.next_log) (string_bytes paths.log) old now
+PutsLogOnly paths old now = (file : ℕ) × PutsOnlyAt file (string_bytes paths.next_log) (string_bytes paths.log) old now
 
 abbrev pub PutsTextOnly : Paths → History → History → Type 0
-PutsTextOnly paths old now = PutsOnlyAt (string_bytes paths.next_text) (string_bytes paths.text) old now
+PutsTextOnly paths old now =
+    (next : ℕ) × (over : ℕ) × (put : History) × PutsOnlyAt next (string_bytes paths.next_text) (string_bytes paths.text) old put
+    × PutsOnlyAt over (string_bytes paths.next_text) (string_bytes paths.text) put now
 
-abbrev pub PutsOnlyBeside : List ℕ → History → History → Type 0
-PutsOnlyBeside path old now = (name : List ℕ) → PutsOnlyAt path name old now
+-- at this path alone, whatever name its file is to take; no file gets bytes; and at no path
+abbrev pub PutsOnlyBeside : ℕ → List ℕ → History → History → Type 0
+PutsOnlyBeside file path old now = (name : List ℕ) → PutsOnlyAt file path name old now
 
-abbrev pub ChangesNoName : History → History → Type 0
-ChangesNoName old now = (path : List ℕ) → PutsOnlyBeside path old now
+abbrev pub MakesOnlyBeside : List ℕ → History → History → Type 0
+MakesOnlyBeside path old now = (file : ℕ) → PutsOnlyBeside file path old now
+
+abbrev pub ChangesNoName : ℕ → History → History → Type 0
+ChangesNoName file old now = (path : List ℕ) → PutsOnlyBeside file path old now
 
 -- ---- a file that is still to take its name
 

@@ -105,7 +105,8 @@ pub fn a_log_is_torn_only_at_its_end()
 /// If nobody else writes into a note's files, a call leaves of them what a port is held to (`mg_files`,
 /// `Leaves`). What was read is what the log has; an append leaves all lines behind what it had, or a
 /// beginning of them. A first log, one that is written anew, and a text have all that was put under
-/// their names.
+/// their names. A log that could not be written anew is the old one, or has all of the lines; and a text
+/// that could not be put leaves the log, if neither file that it is written into is the log's.
 pub fn calls_leave_what_a_port_is_held_to()
     ensures read { (file : ℕ) (path next read : List ℕ) (left : LeftLog) (now : History)
         → LoadsLog file path next read left now → IsKnown file now read }
@@ -155,13 +156,25 @@ pub fn calls_leave_what_a_port_is_held_to()
         → PutsText dated held (name ++ codes ".ops.text") name bytes own now_own old now
         → Holds stamp_of name found now → Leaves PutText true bytes
         (record { log = log; text = text }) (record { log = log; text = Some found }) }
+    ensures unput { (stamp_of : ℕ → Stamp) (next over : ℕ)
+        (path name log bytes had found : List ℕ) (text other : Option (List ℕ))
+        (old put now : History) → PutsOnlyAt next path name old put
+        → PutsOnlyAt over path name put now → log ≢ path → log ≢ name → (EndsInTilde log → ⊥)
+        → (Stands stamp_of log next old → ⊥) → (Stands stamp_of log over put → ⊥)
+        → ((l : List ℕ) → Holds stamp_of log l old → l ≡ had)
+        → Holds stamp_of log found now → Leaves PutText false bytes
+        (record { log = Some had; text = text }) (record { log = Some found; text = other }) }
 {}
 
 /// A call that puts something under a name, and writes it at a path beside, leaves each other name to
-/// the file that it stands for, whatever it answers, if nobody else takes part: a text that is put
-/// leaves the log its name, and a log that is written anew the text.
+/// the file that it stands for, and each other file its bytes, whatever it answers, if nobody else takes
+/// part: so a text that is put leaves the log, and a log that is written anew the text.
 pub fn what_stands_elsewhere_is_left()
-    ensures { (stamp_of : ℕ → Stamp) (path name other : List ℕ) (file : ℕ) (old now : History)
-        → PutsOnlyAt path name old now → other ≢ path → other ≢ name → (EndsInTilde other → ⊥)
+    ensures name { (stamp_of : ℕ → Stamp) (written file : ℕ) (path name other : List ℕ)
+        (old now : History) → PutsOnlyAt written path name old now
+        → other ≢ path → other ≢ name → (EndsInTilde other → ⊥)
         → Stands stamp_of other file now → Stands stamp_of other file old }
+    ensures bytes { (written file : ℕ) (path name bytes : List ℕ) (old now : History)
+        → PutsOnlyAt written path name old now → file ≢ written
+        → OfTold (HasAfter file bytes) now → OfTold (HasAfter file bytes) old }
 {}

@@ -7,7 +7,7 @@ ghost use Rattle.mgr_port.specs.Growth.{AddsFront, IsAdded};
 ghost use Rattle.mgr_port.specs.Locks.{HoldsInItsPlace, HoldsNext, IsTaken, OpensLocked};
 ghost use Rattle.mgr_port.specs.Notes.{KeepsPlace, Leaves, LeavesLog, LoadsLog, MakesLog, MakesRoomIf, MayRemoveIf, NamesLog};
 ghost use Rattle.mgr_port.specs.Notes.{ReadsLog, TakesRights, closed, old_for};
-ghost use Rattle.mgr_port.specs.Spares.{ChangesOnlyAt, IsOfFile, PutsLogOnly, PutsTextOnly, SetsRights, WaitsBeside};
+ghost use Rattle.mgr_port.specs.Spares.{ChangesOnlyAt, IsOfFile, PutsLogOnly, PutsOnlyAt, PutsTextOnly, SetsRights, WaitsBeside};
 ghost use Rattle.mgr_port.specs.Texts.{PutsText};
 ghost use Rattle.mgr_port.specs.declared.spare.Look.{Look};
 
@@ -405,7 +405,8 @@ fn name_next<F: Folder>(
     ensures unnamed { OnErr result (WaitsBeside (F.file_of next.now)
         (string_bytes paths.now.next_log) (string_bytes paths.now.log)
         (F.steps folder.old) (F.steps folder.new)) }
-    ensures only { PutsLogOnly paths.now (F.steps folder.old) (F.steps folder.new) }
+    ensures only { PutsOnlyAt (F.file_of next.now) (string_bytes paths.now.next_log)
+        (string_bytes paths.now.log) (F.steps folder.old) (F.steps folder.new) }
 {
     take_rights(folder, next, standing, paths.text.as_str())?;
     let staged = Staged {

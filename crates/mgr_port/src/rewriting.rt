@@ -1,10 +1,10 @@
 //! A log that is read whole, and written anew beside.
-ghost use Rattle.std.specs.Prelude.{◌≡◌, None, Some, IfOk, OnOk, true, if◌then◌else◌, string_bytes};
+ghost use Rattle.std.specs.Prelude.{◌≡◌, ℕ, None, Some, IfOk, OnOk, true, if◌then◌else◌, string_bytes};
 ghost use Rattle.mgr_port.specs.Folder.{IsIdle, IsQuiet};
 ghost use Rattle.mgr_port.specs.Locks.{ShowsPlain};
 ghost use Rattle.mgr_port.specs.Rewriting.{EndsLine, KeepsRefused, MakesNextLog, NamesRead};
 ghost use Rattle.mgr_port.specs.Rewriting.{OpensRefused, OpensToRewrite};
-ghost use Rattle.mgr_port.specs.Spares.{ChangesNoName, PutsLogOnly, PutsOnlyBeside};
+ghost use Rattle.mgr_port.specs.Spares.{ChangesNoName, MakesOnlyBeside, PutsLogOnly, PutsOnlyBeside};
 
 use crate::files::take_mode;
 use crate::folder::{Folder, Opening};
@@ -84,7 +84,8 @@ impl<T: Drop> OpenLog<T> {
         ensures file { self.new.file ≡ self.old.file }
         ensures kept { OnOk result (KeepsRefused (F.file_of self.old.file) path.now bytes.now
             (F.steps folder.old) (F.steps folder.new)) }
-        ensures only { PutsOnlyBeside path.now (F.steps folder.old) (F.steps folder.new) }
+        ensures only { (file : ℕ)
+            × PutsOnlyBeside file path.now (F.steps folder.old) (F.steps folder.new) }
     {
         self.refused = true;
         let refused = open_refused(folder, path, &self.file)?;
@@ -99,7 +100,7 @@ impl<T: Drop> OpenLog<T> {
     pub(crate) fn make_next<F: Folder<File = T>>(&self, folder: &mut F, path: &str) -> io::Result<T>
         ensures made { IfOk result (λ next. MakesNextLog (F.file_of next) (F.file_of self.now.file)
             path.now (F.steps folder.old) (F.steps folder.new)) }
-        ensures only { PutsOnlyBeside path.now (F.steps folder.old) (F.steps folder.new) }
+        ensures only { MakesOnlyBeside path.now (F.steps folder.old) (F.steps folder.new) }
     {
         // One that was killed when it gave the log its name may have left it this one too.
         let _ = remove_second_name(folder, path, &self.file);
@@ -159,7 +160,7 @@ fn open_refused<F: Folder>(folder: &mut F, path: &str, log: &F::File) -> io::Res
     ensures opened { IfOk result
         (λ file. OpensRefused (F.file_of file) (F.file_of log.now) path.now
         (F.steps folder.old) (F.steps folder.new)) }
-    ensures only { PutsOnlyBeside path.now (F.steps folder.old) (F.steps folder.new) }
+    ensures only { MakesOnlyBeside path.now (F.steps folder.old) (F.steps folder.new) }
 {
     if is_plain_there(folder, path)? {
         return open_beside(folder, path);
@@ -175,7 +176,7 @@ fn open_refused<F: Folder>(folder: &mut F, path: &str, log: &F::File) -> io::Res
 fn end_line<F: Folder>(folder: &mut F, file: &F::File) -> io::Result<()>
     ensures ended { OnOk result
         (EndsLine (F.file_of file.now) (F.steps folder.old) (F.steps folder.new)) }
-    ensures only { ChangesNoName (F.steps folder.old) (F.steps folder.new) }
+    ensures only { ChangesNoName (F.file_of file.now) (F.steps folder.old) (F.steps folder.new) }
 {
     let length = folder.look_at(file)?.stamp.length;
     if length == 0 {

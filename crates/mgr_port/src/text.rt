@@ -3,7 +3,7 @@ ghost use Rattle.std.specs.Option.{option_map};
 ghost use Rattle.std.specs.Prelude.{◌≡◌, ◌≤◌, List, ℕ, None, Some, IfOk, IfSome, OnOk, string_bytes};
 ghost use Rattle.mgr_port.specs.Folder.{IsQuiet};
 ghost use Rattle.mgr_port.specs.Locks.{IsOwnRead};
-ghost use Rattle.mgr_port.specs.Spares.{PutsOnlyAt, PutsOnlyBeside, PutsTextOnly};
+ghost use Rattle.mgr_port.specs.Spares.{MakesOnlyBeside, PutsOnlyAt, PutsTextOnly};
 ghost use Rattle.mgr_port.specs.Texts.{IsOwnBeside, IsThere, MakesLike, MakesNextText, NamesText, PutsBeside, PutsInPlace, PutsText};
 
 use crate::files::{plain_if_there, take_owner};
@@ -158,7 +158,8 @@ impl<T: Drop> Text<T> {
             (option_map (λ l. F.file_of l.now) log.entry) (string_bytes paths.now.next_text)
             (string_bytes paths.now.text) bytes.now self.old.own self.new.own
             (F.steps folder.old) (F.steps folder.new)) }
-        ensures only { PutsTextOnly paths.now (F.steps folder.old) (F.steps folder.new) }
+        ensures only { PutsOnlyAt (F.file_of next) (string_bytes paths.now.next_text)
+            (string_bytes paths.now.text) (F.steps folder.old) (F.steps folder.new) }
     {
         let answer = name_next(folder, paths, &next, self.own, bytes, log);
         let named = match answer {
@@ -185,8 +186,8 @@ impl<T: Drop> Text<T> {
         ensures put { OnOk result (PutsInPlace (option_map (λ l. F.file_of l.now) log.entry)
             path.now bytes.now self.old.own self.new.own
             (F.steps folder.old) (F.steps folder.new)) }
-        ensures only { (beside : List ℕ)
-            → PutsOnlyAt beside path.now (F.steps folder.old) (F.steps folder.new) }
+        ensures only { (file : ℕ) × ((beside : List ℕ)
+            → PutsOnlyAt file beside path.now (F.steps folder.old) (F.steps folder.new)) }
     {
         let spare = spare_text(folder, path, self.own, bytes, Keeping::ByCopy)?;
         let file = folder.overwrite(spare)?;
@@ -222,7 +223,8 @@ fn name_next<F: Folder>(
     ensures named { IfOk result (NamesText (F.file_of next.now)
         (option_map (λ l. F.file_of l.now) log.entry) (string_bytes paths.now.next_text)
         (string_bytes paths.now.text) bytes.now own (F.steps folder.old) (F.steps folder.new)) }
-    ensures only { PutsTextOnly paths.now (F.steps folder.old) (F.steps folder.new) }
+    ensures only { PutsOnlyAt (F.file_of next.now) (string_bytes paths.now.next_text)
+        (string_bytes paths.now.text) (F.steps folder.old) (F.steps folder.new) }
 {
     check_lock(folder.lock(next)?)?;
     let staged = Staged {
@@ -245,7 +247,8 @@ fn make_next<F: Folder>(
     ensures made { IfOk result (λ o. IfSome o (λ file. MakesNextText (F.file_of file)
         (string_bytes paths.now.next_text)
         (string_bytes paths.now.text) is_there (F.steps folder.old) (F.steps folder.new))) }
-    ensures only { PutsTextOnly paths.now (F.steps folder.old) (F.steps folder.new) }
+    ensures only { (file : ℕ) → PutsOnlyAt file (string_bytes paths.now.next_text)
+        (string_bytes paths.now.text) (F.steps folder.old) (F.steps folder.new) }
 {
     let path = paths.next_text.as_str();
     match folder.look(paths.text.as_str())?.found {
@@ -259,7 +262,7 @@ fn make_next<F: Folder>(
 fn make_like<F: Folder>(folder: &mut F, path: &str, like: Look) -> io::Result<Option<F::File>>
     ensures made { IfOk result (λ o. IfSome o (λ file.
         MakesLike (F.file_of file) path.now like (F.steps folder.old) (F.steps folder.new))) }
-    ensures only { PutsOnlyBeside path.now (F.steps folder.old) (F.steps folder.new) }
+    ensures only { MakesOnlyBeside path.now (F.steps folder.old) (F.steps folder.new) }
 {
     let Ok(next) = make_beside(folder, path, 0) else {
         return only_name(like);

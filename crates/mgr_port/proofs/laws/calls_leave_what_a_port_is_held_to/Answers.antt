@@ -1,6 +1,6 @@
 use Rattle.std.proofs.Common.{inl, inr, ℕ, List, Some, None, ap, refl}
 use Rattle.mgr_port.proofs.BytesLaws.{as_appended, as_begun, read_known}
-use Rattle.mgr_port.proofs.NamingLaws.{left_holds, log_holds, log_known, next_log_differs, next_log_is_not_kept, next_text_is_not_kept, text_holds}
+use Rattle.mgr_port.proofs.NamingLaws.{held_twice, left_holds, log_holds, log_known, next_log_differs, next_log_is_not_kept, next_text_is_not_kept, text_holds}
 use Rattle.mgr_port.proofs.laws.calls_leave_what_a_port_is_held_to.Goals as goal
 
 pub returns-clause-read : goal.returns-clause-read
@@ -50,3 +50,7 @@ returns-clause-unreplaced c stamp_of before file name beside lines bytes found s
   ],
   refl,
 )
+
+pub returns-clause-unput : goal.returns-clause-unput
+returns-clause-unput c stamp_of next over path name log bytes had found text other old put now first second off_path off_name not_kept not_next not_over held holds =
+    ap (λ (l : List ℕ). Some l) (held found (held_twice stamp_of path name log off_path off_name not_kept next over found old put now first second not_next not_over holds))

@@ -12,11 +12,11 @@ returns-clause-named g c =
 
 pub returns-clause-only : goal.returns-clause-only
 returns-clause-only g c =
-    puts_chain _ _ _ _ _ (puts_rights _ _ _ _ c.in_ok-take_rights.ensures.only)
-    (puts_paths _ _ _ _ _ _ c.as_str-2.ensures.value c.as_str-3.ensures.value (puts_whole _ _ _ c.put_log.result (λ n. steps_to n _) _ _ _ c.put_log.ensures.named c.put_log.ensures.unnamed))
+    puts_chain _ _ _ _ _ _ (puts_rights _ _ _ _ _ c.in_ok-take_rights.ensures.only)
+    (puts_paths _ _ _ _ _ _ _ c.as_str-2.ensures.value c.as_str-3.ensures.value (puts_whole _ _ _ c.put_log.result (λ n. steps_to n _) _ _ _ c.put_log.ensures.named c.put_log.ensures.unnamed))
 
 pub returns-in_err-take_rights-clause-only : goal.returns-in_err-take_rights-clause-only
-returns-in_err-take_rights-clause-only g c = puts_rights _ _ _ _ c.in_err-take_rights.ensures.only
+returns-in_err-take_rights-clause-only g c = puts_rights _ _ _ _ _ c.in_err-take_rights.ensures.only
 
 pub returns-in_err-take_rights-clause-unnamed : goal.returns-in_err-take_rights-clause-unnamed
 returns-in_err-take_rights-clause-unnamed g c = on_err _ (waits_rights _ _ _ _ _ c.in_err-take_rights.ensures.only)

@@ -13,13 +13,13 @@ returns-clause-made g c = λ none.
     made_after_look _ _ (λ log. g.F.Folder.file_of log.file) (λ log. log.left) _ _ _ _ _ _ _ _ _ _ _ _ (ap (option_map (λ log. g.F.Folder.file_of log.file)) none) c.as_str-path.ensures.value (none_stands c.in_ok-follow.field-0.found (sym c.is_some.ensures ∙ c.if-is_some.false)) c.in_ok-follow.ensures.step c.make_log.ensures.made
 
 pub returns-in-Some-clause-only : goal.returns-in-Some-clause-only
-returns-in-Some-clause-only g c = puts_added _ _ c.append.result _ _ _ _ _ _ _ c.append.ensures.added c.append.ensures.begun
+returns-in-Some-clause-only g c = (_, puts_added _ _ _ c.append.result _ _ _ _ _ _ c.append.ensures.added c.append.ensures.begun)
 
 pub returns-then-is_some-clause-only : goal.returns-then-is_some-clause-only
-returns-then-is_some-clause-only g c = puts_look _ _ _ _ _ _ (puts_none _ _ _ _ refl) c.in_ok-follow.ensures.step tt
+returns-then-is_some-clause-only g c = (0, puts_look _ _ _ _ _ _ _ (puts_none _ _ _ _ _ refl) c.in_ok-follow.ensures.step tt)
 
 pub returns-clause-only : goal.returns-clause-only
-returns-clause-only g c = puts_chain _ _ _ _ _ (puts_look _ _ _ _ _ _ (puts_none _ _ _ _ refl) c.in_ok-follow.ensures.step tt) c.make_log.ensures.only
+returns-clause-only g c = (_, puts_chain _ _ _ _ _ _ (puts_look _ _ _ _ _ _ _ (puts_none _ _ _ _ _ refl) c.in_ok-follow.ensures.step tt) c.make_log.ensures.only.1)
 
 pub returns-clause-failed : goal.returns-clause-failed
 returns-clause-failed g c = λ none. left_after_look _ _ _ _ _ (string_bytes c.args.self.now.paths.text) None c.args.lines.now _ _ _ (ap (option_map (λ log. g.F.Folder.file_of log.file)) none) (quiet_one _ _ _ c.in_ok-follow.ensures.step tt) c.make_log.ensures.failed

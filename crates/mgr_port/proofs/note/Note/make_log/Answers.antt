@@ -32,24 +32,28 @@ returns-in_ok-read_to-in-Ok-clause-failed g c =
     left_log _ c.in-Ok.named _ _ _ _ _ _ _ _ _ _ (put_log _ _ _ _ _ _ _ _ (steps_to c.in-Ok.named c.args.lines.now) _ _ _ _ c.as_str-path.ensures.value (c.file_of-log.ensures g.F.Folder.file_of) c.in_ok-make_room.ensures.made c.in_ok-next.ensures.taken c.in_ok-next.ensures.only c.in-Ok.ensures.named) (only_chain _ _ _ (quiet_one _ _ _ c.in_ok-length-in-Ok.ensures.step tt) c.in_ok-read_to-in-Ok.ensures.quiet)
 
 pub returns-in_err-next-clause-only : goal.returns-in_err-next-clause-only
-returns-in_err-next-clause-only g c =
-    puts_chain _ _ _ _ _ (puts_at _ _ _ _ c.in_ok-make_room.ensures.only) (puts_at _ _ _ _ (at_path _ _ _ _ c.as_str-path.ensures.value c.in_err-next.ensures.only))
+returns-in_err-next-clause-only g c = (0, puts_chain _ _ _ _ _ _ (puts_at _ _ _ _ _ c.in_ok-make_room.ensures.only) (puts_at _ _ _ _ _ (at_path _ _ _ _ c.as_str-path.ensures.value c.in_err-next.ensures.only)))
 
 pub returns-in-Err-clause-only : goal.returns-in-Err-clause-only
-returns-in-Err-clause-only g c =
-    puts_chain _ _ _ _ _ (puts_chain _ _ _ _ _ (puts_at _ _ _ _ c.in_ok-make_room.ensures.only) (puts_at _ _ _ _ (at_path _ _ _ _ c.as_str-path.ensures.value c.in_ok-next.ensures.only)))
-    c.name_next.ensures.only
+returns-in-Err-clause-only g c = (
+  _,
+  puts_chain _ _ _ _ _ _ (puts_chain _ _ _ _ _ _ (puts_at _ _ _ _ _ c.in_ok-make_room.ensures.only) (puts_at _ _ _ _ _ (at_path _ _ _ _ c.as_str-path.ensures.value c.in_ok-next.ensures.only)))
+      c.name_next.ensures.only,
+)
 
 pub returns-in_err-length-in-Ok-clause-only : goal.returns-in_err-length-in-Ok-clause-only
-returns-in_err-length-in-Ok-clause-only g c =
-    puts_chain _ _ _ _ _
-    (puts_chain _ _ _ _ _ (puts_chain _ _ _ _ _ (puts_at _ _ _ _ c.in_ok-make_room.ensures.only) (puts_at _ _ _ _ (at_path _ _ _ _ c.as_str-path.ensures.value c.in_ok-next.ensures.only))) c.name_next.ensures.only)
-    (puts_none _ _ _ _ c.in_err-length-in-Ok.ensures.step)
+returns-in_err-length-in-Ok-clause-only g c = (
+  _,
+  puts_chain _ _ _ _ _ _
+      (puts_chain _ _ _ _ _ _ (puts_chain _ _ _ _ _ _ (puts_at _ _ _ _ _ c.in_ok-make_room.ensures.only) (puts_at _ _ _ _ _ (at_path _ _ _ _ c.as_str-path.ensures.value c.in_ok-next.ensures.only))) c.name_next.ensures.only)
+      (puts_none _ _ _ _ _ c.in_err-length-in-Ok.ensures.step),
+)
 
 pub returns-in_err-read_to-in-Ok-clause-only : goal.returns-in_err-read_to-in-Ok-clause-only
-returns-in_err-read_to-in-Ok-clause-only g c =
-    puts_chain _ _ _ _ _ (puts_look _ _ _ _ _ _ (puts_chain _ _ _ _ _ (puts_chain _ _ _ _ _ (puts_at _ _ _ _ c.in_ok-make_room.ensures.only) (puts_at _ _ _ _ (at_path _ _ _ _ c.as_str-path.ensures.value c.in_ok-next.ensures.only))) c.name_next.ensures.only) c.in_ok-length-in-Ok.ensures.step tt) (puts_quiet _ _ _ _ c.in_err-read_to-in-Ok.ensures.quiet)
+returns-in_err-read_to-in-Ok-clause-only g c = (_, puts_chain _ _ _ _ _ _ (puts_look _ _ _ _ _ _ _ (puts_chain _ _ _ _ _ _ (puts_chain _ _ _ _ _ _ (puts_at _ _ _ _ _ c.in_ok-make_room.ensures.only) (puts_at _ _ _ _ _ (at_path _ _ _ _ c.as_str-path.ensures.value c.in_ok-next.ensures.only))) c.name_next.ensures.only) c.in_ok-length-in-Ok.ensures.step tt) (puts_quiet _ _ _ _ _ c.in_err-read_to-in-Ok.ensures.quiet))
 
 pub returns-in_ok-read_to-in-Ok-clause-only : goal.returns-in_ok-read_to-in-Ok-clause-only
-returns-in_ok-read_to-in-Ok-clause-only g c =
-    puts_chain _ _ _ _ _ (puts_look _ _ _ _ _ _ (puts_chain _ _ _ _ _ (puts_chain _ _ _ _ _ (puts_at _ _ _ _ c.in_ok-make_room.ensures.only) (puts_at _ _ _ _ (at_path _ _ _ _ c.as_str-path.ensures.value c.in_ok-next.ensures.only))) c.name_next.ensures.only) c.in_ok-length-in-Ok.ensures.step tt) (puts_quiet _ _ _ _ c.in_ok-read_to-in-Ok.ensures.quiet)
+returns-in_ok-read_to-in-Ok-clause-only g c = (_, puts_chain _ _ _ _ _ _ (puts_look _ _ _ _ _ _ _ (puts_chain _ _ _ _ _ _ (puts_chain _ _ _ _ _ _ (puts_at _ _ _ _ _ c.in_ok-make_room.ensures.only) (puts_at _ _ _ _ _ (at_path _ _ _ _ c.as_str-path.ensures.value c.in_ok-next.ensures.only))) c.name_next.ensures.only) c.in_ok-length-in-Ok.ensures.step tt) (puts_quiet _ _ _ _ _ c.in_ok-read_to-in-Ok.ensures.quiet))
+
+pub returns-in_err-make_room-clause-only : goal.returns-in_err-make_room-clause-only
+returns-in_err-make_room-clause-only g c = (0, puts_at _ _ _ _ _ c.in_err-make_room.ensures.only)

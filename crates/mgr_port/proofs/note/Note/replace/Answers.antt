@@ -10,7 +10,7 @@ returns-clause-made g c =
     (made_after_look _ _ (λ log. g.F.Folder.file_of log.file) (λ log. log.left) _ _ _ _ _ _ _ _ _ _ _ _ refl c.as_str.ensures.value refl c.in_ok-standing.ensures.step c.make_log.ensures.made)
 
 pub returns-clause-only : goal.returns-clause-only
-returns-clause-only g c = puts_chain _ _ _ _ _ (puts_look _ _ _ _ _ _ (puts_none _ _ _ _ refl) c.in_ok-standing.ensures.step tt) c.make_log.ensures.only
+returns-clause-only g c = (_, puts_chain _ _ _ _ _ _ (puts_look _ _ _ _ _ _ _ (puts_none _ _ _ _ _ refl) c.in_ok-standing.ensures.step tt) c.make_log.ensures.only.1)
 
 pub returns-clause-failed : goal.returns-clause-failed
 returns-clause-failed g c =

@@ -7,7 +7,7 @@ returns-clause-put g c = put_beside _ c.in-Ok.named _ _ _ _ _ _ _ _ _ _ c.settle
 
 pub returns-in-Err-clause-only : goal.returns-in-Err-clause-only
 returns-in-Err-clause-only g c =
-    puts_chain _ _ _ _ _ c.name_next-answer.ensures.only (puts_at _ _ _ _ (at_path _ _ _ _ c.as_str.ensures.value (at_removal _ _ _ _ _ c.remove_open.ensures.tried)))
+    puts_chain _ _ _ _ _ _ c.name_next-answer.ensures.only (puts_at _ _ _ _ _ (at_path _ _ _ _ c.as_str.ensures.value (at_removal _ _ _ _ _ c.remove_open.ensures.tried)))
 
 pub returns-clause-only : goal.returns-clause-only
-returns-clause-only g c = puts_look _ _ _ _ _ _ c.name_next-answer.ensures.only c.in_ok-look_at.ensures.step tt
+returns-clause-only g c = puts_look _ _ _ _ _ _ _ c.name_next-answer.ensures.only c.in_ok-look_at.ensures.step tt

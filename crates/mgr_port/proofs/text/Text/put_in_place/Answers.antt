@@ -8,25 +8,40 @@ returns-clause-put g c =
     (_, _, _, _, _, _, c.in_ok-spare.ensures.kept, written, c.in_ok-write.ensures.step, c.in_ok-sync_dated.ensures.synced, c.in_ok-look_at.ensures.step, refl)
 
 pub returns-in_err-file-clause-only : goal.returns-in_err-file-clause-only
-returns-in_err-file-clause-only g c = λ beside. puts_chain beside _ _ _ _ (puts_spared beside _ _ _ _ _ c.in_ok-spare.ensures.kept) (puts_none beside _ _ _ c.in_err-file.ensures.step)
+returns-in_err-file-clause-only g c = (0, λ beside. puts_chain _ beside _ _ _ _ (puts_spared _ beside _ _ _ _ _ c.in_ok-spare.ensures.kept) (puts_none _ beside _ _ _ c.in_err-file.ensures.step))
 
 pub returns-in_err-write-clause-only : goal.returns-in_err-write-clause-only
-returns-in_err-write-clause-only g c = λ beside.
-    puts_begun beside _ _ _ _ _ _ (puts_step beside _ _ _ _ _ (puts_spared beside _ _ _ _ _ c.in_ok-spare.ensures.kept) c.in_ok-file.ensures.step c.in_ok-spare.ensures.path) c.in_err-write.ensures.step
+returns-in_err-write-clause-only g c = (
+  _,
+  λ beside.
+      puts_begun _ beside _ _ _ _ _ (puts_step _ beside _ _ _ _ _ (puts_spared _ beside _ _ _ _ _ c.in_ok-spare.ensures.kept) c.in_ok-file.ensures.step (c.in_ok-spare.ensures.path, refl)) c.in_err-write.ensures.step,
+)
 
 pub returns-in_err-sync_dated-clause-only : goal.returns-in_err-sync_dated-clause-only
-returns-in_err-sync_dated-clause-only g c = λ beside.
-    let over = puts_step beside _ _ _ _ _ (puts_spared beside _ _ _ _ _ c.in_ok-spare.ensures.kept) c.in_ok-file.ensures.step c.in_ok-spare.ensures.path in
-    puts_chain beside _ _ _ _ (puts_step beside _ _ _ _ _ over c.in_ok-write.ensures.step tt) (puts_idle beside _ _ _ c.in_err-sync_dated.ensures.idle)
+returns-in_err-sync_dated-clause-only g c = (
+  _,
+  λ beside.
+      let over = puts_step _ beside _ _ _ _ _ (puts_spared _ beside _ _ _ _ _ c.in_ok-spare.ensures.kept) c.in_ok-file.ensures.step (c.in_ok-spare.ensures.path, refl) in
+      puts_chain _ beside _ _ _ _ (puts_step _ beside _ _ _ _ _ over c.in_ok-write.ensures.step refl) (puts_idle _ beside _ _ _ c.in_err-sync_dated.ensures.idle),
+)
 
 pub returns-in_err-look_at-clause-only : goal.returns-in_err-look_at-clause-only
-returns-in_err-look_at-clause-only g c = λ beside.
-    let over = puts_step beside _ _ _ _ _ (puts_spared beside _ _ _ _ _ c.in_ok-spare.ensures.kept) c.in_ok-file.ensures.step c.in_ok-spare.ensures.path in
-    let synced = puts_chain beside _ _ _ _ (puts_step beside _ _ _ _ _ over c.in_ok-write.ensures.step tt) (puts_synced beside _ _ _ (Some 100) _ _ c.in_ok-sync_dated.ensures.synced) in
-    puts_chain beside _ _ _ _ synced (puts_none beside _ _ _ c.in_err-look_at.ensures.step)
+returns-in_err-look_at-clause-only g c = (
+  _,
+  λ beside.
+      let over = puts_step _ beside _ _ _ _ _ (puts_spared _ beside _ _ _ _ _ c.in_ok-spare.ensures.kept) c.in_ok-file.ensures.step (c.in_ok-spare.ensures.path, refl) in
+      let synced = puts_chain _ beside _ _ _ _ (puts_step _ beside _ _ _ _ _ over c.in_ok-write.ensures.step refl) (puts_synced _ beside _ _ _ (Some 100) _ _ c.in_ok-sync_dated.ensures.synced) in
+      puts_chain _ beside _ _ _ _ synced (puts_none _ beside _ _ _ c.in_err-look_at.ensures.step),
+)
 
 pub returns-clause-only : goal.returns-clause-only
-returns-clause-only g c = λ beside.
-    let over = puts_step beside _ _ _ _ _ (puts_spared beside _ _ _ _ _ c.in_ok-spare.ensures.kept) c.in_ok-file.ensures.step c.in_ok-spare.ensures.path in
-    let synced = puts_chain beside _ _ _ _ (puts_step beside _ _ _ _ _ over c.in_ok-write.ensures.step tt) (puts_synced beside _ _ _ (Some 100) _ _ c.in_ok-sync_dated.ensures.synced) in
-    puts_look beside _ _ _ _ _ synced c.in_ok-look_at.ensures.step tt
+returns-clause-only g c = (
+  _,
+  λ beside.
+      let over = puts_step _ beside _ _ _ _ _ (puts_spared _ beside _ _ _ _ _ c.in_ok-spare.ensures.kept) c.in_ok-file.ensures.step (c.in_ok-spare.ensures.path, refl) in
+      let synced = puts_chain _ beside _ _ _ _ (puts_step _ beside _ _ _ _ _ over c.in_ok-write.ensures.step refl) (puts_synced _ beside _ _ _ (Some 100) _ _ c.in_ok-sync_dated.ensures.synced) in
+      puts_look _ beside _ _ _ _ _ synced c.in_ok-look_at.ensures.step tt,
+)
+
+pub returns-in_err-spare-clause-only : goal.returns-in_err-spare-clause-only
+returns-in_err-spare-clause-only g c = (0, λ beside. puts_idle _ beside _ _ _ c.in_err-spare.ensures.idle)
