@@ -7,7 +7,7 @@ use Rattle.mgr_port.specs.Folder.{History, FolderStep, Adds, Dates, Empties, End
 use Rattle.mgr_port.specs.Locks.{HoldsEmpty, IsTaken, MakesBeside, StandsFor}
 use Rattle.mgr_port.specs.Naming.{AreApart, Holds, Stands, StandsAfter}
 use Rattle.mgr_port.specs.Notes.{LeavesNext, MakesLog, PutsLog, TakesRights, TakesTextRights}
-use Rattle.mgr_port.specs.Spares.{EndsInTilde, GivesFreeName, IsKept, IsRightsStep, IsShown, IsSpare, IsStepAt, IsStepOf, IsWaitingStep, PutsOnlyAt, WaitsBeside}
+use Rattle.mgr_port.specs.Spares.{ChangesOnlyAt, EndsInTilde, GivesFreeName, IsKept, IsRightsStep, IsShown, IsSpare, IsStepAt, IsStepOf, IsWaitingStep, PutsOnlyAt, WaitsBeside}
 use Rattle.mgr_port.specs.Staging.{DoesAll, KeepsOld, MayDate, SyncsDated, TakesOld}
 use Rattle.mgr_port.specs.Texts.{MakesFor, MakesLike, MakesNextText, PutsBeside, PutsInPlace, PutsText, TakesMode, TakesOwner}
 use Rattle.mgr_port.specs.Verdicts.{AreOfOneFile}
@@ -25,6 +25,7 @@ use Rattle.mgr_port.specs.declared.staged.Staged.{Staged}
 use Rattle.mgr_port.specs.declared.stamp.Stamp.{Stamp}
 use Rattle.mgr_port.proofs.BytesLaws.{IsStill, still, unchanged}
 use Rattle.mgr_port.proofs.FolderLaws.{idle_is_quiet}
+use Rattle.mgr_port.proofs.PlaceLaws.{waits_at}
 
 -- ---- what holds after a step, and held before it
 
@@ -665,14 +666,25 @@ module _ (next : ℕ) (path name : List ℕ) (file : ℕ) (other : file ≢ next
   had_waiting : (a b : History) → WaitsBeside next path name a b → OfTold (HasAfter file found) b → OfTold (HasAfter file found) a
   had_waiting a b waits has = over_only _ (HasAfter file found) wait_bytes a b waits has
 
+-- if none was taken
+spare_bytes : (path : List ℕ) (file : ℕ) (found : List ℕ) (step : FolderStep) → IsQuietStep step ⊎ IsStepAt path step → IsCarried (HasAfter file found) step
+spare_bytes path file found step (inl quiet) = has_over file found step (still step quiet)
+spare_bytes path file found step (inr at) = has_over file found step (at_still path step at)
+
+pub held_early : (stamp_of : ℕ → Stamp) (path name found : List ℕ) (a b : History) → name ≢ path → (EndsInTilde name → ⊥) → ChangesOnlyAt path a b → Holds stamp_of name found b
+    → Holds stamp_of name found a
+held_early stamp_of path name found a b off_path not_kept only (file, stands, has) =
+    (file, stood_waiting stamp_of file path name off_path not_kept file a b (waits_at file path name a b only) stands, over_only _ (HasAfter file found) (spare_bytes path file found) a b only has)
+
 module _ (stamp_of : ℕ → Stamp) (apart : AreApart stamp_of) where
   -- the log is the old one, or has all of the lines
   pub left_holds : (next : ℕ) (old : Option ℕ) (path name text : List ℕ) (standing : Option Look) (lines found : List ℕ) (a b : History) → name ≢ path → (EndsInTilde path → ⊥) → (EndsInTilde name → ⊥)
       → LeavesNext next old path name text standing lines a b → (Stands stamp_of name next a → ⊥) → Holds stamp_of name found b → Holds stamp_of name found a ⊎ (found ≡ lines)
-  left_holds next old path name text standing lines found a b off_path free not_kept (inl waits) not_next (file, stands, has) =
-      let stood = stood_waiting stamp_of next path name off_path not_kept file a b waits stands in
+  left_holds next old path name text standing lines found a b off_path free not_kept (inl (begun, taken, only, took, waits)) not_next (file, stands, has) =
+      let before : WaitsBeside next path name a taken = waits_at next path name a taken only in
+      let stood = stood_waiting stamp_of next path name off_path not_kept file a taken before (stood_waiting stamp_of next path name off_path not_kept file taken b waits stands) in
       let other : file ≢ next = λ same. not_next (subst (λ f. Stands stamp_of name f a) same stood) in
-      inl (file, stood, had_waiting next path name file other found a b waits has)
+      inl (file, stood, had_waiting next path name file other found a taken before (had_waiting next path name file other found taken b waits has))
   left_holds next old path name text standing lines found a b off_path free not_kept (inr (n, begun, put, puts, quiet)) not_next (file, stands, has) =
       let there = over_only IsQuietStep (StandsAfter stamp_of name file) (quiet_names stamp_of name file) put b quiet stands in
       let whole = over_only IsQuietStep (HasAfter file found) (λ step q. has_over file found step (still step q)) put b quiet has in

@@ -17,7 +17,7 @@ use Rattle.mgr_port.specs.declared.staged.Named.{Named}
 use Rattle.mgr_port.specs.declared.staged.Named.TheVariants as named
 use Rattle.mgr_port.specs.declared.staged.Staged.{Staged}
 use Rattle.mgr_port.specs.declared.stamp.Stamp.{Stamp}
-use Rattle.mgr_port.proofs.PlaceLaws.{waits_chain, waits_quiet}
+use Rattle.mgr_port.proofs.PlaceLaws.{at_chain, at_quiet}
 
 -- the next log has its rights, and the name
 pub named_log : {E : Type 0} (r : Result Named E) (file : ℕ) (log : Option ℕ) (s : Staged) (path name text spelled : List ℕ) (standing : Option Look) (lines : List ℕ) (before righted now : History)
@@ -52,22 +52,28 @@ made_log (Ok x) (named.Unsettled error) was file path name text standing lines l
 pub left_log : {A E : Type 0} (r : Result A E) (n : Named) (was : Option ℕ) (file : ℕ) (path name text : List ℕ) (standing : Option Look) (lines : List ℕ) (before put now : History)
     → PutsLog was file path name text standing (steps_to n lines) before put → IsQuiet put now → OnErr r (LeavesLog was path name text standing lines before now)
 left_log (Ok x) n was file path name text standing lines before put now puts quiet = tt
-left_log (Err e) n was file path name text standing lines before put now puts quiet = (file, inr (n, before, put, puts, quiet))
+left_log (Err e) n was file path name text standing lines before put now puts quiet = inr (file, inr (n, before, put, puts, quiet))
 
 -- it waited when that was tried
-pub left_early : {A E : Type 0} (r : Result A E) (was : Option ℕ) (file : ℕ) (path name text : List ℕ) (standing : Option Look) (lines : List ℕ) (before now : History)
-    → WaitsBeside file path name before now → OnErr r (LeavesLog was path name text standing lines before now)
-left_early (Ok x) was file path name text standing lines before now waits = tt
-left_early (Err e) was file path name text standing lines before now waits = (file, inl waits)
+pub left_waiting : (was : Option ℕ) (file : ℕ) (path spelled name text : List ℕ) (standing : Option Look) (lines : List ℕ) (before begun taken now : History) → spelled ≡ path
+    → ChangesOnlyAt path before taken → IsTaken file spelled begun taken → WaitsBeside file path name taken now → LeavesLog was path name text standing lines before now
+left_waiting was file path spelled name text standing lines before begun taken now is only took waits = inr (file, inl (begun, taken, only, subst (λ p. IsTaken file p begun taken) is took, waits))
+
+-- none was taken
+pub left_early : {A E : Type 0} (r : Result A E) (was : Option ℕ) (path name text : List ℕ) (standing : Option Look) (lines : List ℕ) (before now : History)
+    → ChangesOnlyAt path before now → OnErr r (LeavesLog was path name text standing lines before now)
+left_early (Ok x) was path name text standing lines before now only = tt
+left_early (Err e) was path name text standing lines before now only = inl only
 
 -- the same after a look
 pub left_after_look : {A E : Type 0} (r : Result A E) (was known : Option ℕ) (path name text : List ℕ) (standing : Option Look) (lines : List ℕ) (before looked now : History) → was ≡ known
     → IsQuiet before looked → OnErr r (LeavesLog was path name text standing lines looked now) → OnErr r (LeavesLog known path name text standing lines before now)
 left_after_look (Ok x) was known path name text standing lines before looked now is quiet leaves = tt
-left_after_look (Err e) was known path name text standing lines before looked now is quiet (file, inl waits) =
-    (file, inl (waits_chain file path name before looked now (waits_quiet file path name before looked quiet) waits))
-left_after_look (Err e) was known path name text standing lines before looked now is quiet (file, inr (n, begun, put, puts, last)) =
-    (file, inr (n, begun, put, subst (λ l. PutsLog l file path name text standing (steps_to n lines) begun put) is puts, last))
+left_after_look (Err e) was known path name text standing lines before looked now is quiet (inl only) = inl (at_chain path before looked now (at_quiet path before looked quiet) only)
+left_after_look (Err e) was known path name text standing lines before looked now is quiet (inr (file, inl (begun, taken, only, took, waits))) =
+    inr (file, inl (begun, taken, at_chain path before looked taken (at_quiet path before looked quiet) only, took, waits))
+left_after_look (Err e) was known path name text standing lines before looked now is quiet (inr (file, inr (n, begun, put, puts, last))) =
+    inr (file, inr (n, begun, put, subst (λ l. PutsLog l file path name text standing (steps_to n lines) begun put) is puts, last))
 
 pub left_of_what_stands : {A E : Type 0} (r : Result A E) (P : Option Look → Type 0) (standing : Option Look) → OnErr r (P standing) → OnErr r ((found : Option Look) × P found)
 left_of_what_stands (Ok x) P standing leaves = tt

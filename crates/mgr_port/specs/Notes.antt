@@ -94,11 +94,13 @@ MakesLog old file path name text standing lines left before now =
     (put : History) × (look : Look) × (looked : History) × PutsLog old file path name text standing (whole_steps lines) before put
     × (looked ≡ after (LooksAt file look) put) × IsLeftAt file left look.stamp.length looked now
 
--- It did not get the name; or it did, with all of its bytes, and that may not be on the device.
+-- It was taken, and did not get the name; or it did, with all of its bytes, and that may not be on the device.
 abbrev pub LeavesNext : ℕ → Option ℕ → List ℕ → List ℕ → List ℕ → Option Look → List ℕ → History → History → Type 0
 LeavesNext file old path name text standing lines before now =
-    WaitsBeside file path name before now
+    ((begun : History) × (taken : History) × ChangesOnlyAt path before taken × IsTaken file path begun taken × WaitsBeside file path name taken now)
     ⊎ ((named : Named) × (begun : History) × (put : History) × PutsLog old file path name text standing (steps_to named lines) begun put × IsQuiet put now)
 
+-- the same, or none was taken
 abbrev pub LeavesLog : Option ℕ → List ℕ → List ℕ → List ℕ → Option Look → List ℕ → History → History → Type 0
-LeavesLog old path name text standing lines before now = (file : ℕ) × LeavesNext file old path name text standing lines before now
+LeavesLog old path name text standing lines before now =
+    ChangesOnlyAt path before now ⊎ ((file : ℕ) × LeavesNext file old path name text standing lines before now)

@@ -13,7 +13,7 @@ ghost use Rattle.mgr_port.specs.Bytes.{MayHave, MayStand, OfTold};
 ghost use Rattle.mgr_port.specs.Growth.{AddsFront, IsAdded};
 ghost use Rattle.mgr_port.specs.Naming.{AreApart, Holds, Stands};
 ghost use Rattle.mgr_port.specs.Notes.{LeavesNext, LoadsLog, MakesLog};
-ghost use Rattle.mgr_port.specs.Spares.{EndsInTilde, IsNothing, PutsOnlyAt};
+ghost use Rattle.mgr_port.specs.Spares.{ChangesOnlyAt, EndsInTilde, IsNothing, PutsOnlyAt};
 ghost use Rattle.mgr_port.specs.Texts.{MakesNextText, PutsBeside, PutsText};
 ghost use Rattle.mgr_port.specs.Verdicts.{MayGrow};
 ghost use Rattle.mgr_port.specs.Worlds.{World, Has, Shows, IsLinked, IsMade, IsLeftAlone, IsBare, StoodUnder, Locks};
@@ -177,4 +177,7 @@ pub fn what_stands_elsewhere_is_left()
     ensures bytes { (written file : ℕ) (path name bytes : List ℕ) (old now : History)
         → PutsOnlyAt written path name old now → file ≢ written
         → OfTold (HasAfter file bytes) now → OfTold (HasAfter file bytes) old }
+    ensures early { (stamp_of : ℕ → Stamp) (path name bytes : List ℕ) (old now : History)
+        → ChangesOnlyAt path old now → name ≢ path → (EndsInTilde name → ⊥)
+        → Holds stamp_of name bytes now → Holds stamp_of name bytes old }
 {}

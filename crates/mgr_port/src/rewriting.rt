@@ -4,7 +4,7 @@ ghost use Rattle.mgr_port.specs.Folder.{IsIdle, IsQuiet};
 ghost use Rattle.mgr_port.specs.Locks.{ShowsPlain};
 ghost use Rattle.mgr_port.specs.Rewriting.{EndsLine, KeepsRefused, MakesNextLog, NamesRead};
 ghost use Rattle.mgr_port.specs.Rewriting.{OpensRefused, OpensToRewrite};
-ghost use Rattle.mgr_port.specs.Spares.{ChangesNoName, MakesOnlyBeside, PutsLogOnly, PutsOnlyBeside};
+ghost use Rattle.mgr_port.specs.Spares.{ChangesNoName, MakesOnlyBeside, PutsOnlyAt, PutsOnlyBeside};
 
 use crate::files::take_mode;
 use crate::folder::{Folder, Opening};
@@ -122,7 +122,8 @@ impl<T: Drop> OpenLog<T> {
             (string_bytes paths.now.next_log)
             (string_bytes paths.now.log) self.now.read self.now.refused
             (F.steps folder.old) (F.steps folder.new)) }
-        ensures only { PutsLogOnly paths.now (F.steps folder.old) (F.steps folder.new) }
+        ensures only { PutsOnlyAt (F.file_of next) (string_bytes paths.now.next_log)
+            (string_bytes paths.now.log) (F.steps folder.old) (F.steps folder.new) }
     {
         let staged = Staged {
             path: paths.next_log.as_str(),

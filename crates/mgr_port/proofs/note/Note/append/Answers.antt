@@ -2,7 +2,7 @@ use Rattle.std.proofs.Common.{◌∙◌, None, ap, inl, refl, string_bytes, sym}
 use Rattle.std.specs.Option.{option_map}
 use Rattle.mgr_port.proofs.NotesLaws.{added_to, left_after_look, made_after_look, none_stands}
 use Rattle.mgr_port.proofs.FolderLaws.{quiet_one}
-use Rattle.mgr_port.proofs.PlaceLaws.{puts_added, puts_chain, puts_look, puts_none, waits_look, waits_none}
+use Rattle.mgr_port.proofs.PlaceLaws.{at_look, puts_added, puts_chain, puts_look, puts_none}
 use Rattle.mgr_port.proofs.note.Note.append.Goals as goal
 
 pub returns-in-Some-clause-added : goal.returns-in-Some-clause-added
@@ -25,4 +25,4 @@ pub returns-clause-failed : goal.returns-clause-failed
 returns-clause-failed g c = λ none. left_after_look _ _ _ _ _ (string_bytes c.args.self.now.paths.text) None c.args.lines.now _ _ _ (ap (option_map (λ log. g.F.Folder.file_of log.file)) none) (quiet_one _ _ _ c.in_ok-follow.ensures.step tt) c.make_log.ensures.failed
 
 pub returns-then-is_some-clause-failed : goal.returns-then-is_some-clause-failed
-returns-then-is_some-clause-failed g c = λ none. (0, inl (waits_look _ _ _ _ _ _ _ (waits_none _ _ _ _ _ refl) c.in_ok-follow.ensures.step tt))
+returns-then-is_some-clause-failed g c = λ none. inl (at_look _ _ _ _ c.in_ok-follow.ensures.step tt)

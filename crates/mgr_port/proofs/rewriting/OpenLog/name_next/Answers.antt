@@ -9,12 +9,10 @@ pub returns-in-Ok-clause-named : goal.returns-in-Ok-clause-named
 returns-in-Ok-clause-named g c = named_read _ _ _ _ (record { path = c.as_str.result; name = c.as_str-2.result; later = c.later.result; old = old.Read c.args.self.now.read }) _ _ _ _ _ _ c.settled.ensures c.as_str.ensures.value c.as_str-2.ensures.value c.later.ensures refl c.in-Ok.ensures.named
 
 pub returns-in-Ok-clause-only : goal.returns-in-Ok-clause-only
-returns-in-Ok-clause-only g c = (_, puts_paths _ _ _ _ _ _ _ c.as_str.ensures.value c.as_str-2.ensures.value (puts_whole _ _ _ c.name_written.result last_steps _ _ _ c.name_written.ensures.named c.name_written.ensures.unnamed))
+returns-in-Ok-clause-only g c = (puts_paths _ _ _ _ _ _ _ c.as_str.ensures.value c.as_str-2.ensures.value (puts_whole _ _ _ c.name_written.result last_steps _ _ _ c.name_written.ensures.named c.name_written.ensures.unnamed))
 
 pub returns-clause-only : goal.returns-clause-only
-returns-clause-only g c = (
-  _,
-  puts_chain _ _ _ _ _ _
-      (puts_paths _ _ _ _ _ _ _ c.as_str.ensures.value c.as_str-2.ensures.value (puts_whole _ _ _ c.name_written.result last_steps _ _ _ c.name_written.ensures.named c.name_written.ensures.unnamed))
-      (puts_at _ _ _ _ _ (at_path _ _ _ _ c.as_str.ensures.value (at_removal _ _ _ _ _ c.remove_open.ensures.tried))),
-)
+returns-clause-only g c =
+    puts_chain _ _ _ _ _ _
+    (puts_paths _ _ _ _ _ _ _ c.as_str.ensures.value c.as_str-2.ensures.value (puts_whole _ _ _ c.name_written.result last_steps _ _ _ c.name_written.ensures.named c.name_written.ensures.unnamed))
+    (puts_at _ _ _ _ _ (at_path _ _ _ _ c.as_str.ensures.value (at_removal _ _ _ _ _ c.remove_open.ensures.tried)))
