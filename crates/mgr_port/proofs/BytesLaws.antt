@@ -1,7 +1,7 @@
 -- What becomes of a log's bytes by the steps of a history.
 use Rattle.std.proofs.Common.{◌≡◌, inl, inr, ◌∙◌, ℕ, List, [], ◌∷◌, ◌++◌, true, false, Option, Some, None, length, refl, sym, ap, subst, append_assoc}
 use Rattle.std.proofs.lemmas.List.{append-nil}
-use Rattle.mgr_port.specs.Bytes.{Change, Changes, Clears, HadFront, HasAfter, HasFrontOf, HasLines, IsKnown, IsOnDevice, Persists, MayHave, MayHaveAfter, MayStand, MayStandAfter, Nothing, OfTold, Puts, StandsBehind, Tells, change_of}
+use Rattle.mgr_port.specs.Bytes.{Change, Changes, Clears, HadFront, HasAfter, HasFrontOf, HasLines, IsKnown, IsOnDevice, Persists, MayHave, MayHaveAfter, MaySurvive, MaySurviveAfter, Nothing, OfTold, Puts, SurvivesBehind, Tells, change_of}
 use Rattle.mg_files.specs.Held.{HasBegunLog, Leaves}
 use Rattle.mg_files.specs.declared.port.CallKind.TheVariants.{Append}
 use Rattle.mgr_port.specs.Folder.{History, FolderStep, Adds, Dates, Empties, Ends, EndsInNewline, Follows, GivesTo, Links, Locks, Looks, LooksAt, Makes, Opens, Overwrites, Reads, ReadsAll, Removes, Renames, Resolves, SetsMode, Syncs, SyncsFolder, AreAll, IsQuiet, IsQuietStep, after}
@@ -171,37 +171,37 @@ has_seen log bytes (step ∷ seen) steps (one, all) (old, has, tells) =
 had : (log : ℕ) (bytes : List ℕ) (a b : History) → IsQuiet a b → OfTold (HasAfter log bytes) b → OfTold (HasAfter log bytes) a
 had log bytes a b quiet has = before_told (HasAfter log bytes) a b (has_seen log bytes) quiet has
 
-stands_still : (log : ℕ) (change : Change) (Stands Has : List ℕ → Type 0) (found : List ℕ) → IsStill change → StandsBehind log change Stands Has found → Stands found
-stands_still log Nothing Stands Has found is stands = stands
-stands_still log (Persists file) Stands Has found is stands = stands.0
-stands_still log (Puts file bytes) Stands Has found is stands = absurd is
-stands_still log (Clears file) Stands Has found is stands = absurd is
+survives_still : (log : ℕ) (change : Change) (Survives Has : List ℕ → Type 0) (found : List ℕ) → IsStill change → SurvivesBehind log change Survives Has found → Survives found
+survives_still log Nothing Survives Has found is survives = survives
+survives_still log (Persists file) Survives Has found is survives = survives.0
+survives_still log (Puts file bytes) Survives Has found is survives = absurd is
+survives_still log (Clears file) Survives Has found is survives = absurd is
 
-stands_seen : (log : ℕ) (found : List ℕ) (seen steps : List FolderStep) → AreAll IsQuietStep seen → MayStandAfter log found (seen ++ steps) → MayStandAfter log found steps
-stands_seen log found [] steps all stands = stands
-stands_seen log found (step ∷ seen) steps (one, all) stands =
-    stands_seen log found seen steps all
-    (stands_still log (change_of step) (λ l. MayStandAfter log l (seen ++ steps)) (λ l. HasAfter log l (seen ++ steps)) found (still step one) stands)
+survives_seen : (log : ℕ) (found : List ℕ) (seen steps : List FolderStep) → AreAll IsQuietStep seen → MaySurviveAfter log found (seen ++ steps) → MaySurviveAfter log found steps
+survives_seen log found [] steps all survives = survives
+survives_seen log found (step ∷ seen) steps (one, all) survives =
+    survives_seen log found seen steps all
+    (survives_still log (change_of step) (λ l. MaySurviveAfter log l (seen ++ steps)) (λ l. HasAfter log l (seen ++ steps)) found (still step one) survives)
 
-stood : (log : ℕ) (found : List ℕ) (a b : History) → IsQuiet a b → MayStand log b found → MayStand log a found
-stood log found a b quiet stands = before_told (MayStandAfter log found) a b (stands_seen log found) quiet stands
+survived : (log : ℕ) (found : List ℕ) (a b : History) → IsQuiet a b → MaySurvive log b found → MaySurvive log a found
+survived log found a b quiet survives = before_told (MaySurviveAfter log found) a b (survives_seen log found) quiet survives
 
 none_of : (lines bytes found : List ℕ) → found ≡ bytes → HasFrontOf lines bytes found
 none_of lines bytes found is = ([], lines, refl, is ∙ sym (append-nil bytes))
 
 -- some of these bytes are there, or none
-front_stands : (log : ℕ) (front bytes found : List ℕ) (a b c : History) → IsOnDevice log a bytes → IsQuiet a b → c ≡ after (Adds log front) b → MayStand log c found
+front_survives : (log : ℕ) (front bytes found : List ℕ) (a b c : History) → IsOnDevice log a bytes → IsQuiet a b → c ≡ after (Adds log front) b → MaySurvive log c found
     → HasFrontOf front bytes found
-front_stands log front bytes found a None c device quiet put stands = absurd (subst (λ h. MayStand log h found) put stands)
-front_stands log front bytes found a (Some steps) c device quiet put stands = elim (subst (λ h. MayStand log h found) put stands) [
-  | inl before ↦ none_of front bytes found (device.stands found (stood log found a (Some steps) quiet before))
+front_survives log front bytes found a None c device quiet put survives = absurd (subst (λ h. MaySurvive log h found) put survives)
+front_survives log front bytes found a (Some steps) c device quiet put survives = elim (subst (λ h. MaySurvive log h found) put survives) [
+  | inl before ↦ none_of front bytes found (device.survives found (survived log found a (Some steps) quiet before))
   | inr (was, part, more, this, has, cut, is) ↦ (part, more, cut, is ∙ ap (λ l. l ++ part) (device.has was (had log was a (Some steps) quiet has)))
 ]
 
-pub torn : (log : ℕ) (lines bytes found : List ℕ) (a b : History) → AddsFront log lines a b → IsOnDevice log a bytes → MayStand log b found → HasFrontOf lines bytes found
-torn log lines bytes found a b (inl quiet) device stands = none_of lines bytes found (device.stands found (stood log found a b quiet stands))
-torn log lines bytes found a b (inr (front, rest, shown, added, parts, first, put, last)) device stands =
-    let s = front_stands log front bytes found a shown added device first put (stood log found added b last stands) in
+pub torn : (log : ℕ) (lines bytes found : List ℕ) (a b : History) → AddsFront log lines a b → IsOnDevice log a bytes → MaySurvive log b found → HasFrontOf lines bytes found
+torn log lines bytes found a b (inl quiet) device survives = none_of lines bytes found (device.survives found (survived log found a b quiet survives))
+torn log lines bytes found a b (inr (front, rest, shown, added, parts, first, put, last)) device survives =
+    let s = front_survives log front bytes found a shown added device first put (survived log found added b last survives) in
     (s.0, s.1 ++ rest, parts ∙ ap (λ l. l ++ rest) s.2 ∙ append_assoc s.0 s.1 rest, s.3)
 
 -- what it has behind lines that were put there
@@ -217,16 +217,16 @@ added_known log path left lines longer bytes a b (shown, added, shows, put, late
     has_lines log lines bytes now a shown added known (shown_quiet log path left a shown shows) put (had log now added b (longer_quiet log path left longer added b later) has)
 
 -- what is brought to the device stands there
-on_device : (log : ℕ) (found : List ℕ) (a b : History) → b ≡ after (Syncs log) a → MayStand log b found → OfTold (HasAfter log found) a
-on_device log found None b is stands = absurd (subst (λ h. MayStand log h found) is stands)
-on_device log found (Some steps) b is stands = (subst (λ h. MayStand log h found) is stands).1 refl
+on_device : (log : ℕ) (found : List ℕ) (a b : History) → b ≡ after (Syncs log) a → MaySurvive log b found → OfTold (HasAfter log found) a
+on_device log found None b is survives = absurd (subst (λ h. MaySurvive log h found) is survives)
+on_device log found (Some steps) b is survives = (subst (λ h. MaySurvive log h found) is survives).1 refl
 
 pub lines_are_on_device : (log : ℕ) (path : List ℕ) (left : LeftLog) (lines : List ℕ) (longer : LeftLog) (bytes : List ℕ) (a b : History) → IsAdded log path left lines longer a b
     → IsKnown log a bytes → IsOnDevice log b (bytes ++ lines)
 lines_are_on_device log path left lines longer bytes a b (shown, added, shows, put, later) known = record {
-  stands = λ found stands.
+  survives = λ found survives.
       has_lines log lines bytes found a shown added known (shown_quiet log path left a shown shows) put
-      (on_device log found added later.1 later.4 (stood log found later.1 b (synced_quiet log path left longer added b later) stands));
+      (on_device log found added later.1 later.4 (survived log found later.1 b (synced_quiet log path left longer added b later) survives));
   has = added_known log path left lines longer bytes a b (shown, added, shows, put, later) known;
 }
 

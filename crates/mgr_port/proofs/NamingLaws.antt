@@ -1,15 +1,15 @@
 -- What stands under a name once a file has taken it.
-use Rattle.std.proofs.Common.{◌≡◌, ◌≢◌, ◌⊎◌, inl, inr, ◌∙◌, ℕ, List, [], ◌∷◌, ◌++◌, Bool, true, false, Option, Some, None, codes, refl, sym, ap, subst, append_assoc, arith, length}
+use Rattle.std.proofs.Common.{◌≡◌, ◌≢◌, ◌⊎◌, inl, inr, ◌∙◌, ℕ, List, [], ◌∷◌, ◌++◌, Bool, true, false, Option, Some, None, codes, refl, sym, ap, subst, append_assoc, arith, length, suc}
 use Rattle.std.proofs.lemmas.List.{append-nil, length-append}
 use Rattle.mgr_port.specs.Bytes.{HadFront, HasAfter, IsKnown, MayHave, MayHaveAfter, OfTold, Tells, change_of}
 use Rattle.mgr_port.specs.Disk.{last_steps, steps_to}
 use Rattle.mgr_port.specs.Folder.{History, FolderStep, Adds, Dates, Empties, Ends, EndsInNewline, Follows, GivesTo, Links, Locks, Looks, LooksAt, Makes, Opens, Overwrites, Reads, ReadsAll, Removes, Renames, Resolves, SetsMode, Syncs, SyncsFolder, AreAll, IsIdle, IsIdleStep, IsQuietStep, Only, after}
 use Rattle.mgr_port.specs.Locks.{HoldsEmpty, IsTaken, MakesBeside, StandsFor}
 use Rattle.mgr_port.specs.Naming.{AreApart, Holds, Stands, StandsAfter}
-use Rattle.mgr_port.specs.Notes.{LeavesNext, MakesLog, PutsLog, TakesRights, TakesTextRights}
-use Rattle.mgr_port.specs.Spares.{ChangesOnlyAt, EndsInTilde, GivesFreeName, IsKept, IsRightsStep, IsShown, IsSpare, IsStepAt, IsStepOf, IsWaitingStep, PutsOnlyAt, WaitsBeside}
+use Rattle.mgr_port.specs.Notes.{LeavesLog, LeavesNext, MakesLog, PutsLog, TakesRights, TakesTextRights}
+use Rattle.mgr_port.specs.Spares.{ChangesOnlyAt, EndsInTilde, GivesFreeName, IsKept, IsRightsStep, IsShown, IsSpare, IsStepAt, IsStepOf, IsWaitingStep, MakesOnlyAt, PutsOnlyAt, WaitsBeside}
 use Rattle.mgr_port.specs.Staging.{DoesAll, KeepsOld, MayDate, SyncsDated, TakesOld}
-use Rattle.mgr_port.specs.Texts.{MakesFor, MakesLike, MakesNextText, PutsBeside, PutsInPlace, PutsText, TakesMode, TakesOwner}
+use Rattle.mgr_port.specs.Texts.{LeavesNextText, MakesFor, MakesLike, MakesNextText, NamesText, PutsBeside, PutsInPlace, PutsText, TakesMode, TakesOwner, TriesText, WritesBeside, WritesInPlace}
 use Rattle.mgr_port.specs.Verdicts.{AreOfOneFile}
 use Rattle.mgr_port.specs.declared.folder.Opening.TheVariants as opening
 use Rattle.mgr_port.specs.declared.log.LeftLog.{LeftLog}
@@ -25,7 +25,7 @@ use Rattle.mgr_port.specs.declared.staged.Staged.{Staged}
 use Rattle.mgr_port.specs.declared.stamp.Stamp.{Stamp}
 use Rattle.mgr_port.proofs.BytesLaws.{IsStill, still, unchanged}
 use Rattle.mgr_port.proofs.FolderLaws.{idle_is_quiet}
-use Rattle.mgr_port.proofs.PlaceLaws.{waits_at}
+use Rattle.mgr_port.proofs.PlaceLaws.{puts_chain, puts_none, puts_step, waits_at}
 
 -- ---- what holds after a step, and held before it
 
@@ -247,7 +247,7 @@ module _ (stamp_of : ℕ → Stamp) (path : List ℕ) (file : ℕ) where
 
   quiet_names : (step : FolderStep) → IsQuietStep step → IsCarried At step
   quiet_names (Looks other seen) quiet steps s = s
-  quiet_names (Follows other None) quiet steps s = s
+  quiet_names (Follows other None) quiet steps s = s.1
   quiet_names (Follows other (Some look)) quiet steps s = s.1
   quiet_names (Resolves other target) quiet steps s = s
   quiet_names (LooksAt opened look) quiet steps s = s.1
@@ -345,21 +345,41 @@ module _ (stamp_of : ℕ → Stamp) (path : List ℕ) (file : ℕ) where
   is_taken which a b apart (inl stands) here = is_shown which a b apart stands here
   is_taken which a b apart (inr (old, opened, opens, held)) here = is_held which opened b apart held here
 
-  -- it is a file that was made there
-  is_made : (which mode : ℕ) (a b : History) → MakesBeside which path mode a b → Here b → file ≡ which
-  is_made which mode a b (cleared, way, is) here = told_fact _ cleared (told_more _ _ cleared (λ steps s. s.0 refl) (told At (Opens which path (opening.New mode)) cleared b is here))
-
-  made_like : (which : ℕ) (like : Look) (a b : History) → MakesLike which path like a b → Here b → file ≡ which
-  made_like which like a b (made, owned, makes, owner, is) here =
-      is_made which 0 a made makes (stood_owner which like.owner true made owned owner (stood (SetsMode which like.mode) owned b (λ steps s. s) is here))
-
-  made_for : (which : ℕ) (found : Option Look) (is_there : Bool) (a b : History) → MakesFor which path found is_there a b → Here b → file ≡ which
-  made_for which None is_there a b makes here = is_made which 438 a b makes here
-  made_for which (Some look) is_there a b (plain, there, makes) here = made_like which look a b makes here
+  -- it is shown to stand for none
+  is_not_there : (a : History) → Here (after (Follows path None) a) → ⊥
+  is_not_there None here = here
+  is_not_there (Some steps) here = here.0 refl
 
   -- it is a file that was written over
   is_overwritten : (which : ℕ) (a b : History) → b ≡ after (Overwrites which path) a → Here b → file ≡ which
   is_overwritten which a b is here = told_fact _ a (told_more _ _ a (λ steps s. s.0 refl) (told At (Overwrites which path) a b is here))
+
+-- what is so of a path as soon as a file is made beside a text
+module _ (stamp_of : ℕ → Stamp) (path : List ℕ) (file which : ℕ) (beside : List ℕ) (X : Type 0)
+    (at_once : (mode : ℕ) (steps : List FolderStep) → StandsAfter stamp_of path file (Opens which beside (opening.New mode) ∷ steps) → X) where
+  once_made : (mode : ℕ) (a b : History) → MakesBeside which beside mode a b → Stands stamp_of path file b → X
+  once_made mode a b (cleared, way, is) here =
+      told_fact X cleared (told_more _ _ cleared (at_once mode) (told (StandsAfter stamp_of path file) (Opens which beside (opening.New mode)) cleared b is here))
+
+  once_like : (like : Look) (a b : History) → MakesLike which beside like a b → Stands stamp_of path file b → X
+  once_like like a b (made, owned, makes, owner, is) here =
+      once_made 0 a made makes (stood_owner stamp_of path file which like.owner true made owned owner (stood stamp_of path file (SetsMode which like.mode) owned b (λ steps s. s) is here))
+
+  once_for : (found : Option Look) (is_there : Bool) (a b : History) → MakesFor which beside found is_there a b → Stands stamp_of path file b → X
+  once_for None is_there a b makes here = once_made 438 a b makes here
+  once_for (Some look) is_there a b (plain, there, makes) here = once_like look a b makes here
+
+  once_next : (name : List ℕ) (is_there : Bool) (a b : History) → MakesNextText which beside name is_there a b → Stands stamp_of path file b → X
+  once_next name is_there a b (found, looked, one, makes) here = once_for found is_there looked b makes here
+
+module _ (stamp_of : ℕ → Stamp) (path : List ℕ) (file which : ℕ) where
+  -- it stands for that file
+  is_made : (name : List ℕ) (is_there : Bool) (a b : History) → MakesNextText which path name is_there a b → Stands stamp_of path file b → file ≡ which
+  is_made name is_there a b makes here = once_next stamp_of path file which path (file ≡ which) (λ mode steps s. s.0 refl) name is_there a b makes here
+
+  -- another path does not
+  is_another : (beside name : List ℕ) (is_there : Bool) (a b : History) → path ≢ beside → MakesNextText which beside name is_there a b → Stands stamp_of path file b → file ≢ which
+  is_another beside name is_there a b off makes here = once_next stamp_of path file which beside (file ≢ which) (λ mode steps s. (s.1 off).0) name is_there a b makes here
 
 -- ---- a file that takes a name
 
@@ -446,14 +466,19 @@ module _ (stamp_of : ℕ → Stamp) (apart : AreApart stamp_of) where
       let whole = had other found (LooksAt file look) put looked tt step (had other found (LooksAt file seen) looked at tt one had_last) in
       put_holds old file path name text standing named.Settled lines found a put free puts (other, there, whole)
 
+  named_text : (log : Option ℕ) (file : ℕ) (path name bytes found : List ℕ) (own : Option Stamp) (is_there : Bool) (n : Named) (seen made b : History) → (EndsInTilde path → ⊥)
+      → MakesNextText file path name is_there seen made → NamesText file log path name bytes own made b n → Holds stamp_of name found b → found ≡ bytes
+  named_text log file path name bytes found own is_there n seen made b free makes (answer, locked, s, no_others, tried, next, does) (other, stands, has) =
+      let beside = whole_names stamp_of other file log s n bytes locked b (λ t. free (subst EndsInTilde next.is_path t)) does (subst (λ m. Stands stamp_of m other b) (sym next.is_name) stands) in
+      let here = stood stamp_of path other (Locks file answer) made locked (λ steps t. t) tried (subst (λ p. Stands stamp_of p other locked) next.is_path beside) in
+      let is : other ≡ file = is_made stamp_of path other file name is_there seen made makes here in
+      whole_bytes file found log s n bytes locked b does (subst (λ f. OfTold (HasAfter f found) b) is has)
+
   text_beside : (log : Option ℕ) (file : ℕ) (path name bytes found : List ℕ) (own now_own : Option Stamp) (is_there : Bool) (seen made b : History) → (EndsInTilde path → ⊥)
       → MakesNextText file path name is_there seen made → PutsBeside file log path name bytes own now_own made b → Holds stamp_of name found b → found ≡ bytes
-  text_beside log file path name bytes found own now_own is_there seen made b free (standing, looked, one, makes) (answer, locked, put, s, look, no_others, tried, next, does, step, is_own) (other, stands, has) =
-      let there = stood_quiet stamp_of name other (LooksAt file look) put b tt step stands in
-      let beside = whole_names stamp_of other file log s named.Settled bytes locked put (λ t. free (subst EndsInTilde next.is_path t)) does (subst (λ n. Stands stamp_of n other put) (sym next.is_name) there) in
-      let here = stood stamp_of path other (Locks file answer) made locked (λ steps t. t) tried (subst (λ p. Stands stamp_of p other locked) next.is_path beside) in
-      let is : other ≡ file = made_for stamp_of path other file standing is_there looked made makes here in
-      whole_bytes file found log s named.Settled bytes locked put does (had file found (LooksAt file look) put b tt step (subst (λ f. OfTold (HasAfter f found) b) is has))
+  text_beside log file path name bytes found own now_own is_there seen made b free makes (answer, locked, put, s, look, no_others, tried, next, does, step, is_own) (other, stands, has) =
+      named_text log file path name bytes found own is_there named.Settled seen made put free makes (answer, locked, s, no_others, tried, next, does)
+      (other, stood_quiet stamp_of name other (LooksAt file look) put b tt step stands, had other found (LooksAt file look) put b tt step has)
 
   text_in_place : (log : Option ℕ) (name bytes found : List ℕ) (own now_own : Option Stamp) (a b : History) → PutsInPlace log name bytes own now_own a b
       → Holds stamp_of name found b → found ≡ bytes
@@ -515,7 +540,7 @@ module _ (stamp_of : ℕ → Stamp) (next : ℕ) (path name here : List ℕ) (fi
   put_names (Opens opened other opening.Write) of steps s = absurd of
   put_names (Opens opened other opening.Add) of steps s = absurd of
   put_names (Opens opened other opening.Beside) of steps s = absurd of
-  put_names (Opens opened other (opening.New mode)) of steps s = s.1 (λ same. off_path (same ∙ of))
+  put_names (Opens opened other (opening.New mode)) of steps s = (s.1 (λ same. off_path (same ∙ of))).1
   put_names (Locks opened lock) of steps s = absurd of
   put_names (Ends opened size end) of steps s = absurd of
   put_names (EndsInNewline opened size newline) of steps s = absurd of
@@ -690,6 +715,18 @@ module _ (stamp_of : ℕ → Stamp) (apart : AreApart stamp_of) where
       let whole = over_only IsQuietStep (HasAfter file found) (λ step q. has_over file found step (still step q)) put b quiet has in
       inr (put_holds stamp_of apart old next path name text standing n lines found begun put free puts (file, there, whole))
 
+  -- there is none, or it has all of the lines
+  pub unmade_holds : (old : Option ℕ) (path name text : List ℕ) (standing : Option Look) (lines found : List ℕ) (a b : History) → name ≢ path → (EndsInTilde path → ⊥) → (EndsInTilde name → ⊥)
+      → LeavesLog old path name text standing lines (after (Follows name None) a) b → Holds stamp_of name found b → found ≡ lines
+  unmade_holds old path name text standing lines found a b off_path free not_kept (inl only) holds =
+      let (file, stands, has) = held_early stamp_of path name found (after (Follows name None) a) b off_path not_kept only holds in
+      absurd (is_not_there stamp_of name file a stands)
+  unmade_holds old path name text standing lines found a b off_path free not_kept (inr (next, leaves)) holds =
+      elim (left_holds next old path name text standing lines found (after (Follows name None) a) b off_path free not_kept leaves (is_not_there stamp_of name next a) holds) [
+        | inl held ↦ absurd (is_not_there stamp_of name held.0 a held.1)
+        | inr is ↦ is
+      ]
+
 -- ---- a log, while a text is put that may fail
 
 -- if another file is written
@@ -732,16 +769,46 @@ module _ (next : ℕ) (path name : List ℕ) (file : ℕ) (other : file ≢ next
   had_elsewhere a b puts has = over_only _ (HasAfter file found) step_bytes a b puts has
 
 module _ (stamp_of : ℕ → Stamp) (path name log : List ℕ) (off_path : log ≢ path) (off_name : log ≢ name) (not_kept : EndsInTilde log → ⊥) where
-  held_elsewhere : (next : ℕ) (found : List ℕ) (a b : History) → PutsOnlyAt next path name a b → (Stands stamp_of log next a → ⊥) → Holds stamp_of log found b → Holds stamp_of log found a
-  held_elsewhere next found a b puts not_next (file, stands, has) =
+  held_elsewhere : (next file : ℕ) (found : List ℕ) (a b : History) → PutsOnlyAt next path name a b → (Stands stamp_of log file a → file ≢ next)
+      → Stands stamp_of log file b → OfTold (HasAfter file found) b → Holds stamp_of log found a
+  held_elsewhere next file found a b puts other stands has =
       let stood = stood_elsewhere stamp_of next path name log file off_path off_name not_kept a b puts stands in
-      let other : file ≢ next = λ same. not_next (subst (λ f. Stands stamp_of log f a) same stood) in
-      (file, stood, had_elsewhere next path name file other found a b puts has)
+      (file, stood, had_elsewhere next path name file (other stood) found a b puts has)
 
-  -- of a text that is put in two ways
-  pub held_twice : (next over : ℕ) (found : List ℕ) (a b c : History) → PutsOnlyAt next path name a b → PutsOnlyAt over path name b c → (Stands stamp_of log next a → ⊥) → (Stands stamp_of log over b → ⊥)
-      → Holds stamp_of log found c → Holds stamp_of log found a
-  held_twice next over found a b c first second not_next not_over holds = held_elsewhere next found a b first not_next (held_elsewhere over found b c second not_over holds)
+  -- no file gets bytes
+  held_made : (found : List ℕ) (a b : History) → MakesOnlyAt path name a b → Holds stamp_of log found b → Holds stamp_of log found a
+  held_made found a b makes (file, stands, has) = held_elsewhere (suc file) file found a b (makes (suc file)) (λ _ e. absurd omega (arith, e)) stands has
+
+  -- a new one does
+  held_beside : (dated : Option ℕ) (bytes found : List ℕ) (own : Option Stamp) (a b : History) → WritesBeside dated path name bytes own a b → Holds stamp_of log found b → Holds stamp_of log found a
+  held_beside dated bytes found own a b (inl is) holds = subst (Holds stamp_of log found) is holds
+  held_beside dated bytes found own a b (inr (next, is_there, seen, makes, puts, left)) (file, stands, has) =
+      held_elsewhere next file found a b puts (λ stood. is_another stamp_of log file next path name is_there seen a off_path makes stood) stands has
+
+  -- one that is not the log's does
+  held_over : (over : ℕ) (found : List ℕ) (a b : History) → WritesInPlace over path name a b → (Stands stamp_of log over b → ⊥) → Holds stamp_of log found b → Holds stamp_of log found a
+  held_over over found a b (inl makes) not_over holds = held_made found a b makes holds
+  held_over over found a b (inr (spared, emptied, makes, is, puts)) not_over (file, stands, has) =
+      let empties = puts_step over path name spared spared emptied (Overwrites over name) (puts_none over path name spared spared refl) is (refl, refl) in
+      let other : file ≢ over = λ same. not_over (subst (λ f. Stands stamp_of log f b) same stands) in
+      held_made found a spared makes (held_elsewhere over file found spared b (puts_chain over path name spared emptied b empties puts) (λ _. other) stands has)
+
+  pub held_tried : (over : ℕ) (dated : Option ℕ) (bytes found : List ℕ) (own : Option Stamp) (a b : History) → TriesText over dated path name bytes own a b → (Stands stamp_of log over b → ⊥)
+      → Holds stamp_of log found b → Holds stamp_of log found a
+  held_tried over dated bytes found own a b (made, put, makes, beside, in_place) not_over holds =
+      held_made found a made makes (held_beside dated bytes found own made put beside (held_over over found put b in_place not_over holds))
+
+-- a text that could not be put beside is the old one, or has all of the bytes
+pub text_left : (stamp_of : ℕ → Stamp) (apart : AreApart stamp_of) (file : ℕ) (log : Option ℕ) (path name bytes found : List ℕ) (own : Option Stamp) (is_there : Bool) (seen made b : History)
+    → name ≢ path → (EndsInTilde path → ⊥) → (EndsInTilde name → ⊥) → MakesNextText file path name is_there seen made → LeavesNextText file log path name bytes own made b
+    → Holds stamp_of name found b → Holds stamp_of name found made ⊎ (found ≡ bytes)
+text_left stamp_of apart file log path name bytes found own is_there seen made b off_path free not_kept makes (inl waits) (other, stands, has) =
+    let stood = stood_waiting stamp_of file path name off_path not_kept other made b waits stands in
+    inl (other, stood, had_waiting file path name other (is_another stamp_of name other file path name is_there seen made off_path makes stood) found made b waits has)
+text_left stamp_of apart file log path name bytes found own is_there seen made b off_path free not_kept makes (inr (n, put, names, quiet)) (other, stands, has) =
+    let there = over_only IsQuietStep (StandsAfter stamp_of name other) (quiet_names stamp_of name other) put b quiet stands in
+    let whole = over_only IsQuietStep (HasAfter other found) (λ step q. has_over other found step (still step q)) put b quiet has in
+    inr (named_text stamp_of apart log file path name bytes found own is_there n seen made put free makes names (other, there, whole))
 
 -- ---- names beside
 
@@ -766,3 +833,6 @@ next_text_is_not_kept name kept = no_kept name 46 (111 ∷ 112 ∷ 115 ∷ 46 �
 -- and has another name than what it is beside
 pub next_log_differs : (name : List ℕ) → name ≢ name ++ codes ".new"
 next_log_differs name same = let long = length-append name (codes ".new") in absurd omega (arith, long, ap length same)
+
+pub next_text_differs : (name : List ℕ) → name ≢ name ++ codes ".ops.text"
+next_text_differs name same = let long = length-append name (codes ".ops.text") in absurd omega (arith, long, ap length same)

@@ -1,5 +1,5 @@
 -- What a note asks of the folder that its files stand in.
-use Rattle.std.proofs.Common.{◌≡◌, inl, inr, ℕ, false, List, Option, Some, None, Result, Ok, Err, IfOk, IfSome, OnErr, OnOk, refl, ap, subst, sym, ◌∙◌}
+use Rattle.std.proofs.Common.{◌≡◌, ◌⊎◌, inl, inr, ℕ, Bool, false, List, Option, Some, None, Result, Ok, Err, IfOk, IfSome, OnErr, OnOk, refl, ap, subst, sym, ◌∙◌}
 use Rattle.std.specs.Option.{option_map}
 use Rattle.std.specs.Prelude.{IsSomeAnd, is_some, string_bytes}
 use Rattle.mgr_port.specs.Disk.{DiskStep, steps_to}
@@ -7,9 +7,9 @@ use Rattle.mgr_port.specs.Folder.{History, Follows, IsQuiet, LooksAt, after}
 use Rattle.mgr_port.specs.Growth.{IsAdded}
 use Rattle.mgr_port.specs.Locks.{IsTaken, OpensLocked}
 use Rattle.mgr_port.specs.Notes.{IsLeftAt, LeavesLog, LoadsLog, MakesLog, MakesRoom, MakesRoomIf, NamesLog, PutsLog, ReadsLog, TakesRights, old_for}
-use Rattle.mgr_port.specs.Spares.{ChangesOnlyAt, WaitsBeside}
+use Rattle.mgr_port.specs.Spares.{ChangesOnlyAt, MakesOnlyAt, PutsOnlyAt, WaitsBeside}
 use Rattle.mgr_port.specs.Staging.{DoesAll, IsSettled}
-use Rattle.mgr_port.specs.Texts.{NamesText, PutsBeside, PutsInPlace, PutsText}
+use Rattle.mgr_port.specs.Texts.{LeavesNextText, MakesNextText, NamesText, PutsBeside, PutsInPlace, PutsText, TriesText, WritesBeside, WritesInPlace}
 use Rattle.mgr_port.specs.declared.log.LeftLog.{LeftLog}
 use Rattle.mgr_port.specs.declared.names.Paths.{Paths}
 use Rattle.mgr_port.specs.declared.spare.Look.{Look}
@@ -17,7 +17,6 @@ use Rattle.mgr_port.specs.declared.staged.Named.{Named}
 use Rattle.mgr_port.specs.declared.staged.Named.TheVariants as named
 use Rattle.mgr_port.specs.declared.staged.Staged.{Staged}
 use Rattle.mgr_port.specs.declared.stamp.Stamp.{Stamp}
-use Rattle.mgr_port.proofs.PlaceLaws.{at_chain, at_quiet}
 
 -- the next log has its rights, and the name
 pub named_log : {E : Type 0} (r : Result Named E) (file : ℕ) (log : Option ℕ) (s : Staged) (path name text spelled : List ℕ) (standing : Option Look) (lines : List ℕ) (before righted now : History)
@@ -66,18 +65,18 @@ left_early (Ok x) was path name text standing lines before now only = tt
 left_early (Err e) was path name text standing lines before now only = inl only
 
 -- the same after a look
-pub left_after_look : {A E : Type 0} (r : Result A E) (was known : Option ℕ) (path name text : List ℕ) (standing : Option Look) (lines : List ℕ) (before looked now : History) → was ≡ known
-    → IsQuiet before looked → OnErr r (LeavesLog was path name text standing lines looked now) → OnErr r (LeavesLog known path name text standing lines before now)
-left_after_look (Ok x) was known path name text standing lines before looked now is quiet leaves = tt
-left_after_look (Err e) was known path name text standing lines before looked now is quiet (inl only) = inl (at_chain path before looked now (at_quiet path before looked quiet) only)
-left_after_look (Err e) was known path name text standing lines before looked now is quiet (inr (file, inl (begun, taken, only, took, waits))) =
-    inr (file, inl (begun, taken, at_chain path before looked taken (at_quiet path before looked quiet) only, took, waits))
-left_after_look (Err e) was known path name text standing lines before looked now is quiet (inr (file, inr (n, begun, put, puts, last))) =
-    inr (file, inr (n, begun, put, subst (λ l. PutsLog l file path name text standing (steps_to n lines) begun put) is puts, last))
+pub left_once_seen : {A E : Type 0} (r : Result A E) (was known : Option ℕ) (path name spelled text : List ℕ) (found standing : Option Look) (lines : List ℕ) (before looked now : History)
+    → was ≡ known → spelled ≡ name → found ≡ standing → looked ≡ after (Follows spelled found) before
+    → OnErr r (LeavesLog was path name text standing lines looked now) → OnErr r (IsQuiet before now ⊎ LeavesLog known path name text standing lines (after (Follows name standing) before) now)
+left_once_seen (Ok x) was known path name spelled text found standing lines before looked now is same seen step leaves = tt
+left_once_seen (Err e) was known path name spelled text found standing lines before looked now is same seen step leaves =
+    inr (subst (λ l. LeavesLog l path name text standing lines (after (Follows name standing) before) now) is
+    (subst (λ h. LeavesLog was path name text standing lines h now) (step ∙ ap (λ p. after (Follows p found) before) same ∙ ap (λ l. after (Follows name l) before) seen) leaves))
 
-pub left_of_what_stands : {A E : Type 0} (r : Result A E) (P : Option Look → Type 0) (standing : Option Look) → OnErr r (P standing) → OnErr r ((found : Option Look) × P found)
-left_of_what_stands (Ok x) P standing leaves = tt
-left_of_what_stands (Err e) P standing leaves = (standing, leaves)
+pub left_of_what_stands : {A E : Type 0} (r : Result A E) (Q : Type 0) (P : Option Look → Type 0) (standing : Option Look) → OnErr r (Q ⊎ P standing) → OnErr r (Q ⊎ ((found : Option Look) × P found))
+left_of_what_stands (Ok x) Q P standing leaves = tt
+left_of_what_stands (Err e) Q P standing (inl same) = inl same
+left_of_what_stands (Err e) Q P standing (inr leaves) = inr (standing, leaves)
 
 -- the log that is open has made room
 pub room_made : {A B E : Type 0} (r : Result A E) (o : Option B) (log : B) (file_of : B → ℕ) (path spelled : List ℕ) (a b : History) → o ≡ Some log → spelled ≡ path
@@ -144,3 +143,20 @@ pub put_in_place : {A E : Type 0} (r : Result A E) (log text : Option ℕ) (path
 put_in_place (Err e) log text path name spelled bytes known own now_own before seen now same puts = tt
 put_in_place (Ok x) log text path name spelled bytes known own now_own before seen now same puts =
     inr (known, seen, subst (λ p. PutsInPlace log p bytes known now_own seen now) same puts)
+
+-- a new file was made for it, and written
+pub tried_beside : {A : Type 0} (o : Option A) (next : A) (file_of : A → ℕ) (log : Option ℕ) (path name bytes : List ℕ) (own : Option Stamp) (is_there : Bool) (seen made put : History) → o ≡ Some next
+    → IfSome o (λ file. MakesNextText (file_of file) path name is_there seen made) → PutsOnlyAt (file_of next) path name made put → LeavesNextText (file_of next) log path name bytes own made put
+    → WritesBeside log path name bytes own made put
+tried_beside o next file_of log path name bytes own is_there seen made put there makes puts leaves =
+    inr (file_of next, is_there, seen, subst (λ p. IfSome p (λ file. MakesNextText (file_of file) path name is_there seen made)) there makes, puts, leaves)
+
+-- or it was tried to write it where it stands
+pub tried_in_place : (log : Option ℕ) (path name spelled bytes : List ℕ) (own : Option Stamp) (before made put now : History) → spelled ≡ name → MakesOnlyAt path name before made
+    → WritesBeside log path name bytes own made put → (over : ℕ) × ((beside : List ℕ) → WritesInPlace over beside spelled put now) → (over : ℕ) × TriesText over log path name bytes own before now
+tried_in_place log path name spelled bytes own before made put now same makes beside (over, writes) = (over, (made, put, makes, beside, subst (λ n. WritesInPlace over path n put now) same (writes path)))
+
+-- beside the log of the note
+pub tried_beside_log : (log known : Option ℕ) (path name bytes : List ℕ) (own : Option Stamp) (before now : History) → log ≡ known → (over : ℕ) × TriesText over log path name bytes own before now
+    → (over : ℕ) × TriesText over known path name bytes own before now
+tried_beside_log log known path name bytes own before now is (over, tries) = (over, subst (λ l. TriesText over l path name bytes own before now) is tries)

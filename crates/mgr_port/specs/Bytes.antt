@@ -70,24 +70,24 @@ IsKnown log history bytes = (now : List ℕ) → OfTold (HasAfter log now) histo
 
 -- What may stand there if the machine stops behind a change, by what may if it stops before it, and by what the log has
 -- then: of bytes that are put behind others any beginning; what the log has, once that is on the device.
-abbrev pub StandsBehind : ℕ → Change → (List ℕ → Type 0) → (List ℕ → Type 0) → List ℕ → Type 0
-StandsBehind log Nothing Stands Has found = Stands found
-StandsBehind log (Puts file bytes) Stands Has found =
-    Stands found ⊎ ((was : List ℕ) × (front : List ℕ) × (rest : List ℕ) × (file ≡ log) × Has was × (bytes ≡ front ++ rest) × (found ≡ was ++ front))
-StandsBehind log (Clears file) Stands Has found = Unit {0}
-StandsBehind log (Persists file) Stands Has found = Stands found × (file ≡ log → Has found)
+abbrev pub SurvivesBehind : ℕ → Change → (List ℕ → Type 0) → (List ℕ → Type 0) → List ℕ → Type 0
+SurvivesBehind log Nothing Survives Has found = Survives found
+SurvivesBehind log (Puts file bytes) Survives Has found =
+    Survives found ⊎ ((was : List ℕ) × (front : List ℕ) × (rest : List ℕ) × (file ≡ log) × Has was × (bytes ≡ front ++ rest) × (found ≡ was ++ front))
+SurvivesBehind log (Clears file) Survives Has found = Unit {0}
+SurvivesBehind log (Persists file) Survives Has found = Survives found × (file ≡ log → Has found)
 
-abbrev pub MayStandAfter : ℕ → List ℕ → List FolderStep → Type 0
-MayStandAfter log found [] = Unit {0}
-MayStandAfter log found (step ∷ steps) =
-    StandsBehind log (change_of step) (λ l. MayStandAfter log l steps) (λ l. HasAfter log l steps) found
+abbrev pub MaySurviveAfter : ℕ → List ℕ → List FolderStep → Type 0
+MaySurviveAfter log found [] = Unit {0}
+MaySurviveAfter log found (step ∷ steps) =
+    SurvivesBehind log (change_of step) (λ l. MaySurviveAfter log l steps) (λ l. HasAfter log l steps) found
 
-abbrev pub MayStand : ℕ → History → List ℕ → Type 0
-MayStand log history found = OfTold (MayStandAfter log found) history
+abbrev pub MaySurvive : ℕ → History → List ℕ → Type 0
+MaySurvive log history found = OfTold (MaySurviveAfter log found) history
 
 -- all that a log has is on the device, and that are these bytes
 pub record IsOnDevice (log : ℕ) (history : History) (bytes : List ℕ) : Type 0 where
-  pub stands : (found : List ℕ) → MayStand log history found → found ≡ bytes
+  pub survives : (found : List ℕ) → MaySurvive log history found → found ≡ bytes
   pub has : IsKnown log history bytes
 
 -- a beginning of lines is behind what it had

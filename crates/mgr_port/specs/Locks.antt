@@ -1,5 +1,5 @@
 -- When a file counts as this port's own.
-use Rattle.std.specs.Prelude.{◌≡◌, ◌≢◌, ◌⊎◌, ℕ, List, Bool, true, false, Option, Some, None}
+use Rattle.std.specs.Prelude.{◌≡◌, ◌≢◌, ◌⊎◌, ℕ, List, Bool, true, false, Option, Some, None, IfSome, string_bytes}
 use Rattle.mgr_port.specs.Folder.{History, Follows, Locks, Looks, LooksAt, Opens, Reads, Removes, after}
 use Rattle.mgr_port.specs.Spares.{IsNoFile, MakesWay}
 use Rattle.mgr_port.specs.Verdicts.{AreOfOneFile}
@@ -7,6 +7,7 @@ use Rattle.mgr_port.specs.declared.folder.Lock.{Lock}
 use Rattle.mgr_port.specs.declared.folder.Lock.TheVariants as lock
 use Rattle.mgr_port.specs.declared.folder.Opening.{Opening}
 use Rattle.mgr_port.specs.declared.folder.Opening.TheVariants as opening
+use Rattle.mgr_port.specs.declared.names.Paths.{Paths}
 use Rattle.mgr_port.specs.declared.spare.Look.{Look}
 use Rattle.mgr_port.specs.declared.stamp.Stamp.{Stamp}
 
@@ -83,6 +84,12 @@ HoldsInItsPlace file path log old now = (held : History) × HoldsEmpty file path
 -- the same, whatever came before
 abbrev pub HoldsNext : ℕ → List ℕ → List ℕ → History → Type 0
 HoldsNext file path log now = (old : History) × HoldsInItsPlace file path log old now
+
+-- what is locked of a note: its log, and the next one in its place
+abbrev pub LocksNote : {A : Type 0} → (A → ℕ) → Paths → Option A → Option A → History → Type 0
+LocksNote file_of paths log next now =
+    IfSome log (λ file. OpensLocked (file_of file) (string_bytes paths.log) now)
+    × IfSome next (λ file. HoldsNext (file_of file) (string_bytes paths.next_log) (string_bytes paths.log) now)
 
 -- the path stands for the file that was open, or for one that was opened, and is held, and empty
 abbrev pub IsTaken : ℕ → List ℕ → History → History → Type 0

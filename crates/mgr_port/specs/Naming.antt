@@ -1,5 +1,5 @@
 -- Which file a path stands for by the steps of a history, and which bytes are there then, if nobody else takes part.
-use Rattle.std.specs.Prelude.{◌≡◌, ◌≢◌, ℕ, List, [], ◌∷◌, Some}
+use Rattle.std.specs.Prelude.{◌≡◌, ◌≢◌, ℕ, List, [], ◌∷◌, Some, None}
 use Rattle.mgr_port.specs.Bytes.{HasAfter, OfTold}
 use Rattle.mgr_port.specs.Folder.{History, FolderStep, Follows, Links, LooksAt, Makes, Opens, Overwrites, Removes, Renames}
 use Rattle.mgr_port.specs.Verdicts.{AreOfOneFile}
@@ -19,9 +19,10 @@ module _ (stamp_of : ℕ → Stamp) where
   StandsBehind (Removes other) path file Stood = (path ≢ other) × Stood path
   StandsBehind (Makes name bytes) path file Stood = path ≢ name → Stood path
   StandsBehind (Opens opened other opening.Beside) path file Stood = (path ≡ other → file ≡ opened) × (path ≢ other → Stood path)
-  StandsBehind (Opens opened other (opening.New mode)) path file Stood = (path ≡ other → file ≡ opened) × (path ≢ other → Stood path)
+  StandsBehind (Opens opened other (opening.New mode)) path file Stood = (path ≡ other → file ≡ opened) × (path ≢ other → (file ≢ opened) × Stood path)
   StandsBehind (Opens opened other how) path file Stood = (path ≡ other → file ≡ opened) × Stood path
   StandsBehind (Overwrites opened other) path file Stood = (path ≡ other → file ≡ opened) × (path ≢ other → Stood path)
+  StandsBehind (Follows other None) path file Stood = (path ≢ other) × Stood path
   StandsBehind (Follows other (Some look)) path file Stood = (path ≡ other → AreOfOneFile look.stamp (stamp_of file)) × Stood path
   StandsBehind (LooksAt opened look) path file Stood = AreOfOneFile look.stamp (stamp_of opened) × Stood path
   StandsBehind other path file Stood = Stood path

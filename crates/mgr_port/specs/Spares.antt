@@ -158,21 +158,19 @@ IsStepOf file path name other = ⊥
 abbrev pub PutsOnlyAt : ℕ → List ℕ → List ℕ → History → History → Type 0
 PutsOnlyAt file path name old now = Only (λ step. IsQuietStep step ⊎ IsStepAt path step ⊎ IsRightsStep step ⊎ IsStepOf file path name step) old now
 
--- the same at the paths of a log; and at those of a text, of which one file is written beside and then one in place
+-- the same at the paths of a log
 abbrev pub PutsLogOnly : Paths → History → History → Type 0
 PutsLogOnly paths old now = (file : ℕ) × PutsOnlyAt file (string_bytes paths.next_log) (string_bytes paths.log) old now
 
-abbrev pub PutsTextOnly : Paths → History → History → Type 0
-PutsTextOnly paths old now =
-    (next : ℕ) × (over : ℕ) × (put : History) × PutsOnlyAt next (string_bytes paths.next_text) (string_bytes paths.text) old put
-    × PutsOnlyAt over (string_bytes paths.next_text) (string_bytes paths.text) put now
-
--- at this path alone, whatever name its file is to take; no file gets bytes; and at no path
+-- at this path alone, whatever name its file is to take; the same, and no file gets bytes; at both, and none does; at no path
 abbrev pub PutsOnlyBeside : ℕ → List ℕ → History → History → Type 0
 PutsOnlyBeside file path old now = (name : List ℕ) → PutsOnlyAt file path name old now
 
 abbrev pub MakesOnlyBeside : List ℕ → History → History → Type 0
 MakesOnlyBeside path old now = (file : ℕ) → PutsOnlyBeside file path old now
+
+abbrev pub MakesOnlyAt : List ℕ → List ℕ → History → History → Type 0
+MakesOnlyAt path name old now = (file : ℕ) → PutsOnlyAt file path name old now
 
 abbrev pub ChangesNoName : ℕ → History → History → Type 0
 ChangesNoName file old now = (path : List ℕ) → PutsOnlyBeside file path old now

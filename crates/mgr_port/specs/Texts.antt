@@ -1,9 +1,9 @@
 -- How a text, and a new file for it, come under a name.
 use Rattle.std.specs.Prelude.{◌≡◌, ◌≢◌, ◌⊎◌, ℕ, List, Bool, true, false, Option, Some, None}
 use Rattle.mgr_port.specs.Disk.{steps_to, whole_steps}
-use Rattle.mgr_port.specs.Folder.{History, Adds, Follows, GivesTo, Locks, Looks, LooksAt, Opens, Overwrites, SetsMode, after}
+use Rattle.mgr_port.specs.Folder.{History, Adds, Follows, GivesTo, IsQuiet, Locks, Looks, LooksAt, Opens, Overwrites, SetsMode, after}
 use Rattle.mgr_port.specs.Locks.{MakesBeside, OpensLocked}
-use Rattle.mgr_port.specs.Spares.{SparesText}
+use Rattle.mgr_port.specs.Spares.{MakesOnlyAt, PutsOnlyAt, SparesText, WaitsBeside}
 use Rattle.mgr_port.specs.Staging.{DoesAll, SyncsDated}
 use Rattle.mgr_port.specs.Verdicts.{IsDatedBy, mode_like}
 use Rattle.mgr_port.specs.declared.folder.Lock.{Lock}
@@ -96,6 +96,32 @@ PutsText log text path name bytes own now_own before now =
     ((file : ℕ) × (is_there : Bool) × (seen : History) × (made : History) × IsThere name before seen is_there
     × MakesNextText file path name is_there seen made × PutsBeside file log path name bytes own now_own made now × (text ≡ Some file))
     ⊎ ((known : Option Stamp) × (seen : History) × PutsInPlace log name bytes known now_own seen now)
+
+-- ---- what a call that puts a text did, whatever it answers
+
+-- The file beside did not get the name; or it did, with all of its bytes, and that may not be on the device.
+abbrev pub LeavesNextText : ℕ → Option ℕ → List ℕ → List ℕ → List ℕ → Option Stamp → History → History → Type 0
+LeavesNextText file log path name bytes own before now =
+    WaitsBeside file path name before now
+    ⊎ ((named : Named) × (put : History) × NamesText file log path name bytes own before put named × IsQuiet put now)
+
+-- nothing was written beside; or a new file was, and it is left so
+abbrev pub WritesBeside : Option ℕ → List ℕ → List ℕ → List ℕ → Option Stamp → History → History → Type 0
+WritesBeside log path name bytes own before now =
+    (now ≡ before) ⊎ ((file : ℕ) × (is_there : Bool) × (seen : History) × MakesNextText file path name is_there seen before
+    × PutsOnlyAt file path name before now × LeavesNextText file log path name bytes own before now)
+
+-- no file gets bytes; or this one does, which the name stands for, once it is written over
+abbrev pub WritesInPlace : ℕ → List ℕ → List ℕ → History → History → Type 0
+WritesInPlace file path name before now =
+    MakesOnlyAt path name before now ⊎ ((spared : History) × (emptied : History) × MakesOnlyAt path name before spared
+    × (emptied ≡ after (Overwrites file name) spared) × PutsOnlyAt file path name emptied now)
+
+-- A new file may be made, and be written; then this one may be written in place.
+abbrev pub TriesText : ℕ → Option ℕ → List ℕ → List ℕ → List ℕ → Option Stamp → History → History → Type 0
+TriesText over log path name bytes own before now =
+    (made : History) × (put : History) × MakesOnlyAt path name before made × WritesBeside log path name bytes own made put
+    × WritesInPlace over path name put now
 
 -- a text beside a log is this port's own if it is dated by that log; or what it was stays
 abbrev pub IsOwnBeside : {A : Type 0} → Option ℕ → List ℕ → Stamp → Option Stamp → Option Stamp → History → A → Type 0

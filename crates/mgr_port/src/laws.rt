@@ -5,16 +5,16 @@ ghost use Rattle.mgr_port.specs.declared.log.FoundLog.{FoundLog};
 ghost use Rattle.mgr_port.specs.declared.log.LeftLog.{LeftLog};
 ghost use Rattle.mgr_port.specs.declared.spare.Look.{Look};
 ghost use Rattle.mgr_port.specs.declared.stamp.Stamp.{Stamp};
-ghost use Rattle.mgr_port.specs.Folder.{History, IsQuiet};
+ghost use Rattle.mgr_port.specs.Folder.{Follows, History, IsQuiet, after};
 ghost use Rattle.mg_files.specs.Held.{Leaves};
 ghost use Rattle.mg_files.specs.declared.port.CallKind.TheVariants.{Append, PutText, Replace};
 ghost use Rattle.mgr_port.specs.Bytes.{HadFront, HasAfter, HasFrontOf, HasLines, IsKnown, IsOnDevice};
-ghost use Rattle.mgr_port.specs.Bytes.{MayHave, MayStand, OfTold};
+ghost use Rattle.mgr_port.specs.Bytes.{MayHave, MaySurvive, OfTold};
 ghost use Rattle.mgr_port.specs.Growth.{AddsFront, IsAdded};
 ghost use Rattle.mgr_port.specs.Naming.{AreApart, Holds, Stands};
-ghost use Rattle.mgr_port.specs.Notes.{LeavesNext, LoadsLog, MakesLog};
+ghost use Rattle.mgr_port.specs.Notes.{LeavesLog, LeavesNext, LoadsLog, MakesLog};
 ghost use Rattle.mgr_port.specs.Spares.{ChangesOnlyAt, EndsInTilde, IsNothing, PutsOnlyAt};
-ghost use Rattle.mgr_port.specs.Texts.{MakesNextText, PutsBeside, PutsText};
+ghost use Rattle.mgr_port.specs.Texts.{LeavesNextText, MakesNextText, PutsBeside, PutsText, TriesText};
 ghost use Rattle.mgr_port.specs.Verdicts.{MayGrow};
 ghost use Rattle.mgr_port.specs.Worlds.{World, Has, Shows, IsLinked, IsMade, IsLeftAlone, IsBare, StoodUnder, Locks};
 ghost use Rattle.mgr_port.specs.Worlds.{EndsAt, Grows};
@@ -96,7 +96,7 @@ pub fn a_log_that_was_read_only_grows()
 pub fn a_log_is_torn_only_at_its_end()
     ensures torn { (file : ℕ) (lines bytes found : List ℕ) (old now : History)
         → AddsFront file lines old now → IsOnDevice file old bytes
-        → MayStand file now found → HasFrontOf lines bytes found }
+        → MaySurvive file now found → HasFrontOf lines bytes found }
     ensures added { (file : ℕ) (path lines bytes : List ℕ) (left longer : LeftLog)
         (old now : History) → IsAdded file path left lines longer old now
         → IsKnown file old bytes → IsOnDevice file now (bytes ++ lines) }
@@ -105,8 +105,9 @@ pub fn a_log_is_torn_only_at_its_end()
 /// If nobody else writes into a note's files, a call leaves of them what a port is held to (`mg_files`,
 /// `Leaves`). What was read is what the log has; an append leaves all lines behind what it had, or a
 /// beginning of them. A first log, one that is written anew, and a text have all that was put under
-/// their names. A log that could not be written anew is the old one, or has all of the lines; and a text
-/// that could not be put leaves the log, if neither file that it is written into is the log's.
+/// their names. A log that could not be made is not there, or has all of the lines; one that could not be
+/// written anew is the old one, or has them. A text that could not be put leaves the log, unless that
+/// is the file that is written in place; if it is put beside, it is the old one, or has all of the bytes.
 pub fn calls_leave_what_a_port_is_held_to()
     ensures read { (file : ℕ) (path next read : List ℕ) (left : LeftLog) (now : History)
         → LoadsLog file path next read left now → IsKnown file now read }
@@ -134,12 +135,10 @@ pub fn calls_leave_what_a_port_is_held_to()
         → MakesLog before file (name ++ codes ".new") name beside standing lines left old now
         → Holds stamp_of name found now → Leaves Replace true lines
         (record { log = log; text = text }) (record { log = Some found; text = text }) }
-    ensures unmade { (stamp_of : ℕ → Stamp) (before : Option ℕ) (file : ℕ)
-        (name beside lines found : List ℕ) (text : Option (List ℕ)) (old now : History)
-        → AreApart stamp_of → (EndsInTilde name → ⊥)
-        → LeavesNext file before (name ++ codes ".new") name beside None lines old now
-        → ((other : ℕ) → Stands stamp_of name other old → ⊥)
-        → Holds stamp_of name found now → Leaves Append false lines
+    ensures unmade { (stamp_of : ℕ → Stamp) (name beside lines found : List ℕ)
+        (text : Option (List ℕ)) (old now : History) → AreApart stamp_of → (EndsInTilde name → ⊥)
+        → LeavesLog None (name ++ codes ".new") name beside None lines
+        (after (Follows name None) old) now → Holds stamp_of name found now → Leaves Append false lines
         (record { log = None; text = text }) (record { log = Some found; text = text }) }
     ensures unreplaced { (stamp_of : ℕ → Stamp) (before : Option ℕ) (file : ℕ)
         (name beside lines bytes found : List ℕ) (standing : Option Look)
@@ -156,14 +155,20 @@ pub fn calls_leave_what_a_port_is_held_to()
         → PutsText dated held (name ++ codes ".ops.text") name bytes own now_own old now
         → Holds stamp_of name found now → Leaves PutText true bytes
         (record { log = log; text = text }) (record { log = log; text = Some found }) }
-    ensures unput { (stamp_of : ℕ → Stamp) (next over : ℕ)
-        (path name log bytes had found : List ℕ) (text other : Option (List ℕ))
-        (old put now : History) → PutsOnlyAt next path name old put
-        → PutsOnlyAt over path name put now → log ≢ path → log ≢ name → (EndsInTilde log → ⊥)
-        → (Stands stamp_of log next old → ⊥) → (Stands stamp_of log over put → ⊥)
+    ensures unput { (stamp_of : ℕ → Stamp) (over : ℕ) (dated : Option ℕ)
+        (path name log bytes had found : List ℕ) (own : Option Stamp)
+        (text other : Option (List ℕ)) (old now : History)
+        → TriesText over dated path name bytes own old now
+        → log ≢ path → log ≢ name → (EndsInTilde log → ⊥) → (Stands stamp_of log over now → ⊥)
         → ((l : List ℕ) → Holds stamp_of log l old → l ≡ had)
         → Holds stamp_of log found now → Leaves PutText false bytes
         (record { log = Some had; text = text }) (record { log = Some found; text = other }) }
+    ensures beside { (stamp_of : ℕ → Stamp) (file : ℕ) (dated : Option ℕ) (is_there : Bool)
+        (name bytes found : List ℕ) (own : Option Stamp) (seen made now : History)
+        → AreApart stamp_of → (EndsInTilde name → ⊥)
+        → MakesNextText file (name ++ codes ".ops.text") name is_there seen made
+        → LeavesNextText file dated (name ++ codes ".ops.text") name bytes own made now
+        → Holds stamp_of name found now → Holds stamp_of name found made ⊎ (found ≡ bytes) }
 {}
 
 /// A call that puts something under a name, and writes it at a path beside, leaves each other name to

@@ -1,14 +1,14 @@
 //! The files of one note, as this port found and left them.
 ghost use Rattle.std.specs.Option.{option_map};
-ghost use Rattle.std.specs.Prelude.{◌≡◌, ℕ, Option, None, IfOk, IfSome, IsSomeAnd, OnErr, OnOk, string_bytes};
+ghost use Rattle.std.specs.Prelude.{◌≡◌, ◌⊎◌, ℕ, Option, None, IfOk, IfSome, IsSomeAnd, OnErr, OnOk, string_bytes};
 ghost use Rattle.mgr_port.specs.Disk.{steps_to};
-ghost use Rattle.mgr_port.specs.Folder.{Follows, after};
+ghost use Rattle.mgr_port.specs.Folder.{Follows, IsQuiet, after};
 ghost use Rattle.mgr_port.specs.Growth.{AddsFront, IsAdded};
-ghost use Rattle.mgr_port.specs.Locks.{HoldsInItsPlace, HoldsNext, IsTaken, OpensLocked};
+ghost use Rattle.mgr_port.specs.Locks.{HoldsInItsPlace, IsTaken, LocksNote};
 ghost use Rattle.mgr_port.specs.Notes.{KeepsPlace, Leaves, LeavesLog, LoadsLog, MakesLog, MakesRoomIf, MayRemoveIf, NamesLog};
 ghost use Rattle.mgr_port.specs.Notes.{ReadsLog, TakesRights, closed, old_for};
-ghost use Rattle.mgr_port.specs.Spares.{ChangesOnlyAt, IsOfFile, PutsLogOnly, PutsOnlyAt, PutsTextOnly, SetsRights, WaitsBeside};
-ghost use Rattle.mgr_port.specs.Texts.{PutsText};
+ghost use Rattle.mgr_port.specs.Spares.{ChangesOnlyAt, IsOfFile, PutsLogOnly, PutsOnlyAt, SetsRights, WaitsBeside};
+ghost use Rattle.mgr_port.specs.Texts.{PutsText, TriesText};
 ghost use Rattle.mgr_port.specs.declared.spare.Look.{Look};
 
 use crate::files::{OWN, take_mode};
@@ -137,10 +137,12 @@ impl<T: Drop> Note<T> {
             (string_bytes self.old.paths.log) (string_bytes self.old.paths.text) None
             lines.now log.left (after (Follows (string_bytes self.old.paths.log) None)
             (F.steps folder.old)) (F.steps folder.new))) }
-        ensures failed { self.old.log ≡ None → OnErr result (LeavesLog None
+        ensures failed { self.old.log ≡ None → OnErr result
+            (IsQuiet (F.steps folder.old) (F.steps folder.new) ⊎ LeavesLog None
             (string_bytes self.old.paths.next_log) (string_bytes self.old.paths.log)
-            (string_bytes self.old.paths.text) None
-            lines.now (F.steps folder.old) (F.steps folder.new)) }
+            (string_bytes self.old.paths.text) None lines.now
+            (after (Follows (string_bytes self.old.paths.log) None) (F.steps folder.old))
+            (F.steps folder.new)) }
         ensures only { PutsLogOnly self.old.paths (F.steps folder.old) (F.steps folder.new) }
     {
         let path = self.paths.log.as_str();
@@ -165,11 +167,13 @@ impl<T: Drop> Note<T> {
             (string_bytes self.old.paths.log) (string_bytes self.old.paths.text) standing
             lines.now log.left (after (Follows (string_bytes self.old.paths.log) standing)
             (F.steps folder.old)) (F.steps folder.new))) }
-        ensures failed { OnErr result ((standing : Option Look) × LeavesLog
+        ensures failed { OnErr result (IsQuiet (F.steps folder.old) (F.steps folder.new)
+            ⊎ ((standing : Option Look) × LeavesLog
             (option_map (λ log. F.file_of log.file) self.old.log)
-            (string_bytes self.old.paths.next_log)
-            (string_bytes self.old.paths.log) (string_bytes self.old.paths.text) standing
-            lines.now (F.steps folder.old) (F.steps folder.new)) }
+            (string_bytes self.old.paths.next_log) (string_bytes self.old.paths.log)
+            (string_bytes self.old.paths.text) standing lines.now
+            (after (Follows (string_bytes self.old.paths.log) standing) (F.steps folder.old))
+            (F.steps folder.new))) }
         ensures only { PutsLogOnly self.old.paths (F.steps folder.old) (F.steps folder.new) }
     {
         let standing = folder.follow(self.paths.log.as_str())?.found;
@@ -238,7 +242,10 @@ impl<T: Drop> Note<T> {
             (string_bytes self.old.paths.next_text) (string_bytes self.old.paths.text)
             bytes.now self.old.text.own self.new.text.own
             (F.steps folder.old) (F.steps folder.new)) }
-        ensures only { PutsTextOnly self.old.paths (F.steps folder.old) (F.steps folder.new) }
+        ensures only { (over : ℕ) × TriesText over
+            (option_map (λ log. F.file_of log.file) self.old.log)
+            (string_bytes self.old.paths.next_text) (string_bytes self.old.paths.text)
+            bytes.now self.old.text.own (F.steps folder.old) (F.steps folder.new) }
     {
         self.text
             .put(folder, &self.paths, bytes, file_of(&self.log))
@@ -292,11 +299,8 @@ fn lock_log<F: Folder>(
     folder: &mut F,
     paths: &Paths,
 ) -> io::Result<(Option<F::File>, Option<F::File>)>
-    ensures log { IfOk result (λ locked. IfSome locked.0 (λ file.
-        OpensLocked (F.file_of file) (string_bytes paths.now.log) (F.steps folder.new))) }
-    ensures next { IfOk result (λ locked. IfSome locked.1 (λ file.
-        HoldsNext (F.file_of file) (string_bytes paths.now.next_log) (string_bytes paths.now.log)
-        (F.steps folder.new))) }
+    ensures locked { IfOk result (λ locked. LocksNote F.file_of paths.now locked.0 locked.1
+        (F.steps folder.new)) }
     ensures only { ChangesOnlyAt (string_bytes paths.now.next_log)
         (F.steps folder.old) (F.steps folder.new) }
 {
@@ -313,11 +317,8 @@ fn try_log<F: Folder>(
     folder: &mut F,
     paths: &Paths,
 ) -> io::Result<(Option<F::File>, Option<F::File>)>
-    ensures log { IfOk result (λ locked. IfSome locked.0 (λ file.
-        OpensLocked (F.file_of file) (string_bytes paths.now.log) (F.steps folder.new))) }
-    ensures next { IfOk result (λ locked. IfSome locked.1 (λ file.
-        HoldsNext (F.file_of file) (string_bytes paths.now.next_log) (string_bytes paths.now.log)
-        (F.steps folder.new))) }
+    ensures locked { IfOk result (λ locked. LocksNote F.file_of paths.now locked.0 locked.1
+        (F.steps folder.new)) }
     ensures only { ChangesOnlyAt (string_bytes paths.now.next_log)
         (F.steps folder.old) (F.steps folder.new) }
 {

@@ -1,10 +1,11 @@
 //! A text, as this port found and left it.
 ghost use Rattle.std.specs.Option.{option_map};
-ghost use Rattle.std.specs.Prelude.{◌≡◌, ◌≤◌, List, ℕ, None, Some, IfOk, IfSome, OnOk, string_bytes};
+ghost use Rattle.std.specs.Prelude.{◌≡◌, ◌≤◌, List, ℕ, None, Some, IfOk, IfSome, OnErr, OnOk, string_bytes};
 ghost use Rattle.mgr_port.specs.Folder.{IsQuiet};
 ghost use Rattle.mgr_port.specs.Locks.{IsOwnRead};
-ghost use Rattle.mgr_port.specs.Spares.{MakesOnlyBeside, PutsOnlyAt, PutsTextOnly};
-ghost use Rattle.mgr_port.specs.Texts.{IsOwnBeside, IsThere, MakesLike, MakesNextText, NamesText, PutsBeside, PutsInPlace, PutsText};
+ghost use Rattle.mgr_port.specs.Spares.{MakesOnlyAt, MakesOnlyBeside, PutsOnlyAt, WaitsBeside};
+ghost use Rattle.mgr_port.specs.Texts.{IsOwnBeside, IsThere, LeavesNextText, MakesLike, MakesNextText, NamesText};
+ghost use Rattle.mgr_port.specs.Texts.{PutsBeside, PutsInPlace, PutsText, TriesText, WritesInPlace};
 
 use crate::files::{plain_if_there, take_owner};
 use crate::folder::{Folder, Opening};
@@ -125,7 +126,10 @@ impl<T: Drop> Text<T> {
             (string_bytes paths.now.next_text) (string_bytes paths.now.text)
             bytes.now self.old.own self.new.own
             (F.steps folder.old) (F.steps folder.new)) }
-        ensures only { PutsTextOnly paths.now (F.steps folder.old) (F.steps folder.new) }
+        ensures only { (over : ℕ) × TriesText over
+            (option_map (λ l. F.file_of l.now) log.entry)
+            (string_bytes paths.now.next_text) (string_bytes paths.now.text)
+            bytes.now self.old.own (F.steps folder.old) (F.steps folder.new) }
     {
         self.replaced = None;
         let path = paths.text.as_str();
@@ -158,6 +162,10 @@ impl<T: Drop> Text<T> {
             (option_map (λ l. F.file_of l.now) log.entry) (string_bytes paths.now.next_text)
             (string_bytes paths.now.text) bytes.now self.old.own self.new.own
             (F.steps folder.old) (F.steps folder.new)) }
+        ensures left { LeavesNextText (F.file_of next)
+            (option_map (λ l. F.file_of l.now) log.entry) (string_bytes paths.now.next_text)
+            (string_bytes paths.now.text) bytes.now self.old.own
+            (F.steps folder.old) (F.steps folder.new) }
         ensures only { PutsOnlyAt (F.file_of next) (string_bytes paths.now.next_text)
             (string_bytes paths.now.text) (F.steps folder.old) (F.steps folder.new) }
     {
@@ -186,8 +194,8 @@ impl<T: Drop> Text<T> {
         ensures put { OnOk result (PutsInPlace (option_map (λ l. F.file_of l.now) log.entry)
             path.now bytes.now self.old.own self.new.own
             (F.steps folder.old) (F.steps folder.new)) }
-        ensures only { (file : ℕ) × ((beside : List ℕ)
-            → PutsOnlyAt file beside path.now (F.steps folder.old) (F.steps folder.new)) }
+        ensures only { (over : ℕ) × ((beside : List ℕ)
+            → WritesInPlace over beside path.now (F.steps folder.old) (F.steps folder.new)) }
     {
         let spare = spare_text(folder, path, self.own, bytes, Keeping::ByCopy)?;
         let file = folder.overwrite(spare)?;
@@ -223,6 +231,9 @@ fn name_next<F: Folder>(
     ensures named { IfOk result (NamesText (F.file_of next.now)
         (option_map (λ l. F.file_of l.now) log.entry) (string_bytes paths.now.next_text)
         (string_bytes paths.now.text) bytes.now own (F.steps folder.old) (F.steps folder.new)) }
+    ensures unnamed { OnErr result (WaitsBeside (F.file_of next.now)
+        (string_bytes paths.now.next_text) (string_bytes paths.now.text)
+        (F.steps folder.old) (F.steps folder.new)) }
     ensures only { PutsOnlyAt (F.file_of next.now) (string_bytes paths.now.next_text)
         (string_bytes paths.now.text) (F.steps folder.old) (F.steps folder.new) }
 {
@@ -247,7 +258,7 @@ fn make_next<F: Folder>(
     ensures made { IfOk result (λ o. IfSome o (λ file. MakesNextText (F.file_of file)
         (string_bytes paths.now.next_text)
         (string_bytes paths.now.text) is_there (F.steps folder.old) (F.steps folder.new))) }
-    ensures only { (file : ℕ) → PutsOnlyAt file (string_bytes paths.now.next_text)
+    ensures only { MakesOnlyAt (string_bytes paths.now.next_text)
         (string_bytes paths.now.text) (F.steps folder.old) (F.steps folder.new) }
 {
     let path = paths.next_text.as_str();

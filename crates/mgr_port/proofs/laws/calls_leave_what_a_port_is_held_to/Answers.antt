@@ -1,6 +1,6 @@
 use Rattle.std.proofs.Common.{inl, inr, ℕ, List, Some, None, ap, refl}
 use Rattle.mgr_port.proofs.BytesLaws.{as_appended, as_begun, read_known}
-use Rattle.mgr_port.proofs.NamingLaws.{held_twice, left_holds, log_holds, log_known, next_log_differs, next_log_is_not_kept, next_text_is_not_kept, text_holds}
+use Rattle.mgr_port.proofs.NamingLaws.{held_tried, left_holds, log_holds, log_known, next_log_differs, next_log_is_not_kept, next_text_differs, next_text_is_not_kept, text_holds, text_left, unmade_holds}
 use Rattle.mgr_port.proofs.laws.calls_leave_what_a_port_is_held_to.Goals as goal
 
 pub returns-clause-read : goal.returns-clause-read
@@ -34,13 +34,8 @@ pub returns-clause-known : goal.returns-clause-known
 returns-clause-known c before file path name beside lines standing left old now makes = log_known before file path name beside standing lines left old now makes
 
 pub returns-clause-unmade : goal.returns-clause-unmade
-returns-clause-unmade c stamp_of before file name beside lines found text old now apart not_kept leaves none holds = (
-  elim (left_holds stamp_of apart file before _ name beside None lines found old now (next_log_differs name) (next_log_is_not_kept name) not_kept leaves (none file) holds) [
-    | inl held ↦ absurd (none held.0 held.1)
-    | inr is ↦ inr (ap (λ (l : List ℕ). Some l) is)
-  ],
-  refl,
-)
+returns-clause-unmade c stamp_of name beside lines found text old now apart not_kept leaves holds =
+    (inr (ap (λ (l : List ℕ). Some l) (unmade_holds stamp_of apart None _ name beside None lines found old now (next_log_differs name) (next_log_is_not_kept name) not_kept leaves holds)), refl)
 
 pub returns-clause-unreplaced : goal.returns-clause-unreplaced
 returns-clause-unreplaced c stamp_of before file name beside lines bytes found standing text old now apart not_kept leaves other had holds = (
@@ -52,5 +47,9 @@ returns-clause-unreplaced c stamp_of before file name beside lines bytes found s
 )
 
 pub returns-clause-unput : goal.returns-clause-unput
-returns-clause-unput c stamp_of next over path name log bytes had found text other old put now first second off_path off_name not_kept not_next not_over held holds =
-    ap (λ (l : List ℕ). Some l) (held found (held_twice stamp_of path name log off_path off_name not_kept next over found old put now first second not_next not_over holds))
+returns-clause-unput c stamp_of over dated path name log bytes had found own text other old now tries off_path off_name not_kept not_over held holds =
+    ap (λ (l : List ℕ). Some l) (held found (held_tried stamp_of path name log off_path off_name not_kept over dated bytes found own old now tries not_over holds))
+
+pub returns-clause-beside : goal.returns-clause-beside
+returns-clause-beside c stamp_of file dated is_there name bytes found own seen made now apart not_kept makes leaves holds =
+    text_left stamp_of apart file dated _ name bytes found own is_there seen made now (next_text_differs name) (next_text_is_not_kept name) not_kept makes leaves holds

@@ -1,6 +1,5 @@
 use Rattle.std.proofs.Common.{refl}
-use Rattle.mgr_port.proofs.NotesLaws.{left_after_look, left_of_what_stands, made_after_look, made_of_what_stands}
-use Rattle.mgr_port.proofs.FolderLaws.{quiet_one}
+use Rattle.mgr_port.proofs.NotesLaws.{left_of_what_stands, left_once_seen, made_after_look, made_of_what_stands}
 use Rattle.mgr_port.proofs.PlaceLaws.{puts_chain, puts_look, puts_none}
 use Rattle.mgr_port.proofs.note.Note.replace.Goals as goal
 
@@ -14,4 +13,5 @@ returns-clause-only g c = (_, puts_chain _ _ _ _ _ _ (puts_look _ _ _ _ _ _ _ (p
 
 pub returns-clause-failed : goal.returns-clause-failed
 returns-clause-failed g c =
-    left_of_what_stands _ _ c.in_ok-standing.field-0.found (left_after_look _ _ _ _ _ _ _ c.args.lines.now _ _ _ refl (quiet_one _ _ _ c.in_ok-standing.ensures.step tt) c.make_log.ensures.failed)
+    left_of_what_stands _ _ _ c.in_ok-standing.field-0.found
+    (left_once_seen _ _ _ _ _ _ _ _ _ c.args.lines.now _ _ _ refl c.as_str.ensures.value refl c.in_ok-standing.ensures.step c.make_log.ensures.failed)

@@ -1,6 +1,6 @@
-use Rattle.std.proofs.Common.{refl}
-use Rattle.mgr_port.proofs.NotesLaws.{put_in_place}
-use Rattle.mgr_port.proofs.PlaceLaws.{puts_chain, puts_none, puts_paths, puts_quiet}
+use Rattle.std.proofs.Common.{inl, refl}
+use Rattle.mgr_port.proofs.NotesLaws.{put_in_place, tried_beside, tried_in_place}
+use Rattle.mgr_port.proofs.PlaceLaws.{puts_chain, puts_none, puts_quiet}
 use Rattle.mgr_port.proofs.text.Text.put.Goals as goal
 
 pub returns-in_default-clause-put : goal.returns-in_default-clause-put
@@ -9,44 +9,51 @@ returns-in_default-clause-put g c = put_in_place _ _ _ _ _ _ _ _ _ _ _ _ _ c.as_
 pub returns-in-Err-clause-put : goal.returns-in-Err-clause-put
 returns-in-Err-clause-put g c = put_in_place _ _ _ _ _ _ _ _ _ _ _ _ _ c.as_str-path.ensures.value c.put_in_place-in-Err.ensures.put
 
+pub returns-in_err-is_there-clause-only : goal.returns-in_err-is_there-clause-only
+returns-in_err-is_there-clause-only g c = (0, (_, _, λ file. puts_quiet file _ _ _ _ c.in_err-is_there.ensures.quiet, inl refl, inl (λ file. puts_none file _ _ _ _ refl)))
+
 pub returns-in_err-next-clause-only : goal.returns-in_err-next-clause-only
-returns-in_err-next-clause-only g c = (0, 0, _, puts_chain _ _ _ _ _ _ (puts_quiet _ _ _ _ _ c.in_ok-is_there.ensures.quiet) (c.in_err-next.ensures.only 0), puts_none _ _ _ _ _ refl)
+returns-in_err-next-clause-only g c = (
+  0,
+  (
+    _,
+    _,
+    λ file. puts_chain file _ _ _ _ _ (puts_quiet file _ _ _ _ c.in_ok-is_there.ensures.quiet) (c.in_err-next.ensures.only file),
+    inl refl,
+    inl (λ file. puts_none file _ _ _ _ refl),
+  ),
+)
 
 pub returns-in_default-clause-only : goal.returns-in_default-clause-only
-returns-in_default-clause-only g c = (
-  0,
-  c.put_in_place.ensures.only.0,
-  _,
-  puts_chain _ _ _ _ _ _ (puts_quiet _ _ _ _ _ c.in_ok-is_there.ensures.quiet) (c.in_ok-next.ensures.only 0),
-  puts_paths _ _ _ _ _ _ _ refl c.as_str-path.ensures.value (c.put_in_place.ensures.only.1 _),
-)
+returns-in_default-clause-only g c =
+    tried_in_place _ _ _ _ _ _ _ _ _ _ c.as_str-path.ensures.value (λ file. puts_chain file _ _ _ _ _ (puts_quiet file _ _ _ _ c.in_ok-is_there.ensures.quiet) (c.in_ok-next.ensures.only file))
+    (inl refl) c.put_in_place.ensures.only
 
 pub returns-in-Err-clause-only : goal.returns-in-Err-clause-only
-returns-in-Err-clause-only g c = (
-  _,
-  c.put_in_place-in-Err.ensures.only.0,
-  _,
-  puts_chain _ _ _ _ _ _ (puts_chain _ _ _ _ _ _ (puts_quiet _ _ _ _ _ c.in_ok-is_there.ensures.quiet) (c.in_ok-next.ensures.only _)) c.put_beside.ensures.only,
-  puts_paths _ _ _ _ _ _ _ refl c.as_str-path.ensures.value (c.put_in_place-in-Err.ensures.only.1 _),
-)
+returns-in-Err-clause-only g c =
+    tried_in_place _ _ _ _ _ _ _ _ _ _ c.as_str-path.ensures.value (λ file. puts_chain file _ _ _ _ _ (puts_quiet file _ _ _ _ c.in_ok-is_there.ensures.quiet) (c.in_ok-next.ensures.only file))
+    (tried_beside _ c.in-Some.next g.F.Folder.file_of _ _ _ _ _ _ _ _ _ c.in-Some.is c.in_ok-next.ensures.made c.put_beside.ensures.only c.put_beside.ensures.left) c.put_in_place-in-Err.ensures.only
 
 pub returns-in_default-put_beside-clause-only : goal.returns-in_default-put_beside-clause-only
 returns-in_default-put_beside-clause-only g c = (
-  _,
   0,
-  _,
-  puts_chain _ _ _ _ _ _ (puts_chain _ _ _ _ _ _ (puts_quiet _ _ _ _ _ c.in_ok-is_there.ensures.quiet) (c.in_ok-next.ensures.only _)) c.put_beside.ensures.only,
-  puts_none _ _ _ _ _ refl,
+  (
+    _,
+    _,
+    λ file. puts_chain file _ _ _ _ _ (puts_quiet file _ _ _ _ c.in_ok-is_there.ensures.quiet) (c.in_ok-next.ensures.only file),
+    tried_beside _ c.in-Some.next g.F.Folder.file_of _ _ _ _ _ _ _ _ _ c.in-Some.is c.in_ok-next.ensures.made c.put_beside.ensures.only c.put_beside.ensures.left,
+    inl (λ file. puts_none file _ _ _ _ refl),
+  ),
 )
 
 pub returns-in_default-put_beside-2-clause-only : goal.returns-in_default-put_beside-2-clause-only
 returns-in_default-put_beside-2-clause-only g c = (
-  _,
   0,
-  _,
-  puts_chain _ _ _ _ _ _ (puts_chain _ _ _ _ _ _ (puts_quiet _ _ _ _ _ c.in_ok-is_there.ensures.quiet) (c.in_ok-next.ensures.only _)) c.put_beside.ensures.only,
-  puts_none _ _ _ _ _ refl,
+  (
+    _,
+    _,
+    λ file. puts_chain file _ _ _ _ _ (puts_quiet file _ _ _ _ c.in_ok-is_there.ensures.quiet) (c.in_ok-next.ensures.only file),
+    tried_beside _ c.in-Some.next g.F.Folder.file_of _ _ _ _ _ _ _ _ _ c.in-Some.is c.in_ok-next.ensures.made c.put_beside.ensures.only c.put_beside.ensures.left,
+    inl (λ file. puts_none file _ _ _ _ refl),
+  ),
 )
-
-pub returns-in_err-is_there-clause-only : goal.returns-in_err-is_there-clause-only
-returns-in_err-is_there-clause-only g c = (0, 0, _, puts_quiet _ _ _ _ _ c.in_err-is_there.ensures.quiet, puts_none _ _ _ _ _ refl)
