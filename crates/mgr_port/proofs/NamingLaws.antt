@@ -7,7 +7,7 @@ use Rattle.mgr_port.specs.Folder.{History, FolderStep, Adds, Dates, Empties, End
 use Rattle.mgr_port.specs.Locks.{HoldsEmpty, IsTaken, MakesBeside, StandsFor}
 use Rattle.mgr_port.specs.Naming.{AreApart, Holds, Stands, StandsAfter}
 use Rattle.mgr_port.specs.Notes.{LeavesLog, LeavesNext, MakesLog, PutsLog, TakesRights, TakesTextRights}
-use Rattle.mgr_port.specs.Spares.{ChangesOnlyAt, EndsInTilde, GivesFreeName, IsKept, IsRightsStep, IsShown, IsSpare, IsStepAt, IsStepOf, IsWaitingStep, MakesOnlyAt, PutsOnlyAt, WaitsBeside}
+use Rattle.mgr_port.specs.Spares.{ChangesOnlyAt, EndsInTilde, GivesFreeName, IsKept, IsRightsStep, IsShown, IsSpare, IsNamingStep, IsStepAt, IsStepBeside, IsWaitingStep, MakesOnlyAt, PutsOnlyAt, WaitsBeside}
 use Rattle.mgr_port.specs.Staging.{DoesAll, KeepsOld, MayDate, SyncsDated, TakesOld}
 use Rattle.mgr_port.specs.Texts.{LeavesNextText, MakesFor, MakesLike, MakesNextText, NamesText, PutsBeside, PutsInPlace, PutsText, TakesMode, TakesOwner, TriesText, WritesBeside, WritesInPlace}
 use Rattle.mgr_port.specs.Verdicts.{AreOfOneFile}
@@ -25,7 +25,7 @@ use Rattle.mgr_port.specs.declared.staged.Staged.{Staged}
 use Rattle.mgr_port.specs.declared.stamp.Stamp.{Stamp}
 use Rattle.mgr_port.proofs.BytesLaws.{IsStill, still, unchanged}
 use Rattle.mgr_port.proofs.FolderLaws.{idle_is_quiet}
-use Rattle.mgr_port.proofs.PlaceLaws.{puts_chain, puts_none, puts_step, waits_at}
+use Rattle.mgr_port.proofs.PlaceLaws.{puts_chain, puts_one, waits_at}
 
 -- ---- what holds after a step, and held before it
 
@@ -529,42 +529,73 @@ module _ (stamp_of : ℕ → Stamp) (path here : List ℕ) (file : ℕ) (off_pat
   at_names (Renames other new) at steps s = absurd at
   at_names (Overwrites opened other) at steps s = absurd at
 
-module _ (stamp_of : ℕ → Stamp) (next : ℕ) (path name here : List ℕ) (file : ℕ) (off_path : here ≢ path) (off_name : here ≢ name) (not_kept : EndsInTilde here → ⊥) where
-  put_names : (step : FolderStep) → IsStepOf next path name step → IsCarried (StandsAfter stamp_of here file) step
-  put_names (Looks other seen) of steps s = absurd of
-  put_names (Follows other None) of steps s = absurd of
-  put_names (Follows other (Some look)) of steps s = absurd of
-  put_names (Resolves other target) of steps s = absurd of
-  put_names (LooksAt opened look) of steps s = absurd of
-  put_names (Opens opened other opening.Read) of steps s = absurd of
-  put_names (Opens opened other opening.Write) of steps s = absurd of
-  put_names (Opens opened other opening.Add) of steps s = absurd of
-  put_names (Opens opened other opening.Beside) of steps s = absurd of
-  put_names (Opens opened other (opening.New mode)) of steps s = (s.1 (λ same. off_path (same ∙ of))).1
-  put_names (Locks opened lock) of steps s = absurd of
-  put_names (Ends opened size end) of steps s = absurd of
-  put_names (EndsInNewline opened size newline) of steps s = absurd of
-  put_names (Adds opened bytes) of steps s = s
-  put_names (Empties opened) of steps s = s
-  put_names (SetsMode opened mode) of steps s = absurd of
-  put_names (GivesTo opened owner) of steps s = absurd of
-  put_names (Dates opened log later) of steps s = absurd of
-  put_names (Syncs opened) of steps s = absurd of
-  put_names (SyncsFolder other) of steps s = s
-  put_names (ReadsAll opened bytes) of steps s = absurd of
-  put_names (Reads other bytes) of steps s = absurd of
-  put_names (Links other new) (inl of) steps s = s.1 (λ same. off_name (same ∙ of.1))
-  put_names (Links other new) (inr of) steps s = s.1 (other_new stamp_of path here file off_path not_kept new of.1)
-  put_names (Makes new bytes) of steps s = absurd of
-  put_names (Removes other) of steps s = absurd of
-  put_names (Renames other new) of steps s = (s.1 (λ same. off_name (same ∙ of.1))).1
-  put_names (Overwrites opened other) of steps s = s.1 (λ same. off_name (same ∙ of.0))
+module _ (stamp_of : ℕ → Stamp) (next : ℕ) (path name here : List ℕ) (file : ℕ) (off_path : here ≢ path) (not_kept : EndsInTilde here → ⊥) where
+  waiting_names : (step : FolderStep) → IsWaitingStep next name step → IsCarried (StandsAfter stamp_of here file) step
+  waiting_names (Looks other seen) waiting steps s = absurd waiting
+  waiting_names (Follows other seen) waiting steps s = absurd waiting
+  waiting_names (Resolves other target) waiting steps s = absurd waiting
+  waiting_names (LooksAt opened look) waiting steps s = absurd waiting
+  waiting_names (Opens opened other how) waiting steps s = absurd waiting
+  waiting_names (Locks opened lock) waiting steps s = absurd waiting
+  waiting_names (Ends opened size end) waiting steps s = absurd waiting
+  waiting_names (EndsInNewline opened size newline) waiting steps s = absurd waiting
+  waiting_names (Adds opened bytes) waiting steps s = s
+  waiting_names (Empties opened) waiting steps s = s
+  waiting_names (SetsMode opened mode) waiting steps s = absurd waiting
+  waiting_names (GivesTo opened owner) waiting steps s = absurd waiting
+  waiting_names (Dates opened log later) waiting steps s = absurd waiting
+  waiting_names (Syncs opened) waiting steps s = absurd waiting
+  waiting_names (SyncsFolder other) waiting steps s = absurd waiting
+  waiting_names (ReadsAll opened bytes) waiting steps s = absurd waiting
+  waiting_names (Reads other bytes) waiting steps s = absurd waiting
+  waiting_names (Links other new) waiting steps s = s.1 (other_new stamp_of path here file off_path not_kept new waiting.1)
+  waiting_names (Makes new bytes) waiting steps s = absurd waiting
+  waiting_names (Removes other) waiting steps s = absurd waiting
+  waiting_names (Renames other new) waiting steps s = absurd waiting
+  waiting_names (Overwrites opened other) waiting steps s = absurd waiting
 
-  step_names : (step : FolderStep) → IsQuietStep step ⊎ IsStepAt path step ⊎ IsRightsStep step ⊎ IsStepOf next path name step → IsCarried (StandsAfter stamp_of here file) step
-  step_names step (inl quiet) = quiet_names stamp_of here file step quiet
-  step_names step (inr (inl at)) = at_names stamp_of path here file off_path not_kept step at
-  step_names step (inr (inr (inl rights))) = rights_names stamp_of here file step rights
-  step_names step (inr (inr (inr of))) = put_names step of
+  beside_names : (step : FolderStep) → IsStepBeside next path name step → IsCarried (StandsAfter stamp_of here file) step
+  beside_names step (inl quiet) = quiet_names stamp_of here file step quiet
+  beside_names step (inr (inl at)) = at_names stamp_of path here file off_path not_kept step at
+  beside_names step (inr (inr (inl rights))) = rights_names stamp_of here file step rights
+  beside_names step (inr (inr (inr waiting))) = waiting_names step waiting
+
+  stood_waiting : (a b : History) → WaitsBeside next path name a b → Stands stamp_of here file b → Stands stamp_of here file a
+  stood_waiting a b waits stands = over_only _ (StandsAfter stamp_of here file) beside_names a b waits stands
+
+module _ (stamp_of : ℕ → Stamp) (next : ℕ) (path name here : List ℕ) (file : ℕ) (off_path : here ≢ path) (off_name : here ≢ name) (not_kept : EndsInTilde here → ⊥) where
+  naming_names : (step : FolderStep) → IsNamingStep next path name step → IsCarried (StandsAfter stamp_of here file) step
+  naming_names (Looks other seen) naming steps s = absurd naming
+  naming_names (Follows other None) naming steps s = absurd naming
+  naming_names (Follows other (Some look)) naming steps s = absurd naming
+  naming_names (Resolves other target) naming steps s = absurd naming
+  naming_names (LooksAt opened look) naming steps s = absurd naming
+  naming_names (Opens opened other opening.Read) naming steps s = absurd naming
+  naming_names (Opens opened other opening.Write) naming steps s = absurd naming
+  naming_names (Opens opened other opening.Add) naming steps s = absurd naming
+  naming_names (Opens opened other opening.Beside) naming steps s = absurd naming
+  naming_names (Opens opened other (opening.New mode)) naming steps s = (s.1 (λ same. off_path (same ∙ naming))).1
+  naming_names (Locks opened lock) naming steps s = absurd naming
+  naming_names (Ends opened size end) naming steps s = absurd naming
+  naming_names (EndsInNewline opened size newline) naming steps s = absurd naming
+  naming_names (Adds opened bytes) naming steps s = absurd naming
+  naming_names (Empties opened) naming steps s = absurd naming
+  naming_names (SetsMode opened mode) naming steps s = absurd naming
+  naming_names (GivesTo opened owner) naming steps s = absurd naming
+  naming_names (Dates opened log later) naming steps s = absurd naming
+  naming_names (Syncs opened) naming steps s = absurd naming
+  naming_names (SyncsFolder other) naming steps s = s
+  naming_names (ReadsAll opened bytes) naming steps s = absurd naming
+  naming_names (Reads other bytes) naming steps s = absurd naming
+  naming_names (Links other new) naming steps s = s.1 (λ same. off_name (same ∙ naming.1))
+  naming_names (Makes new bytes) naming steps s = absurd naming
+  naming_names (Removes other) naming steps s = absurd naming
+  naming_names (Renames other new) naming steps s = (s.1 (λ same. off_name (same ∙ naming.1))).1
+  naming_names (Overwrites opened other) naming steps s = s.1 (λ same. off_name (same ∙ naming.0))
+
+  step_names : (step : FolderStep) → IsStepBeside next path name step ⊎ IsNamingStep next path name step → IsCarried (StandsAfter stamp_of here file) step
+  step_names step (inl beside) = beside_names stamp_of next path name here file off_path not_kept step beside
+  step_names step (inr naming) = naming_names step naming
 
   pub stood_elsewhere : (a b : History) → PutsOnlyAt next path name a b → Stands stamp_of here file b → Stands stamp_of here file a
   stood_elsewhere a b puts stands = over_only _ (StandsAfter stamp_of here file) step_names a b puts stands
@@ -619,40 +650,6 @@ rights_still (Removes other) rights = absurd rights
 rights_still (Renames other new) rights = absurd rights
 rights_still (Overwrites opened other) rights = absurd rights
 
-module _ (stamp_of : ℕ → Stamp) (next : ℕ) (path name : List ℕ) (off_path : name ≢ path) (not_kept : EndsInTilde name → ⊥) (file : ℕ) where
-  waiting_names : (step : FolderStep) → IsWaitingStep next name step → IsCarried (StandsAfter stamp_of name file) step
-  waiting_names (Looks other seen) waiting steps s = absurd waiting
-  waiting_names (Follows other seen) waiting steps s = absurd waiting
-  waiting_names (Resolves other target) waiting steps s = absurd waiting
-  waiting_names (LooksAt opened look) waiting steps s = absurd waiting
-  waiting_names (Opens opened other how) waiting steps s = absurd waiting
-  waiting_names (Locks opened lock) waiting steps s = absurd waiting
-  waiting_names (Ends opened size end) waiting steps s = absurd waiting
-  waiting_names (EndsInNewline opened size newline) waiting steps s = absurd waiting
-  waiting_names (Adds opened bytes) waiting steps s = s
-  waiting_names (Empties opened) waiting steps s = s
-  waiting_names (SetsMode opened mode) waiting steps s = absurd waiting
-  waiting_names (GivesTo opened owner) waiting steps s = absurd waiting
-  waiting_names (Dates opened log later) waiting steps s = absurd waiting
-  waiting_names (Syncs opened) waiting steps s = absurd waiting
-  waiting_names (SyncsFolder other) waiting steps s = absurd waiting
-  waiting_names (ReadsAll opened bytes) waiting steps s = absurd waiting
-  waiting_names (Reads other bytes) waiting steps s = absurd waiting
-  waiting_names (Links other new) waiting steps s = s.1 (λ same. not_kept (subst EndsInTilde (sym same) waiting.1))
-  waiting_names (Makes new bytes) waiting steps s = absurd waiting
-  waiting_names (Removes other) waiting steps s = absurd waiting
-  waiting_names (Renames other new) waiting steps s = absurd waiting
-  waiting_names (Overwrites opened other) waiting steps s = absurd waiting
-
-  wait_names : (step : FolderStep) → IsQuietStep step ⊎ IsStepAt path step ⊎ IsRightsStep step ⊎ IsWaitingStep next name step → IsCarried (StandsAfter stamp_of name file) step
-  wait_names step (inl quiet) = quiet_names stamp_of name file step quiet
-  wait_names step (inr (inl at)) = at_names stamp_of path name file off_path not_kept step at
-  wait_names step (inr (inr (inl rights))) = rights_names stamp_of name file step rights
-  wait_names step (inr (inr (inr waiting))) = waiting_names step waiting
-
-  stood_waiting : (a b : History) → WaitsBeside next path name a b → Stands stamp_of name file b → Stands stamp_of name file a
-  stood_waiting a b waits stands = over_only _ (StandsAfter stamp_of name file) wait_names a b waits stands
-
 -- if it is another file
 module _ (next : ℕ) (path name : List ℕ) (file : ℕ) (other : file ≢ next) (found : List ℕ) where
   not_written : (written : ℕ) (bytes was : List ℕ) (steps : List FolderStep) → written ≡ next → (written ≢ file → found ≡ was) → HasAfter file was steps → HasAfter file found steps
@@ -682,14 +679,14 @@ module _ (next : ℕ) (path name : List ℕ) (file : ℕ) (other : file ≢ next
   waiting_bytes (Renames other new) waiting steps has = absurd waiting
   waiting_bytes (Overwrites opened other) waiting steps has = absurd waiting
 
-  wait_bytes : (step : FolderStep) → IsQuietStep step ⊎ IsStepAt path step ⊎ IsRightsStep step ⊎ IsWaitingStep next name step → IsCarried (HasAfter file found) step
-  wait_bytes step (inl quiet) = has_over file found step (still step quiet)
-  wait_bytes step (inr (inl at)) = has_over file found step (at_still path step at)
-  wait_bytes step (inr (inr (inl rights))) = has_over file found step (rights_still step rights)
-  wait_bytes step (inr (inr (inr waiting))) = waiting_bytes step waiting
+  beside_bytes : (step : FolderStep) → IsStepBeside next path name step → IsCarried (HasAfter file found) step
+  beside_bytes step (inl quiet) = has_over file found step (still step quiet)
+  beside_bytes step (inr (inl at)) = has_over file found step (at_still path step at)
+  beside_bytes step (inr (inr (inl rights))) = has_over file found step (rights_still step rights)
+  beside_bytes step (inr (inr (inr waiting))) = waiting_bytes step waiting
 
   had_waiting : (a b : History) → WaitsBeside next path name a b → OfTold (HasAfter file found) b → OfTold (HasAfter file found) a
-  had_waiting a b waits has = over_only _ (HasAfter file found) wait_bytes a b waits has
+  had_waiting a b waits has = over_only _ (HasAfter file found) beside_bytes a b waits has
 
 -- if none was taken
 spare_bytes : (path : List ℕ) (file : ℕ) (found : List ℕ) (step : FolderStep) → IsQuietStep step ⊎ IsStepAt path step → IsCarried (HasAfter file found) step
@@ -699,7 +696,7 @@ spare_bytes path file found step (inr at) = has_over file found step (at_still p
 pub held_early : (stamp_of : ℕ → Stamp) (path name found : List ℕ) (a b : History) → name ≢ path → (EndsInTilde name → ⊥) → ChangesOnlyAt path a b → Holds stamp_of name found b
     → Holds stamp_of name found a
 held_early stamp_of path name found a b off_path not_kept only (file, stands, has) =
-    (file, stood_waiting stamp_of file path name off_path not_kept file a b (waits_at file path name a b only) stands, over_only _ (HasAfter file found) (spare_bytes path file found) a b only has)
+    (file, stood_waiting stamp_of file path name name file off_path not_kept a b (waits_at file path name a b only) stands, over_only _ (HasAfter file found) (spare_bytes path file found) a b only has)
 
 module _ (stamp_of : ℕ → Stamp) (apart : AreApart stamp_of) where
   -- the log is the old one, or has all of the lines
@@ -707,7 +704,7 @@ module _ (stamp_of : ℕ → Stamp) (apart : AreApart stamp_of) where
       → LeavesNext next old path name text standing lines a b → (Stands stamp_of name next a → ⊥) → Holds stamp_of name found b → Holds stamp_of name found a ⊎ (found ≡ lines)
   left_holds next old path name text standing lines found a b off_path free not_kept (inl (begun, taken, only, took, waits)) not_next (file, stands, has) =
       let before : WaitsBeside next path name a taken = waits_at next path name a taken only in
-      let stood = stood_waiting stamp_of next path name off_path not_kept file a taken before (stood_waiting stamp_of next path name off_path not_kept file taken b waits stands) in
+      let stood = stood_waiting stamp_of next path name name file off_path not_kept a taken before (stood_waiting stamp_of next path name name file off_path not_kept taken b waits stands) in
       let other : file ≢ next = λ same. not_next (subst (λ f. Stands stamp_of name f a) same stood) in
       inl (file, stood, had_waiting next path name file other found a taken before (had_waiting next path name file other found taken b waits has))
   left_holds next old path name text standing lines found a b off_path free not_kept (inr (n, begun, put, puts, quiet)) not_next (file, stands, has) =
@@ -731,39 +728,37 @@ module _ (stamp_of : ℕ → Stamp) (apart : AreApart stamp_of) where
 
 -- if another file is written
 module _ (next : ℕ) (path name : List ℕ) (file : ℕ) (other : file ≢ next) (found : List ℕ) where
-  put_bytes : (step : FolderStep) → IsStepOf next path name step → IsCarried (HasAfter file found) step
-  put_bytes (Looks there seen) of steps has = absurd of
-  put_bytes (Follows there seen) of steps has = absurd of
-  put_bytes (Resolves there target) of steps has = absurd of
-  put_bytes (LooksAt opened look) of steps has = absurd of
-  put_bytes (Opens opened there opening.Read) of steps has = absurd of
-  put_bytes (Opens opened there opening.Write) of steps has = absurd of
-  put_bytes (Opens opened there opening.Add) of steps has = absurd of
-  put_bytes (Opens opened there opening.Beside) of steps has = absurd of
-  put_bytes (Opens opened there (opening.New mode)) of steps has = has_over file found (Opens opened there (opening.New mode)) tt steps has
-  put_bytes (Locks opened lock) of steps has = absurd of
-  put_bytes (Ends opened size end) of steps has = absurd of
-  put_bytes (EndsInNewline opened size newline) of steps has = absurd of
-  put_bytes (Adds opened bytes) of steps (was, has, tells) = not_written next path name file other found opened bytes was steps of tells.1.1 has
-  put_bytes (Empties opened) of steps (was, has, tells) = not_written next path name file other found opened [] was steps of tells.1.1 has
-  put_bytes (SetsMode opened mode) of steps has = absurd of
-  put_bytes (GivesTo opened owner) of steps has = absurd of
-  put_bytes (Dates opened log later) of steps has = absurd of
-  put_bytes (Syncs opened) of steps has = absurd of
-  put_bytes (SyncsFolder there) of steps has = has_over file found (SyncsFolder there) tt steps has
-  put_bytes (ReadsAll opened bytes) of steps has = absurd of
-  put_bytes (Reads there bytes) of steps has = absurd of
-  put_bytes (Links there new) of steps has = has_over file found (Links there new) tt steps has
-  put_bytes (Makes new bytes) of steps has = absurd of
-  put_bytes (Removes there) of steps has = absurd of
-  put_bytes (Renames there new) of steps has = has_over file found (Renames there new) tt steps has
-  put_bytes (Overwrites opened there) of steps (was, has, tells) = not_written next path name file other found opened [] was steps of.1 tells.1.1 has
+  naming_bytes : (step : FolderStep) → IsNamingStep next path name step → IsCarried (HasAfter file found) step
+  naming_bytes (Looks there seen) naming steps has = absurd naming
+  naming_bytes (Follows there seen) naming steps has = absurd naming
+  naming_bytes (Resolves there target) naming steps has = absurd naming
+  naming_bytes (LooksAt opened look) naming steps has = absurd naming
+  naming_bytes (Opens opened there opening.Read) naming steps has = absurd naming
+  naming_bytes (Opens opened there opening.Write) naming steps has = absurd naming
+  naming_bytes (Opens opened there opening.Add) naming steps has = absurd naming
+  naming_bytes (Opens opened there opening.Beside) naming steps has = absurd naming
+  naming_bytes (Opens opened there (opening.New mode)) naming steps has = has_over file found (Opens opened there (opening.New mode)) tt steps has
+  naming_bytes (Locks opened lock) naming steps has = absurd naming
+  naming_bytes (Ends opened size end) naming steps has = absurd naming
+  naming_bytes (EndsInNewline opened size newline) naming steps has = absurd naming
+  naming_bytes (Adds opened bytes) naming steps has = absurd naming
+  naming_bytes (Empties opened) naming steps has = absurd naming
+  naming_bytes (SetsMode opened mode) naming steps has = absurd naming
+  naming_bytes (GivesTo opened owner) naming steps has = absurd naming
+  naming_bytes (Dates opened log later) naming steps has = absurd naming
+  naming_bytes (Syncs opened) naming steps has = absurd naming
+  naming_bytes (SyncsFolder there) naming steps has = has_over file found (SyncsFolder there) tt steps has
+  naming_bytes (ReadsAll opened bytes) naming steps has = absurd naming
+  naming_bytes (Reads there bytes) naming steps has = absurd naming
+  naming_bytes (Links there new) naming steps has = has_over file found (Links there new) tt steps has
+  naming_bytes (Makes new bytes) naming steps has = absurd naming
+  naming_bytes (Removes there) naming steps has = absurd naming
+  naming_bytes (Renames there new) naming steps has = has_over file found (Renames there new) tt steps has
+  naming_bytes (Overwrites opened there) naming steps (was, has, tells) = not_written next path name file other found opened [] was steps naming.1 tells.1.1 has
 
-  step_bytes : (step : FolderStep) → IsQuietStep step ⊎ IsStepAt path step ⊎ IsRightsStep step ⊎ IsStepOf next path name step → IsCarried (HasAfter file found) step
-  step_bytes step (inl quiet) = has_over file found step (still step quiet)
-  step_bytes step (inr (inl at)) = has_over file found step (at_still path step at)
-  step_bytes step (inr (inr (inl rights))) = has_over file found step (rights_still step rights)
-  step_bytes step (inr (inr (inr of))) = put_bytes step of
+  step_bytes : (step : FolderStep) → IsStepBeside next path name step ⊎ IsNamingStep next path name step → IsCarried (HasAfter file found) step
+  step_bytes step (inl beside) = beside_bytes next path name file other found step beside
+  step_bytes step (inr naming) = naming_bytes step naming
 
   pub had_elsewhere : (a b : History) → PutsOnlyAt next path name a b → OfTold (HasAfter file found) b → OfTold (HasAfter file found) a
   had_elsewhere a b puts has = over_only _ (HasAfter file found) step_bytes a b puts has
@@ -789,7 +784,7 @@ module _ (stamp_of : ℕ → Stamp) (path name log : List ℕ) (off_path : log �
   held_over : (over : ℕ) (found : List ℕ) (a b : History) → WritesInPlace over path name a b → (Stands stamp_of log over b → ⊥) → Holds stamp_of log found b → Holds stamp_of log found a
   held_over over found a b (inl makes) not_over holds = held_made found a b makes holds
   held_over over found a b (inr (spared, emptied, makes, is, puts)) not_over (file, stands, has) =
-      let empties = puts_step over path name spared spared emptied (Overwrites over name) (puts_none over path name spared spared refl) is (refl, refl) in
+      let empties = puts_one over path name spared emptied (Overwrites over name) is (refl, refl) in
       let other : file ≢ over = λ same. not_over (subst (λ f. Stands stamp_of log f b) same stands) in
       held_made found a spared makes (held_elsewhere over file found spared b (puts_chain over path name spared emptied b empties puts) (λ _. other) stands has)
 
@@ -803,7 +798,7 @@ pub text_left : (stamp_of : ℕ → Stamp) (apart : AreApart stamp_of) (file : �
     → name ≢ path → (EndsInTilde path → ⊥) → (EndsInTilde name → ⊥) → MakesNextText file path name is_there seen made → LeavesNextText file log path name bytes own made b
     → Holds stamp_of name found b → Holds stamp_of name found made ⊎ (found ≡ bytes)
 text_left stamp_of apart file log path name bytes found own is_there seen made b off_path free not_kept makes (inl waits) (other, stands, has) =
-    let stood = stood_waiting stamp_of file path name off_path not_kept other made b waits stands in
+    let stood = stood_waiting stamp_of file path name name other off_path not_kept made b waits stands in
     inl (other, stood, had_waiting file path name other (is_another stamp_of name other file path name is_there seen made off_path makes stood) found made b waits has)
 text_left stamp_of apart file log path name bytes found own is_there seen made b off_path free not_kept makes (inr (n, put, names, quiet)) (other, stands, has) =
     let there = over_only IsQuietStep (StandsAfter stamp_of name other) (quiet_names stamp_of name other) put b quiet stands in

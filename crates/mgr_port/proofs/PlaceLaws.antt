@@ -5,7 +5,7 @@ use Rattle.mgr_port.specs.Disk as disk
 use Rattle.mgr_port.specs.Folder.{History, FolderStep, Adds, Dates, Empties, Follows, GivesTo, Links, Looks, LooksAt, Makes, Reads, Removes, Renames, Syncs, SyncsFolder, AreAll, IsIdle, IsQuiet, IsQuietStep, Only, Steps, Writes, after}
 use Rattle.mgr_port.specs.Growth.{AddsFront, IsAdded}
 use Rattle.mgr_port.specs.Notes.{Leaves, MayRemoveIf}
-use Rattle.mgr_port.specs.Spares.{ChangesOnlyAt, GivesFreeName, IsKept, IsOfFile, IsOneOfMore, IsRightsStep, IsShown, IsStepAt, IsStepOf, IsWaitingStep, MayRemove, PutsOnlyAt, SetsRights, SparesText, WaitsBeside}
+use Rattle.mgr_port.specs.Spares.{ChangesOnlyAt, GivesFreeName, IsKept, IsOfFile, IsOneOfMore, IsRightsStep, IsShown, IsNamingStep, IsStepAt, IsStepBeside, IsWaitingStep, MayRemove, PutsOnlyAt, SetsRights, SparesText, WaitsBeside}
 use Rattle.mgr_port.specs.Staging.{Does, DoesAll, KeepsOld, StopsBefore, SyncsDated, TakesOld}
 use Rattle.mgr_port.specs.Texts.{TakesOwner}
 use Rattle.mgr_port.specs.declared.spare.Owner.{Owner}
@@ -106,172 +106,28 @@ rights_owner file owner true a b (look, looked, one, inr is) =
     only_more a looked b (GivesTo file owner) (rights_look a a looked (LooksAt file look) (rights_none a a refl) one tt) is (inr tt)
 rights_owner file owner false a b (look, other, is) = rights_look a a b (LooksAt file look) (rights_none a a refl) is tt
 
--- ---- what changes at a path, and at the name that its file is to take
-
-module _ (file : ℕ) (path name : List ℕ) where
-  -- the same at the path alone
-  abbrev IsPut : FolderStep → Type 0
-  IsPut step = IsQuietStep step ⊎ IsStepAt path step ⊎ IsRightsStep step ⊎ IsStepOf file path name step
-
-  put_step : (step : FolderStep) → IsQuietStep step ⊎ IsStepAt path step → IsPut step
-  put_step step (inl quiet) = inl quiet
-  put_step step (inr at) = inr (inl at)
-
-  pub puts_at : (a b : History) → ChangesOnlyAt path a b → PutsOnlyAt file path name a b
-  puts_at a b only = only_of a b put_step only
-
-  pub puts_idle : (a b : History) → IsIdle a b → PutsOnlyAt file path name a b
-  puts_idle a b idle = only_of a b (λ step is. inl (idle_is_quiet step is)) idle
-
-  pub puts_quiet : (a b : History) → IsQuiet a b → PutsOnlyAt file path name a b
-  puts_quiet a b quiet = only_of a b (λ step is. inl is) quiet
-
-  pub puts_none : (a b : History) → b ≡ a → PutsOnlyAt file path name a b
-  puts_none a b is = only_none a b is
-
-  pub puts_chain : (a b c : History) → PutsOnlyAt file path name a b → PutsOnlyAt file path name b c → PutsOnlyAt file path name a c
-  puts_chain a b c one two = only_chain a b c one two
-
-  pub puts_look : (a b c : History) (step : FolderStep) → PutsOnlyAt file path name a b → c ≡ after step b → IsQuietStep step → PutsOnlyAt file path name a c
-  puts_look a b c step before is quiet = only_more a b c step before is (inl quiet)
-
-  pub puts_step : (a b c : History) (step : FolderStep) → PutsOnlyAt file path name a b → c ≡ after step b → IsStepOf file path name step → PutsOnlyAt file path name a c
-  puts_step a b c step before is of = only_more a b c step before is (inr (inr (inr of)))
-
-  put_rights : (step : FolderStep) → IsQuietStep step ⊎ IsRightsStep step → IsPut step
-  put_rights step (inl quiet) = inl quiet
-  put_rights step (inr rights) = inr (inr (inl rights))
-
-  pub puts_rights : (a b : History) → SetsRights a b → PutsOnlyAt file path name a b
-  puts_rights a b rights = only_of a b put_rights rights
-
-  -- it was done, or failed
-  pub puts_may : {A E : Type 0} (r : Result A E) (a b c : History) (step : A → FolderStep) → PutsOnlyAt file path name a b → Steps r step b c → ((x : A) → IsPut (step x)) → PutsOnlyAt file path name a c
-  puts_may (Ok x) a b c step before is put = only_more a b c (step x) before is (put x)
-  puts_may (Err e) a b c step before is put = puts_chain a b c before (puts_none b c is)
-
-  pub puts_right : (a b c : History) (step : FolderStep) → PutsOnlyAt file path name a b → c ≡ after step b → IsRightsStep step → PutsOnlyAt file path name a c
-  puts_right a b c step before is rights = only_more a b c step before is (inr (inr (inl rights)))
-
-  -- a beginning of bytes may have been written
-  pub puts_begun : (bytes : List ℕ) (a b c : History) → PutsOnlyAt file path name a b
-      → (c ≡ b) ⊎ ((front : List ℕ) × (rest : List ℕ) × (bytes ≡ front ++ rest) × (c ≡ after (Adds file front) b)) → PutsOnlyAt file path name a c
-  puts_begun bytes a b c before (inl is) = puts_chain a b c before (puts_none b c is)
-  puts_begun bytes a b c before (inr (front, rest, parts, is)) = puts_step a b c (Adds file front) before is refl
-
-  pub puts_written : {A E : Type 0} (r : Result A E) (bytes : List ℕ) (a b c : History) → PutsOnlyAt file path name a b → Writes r file bytes b c → PutsOnlyAt file path name a c
-  puts_written (Ok x) bytes a b c before is = puts_step a b c (Adds file bytes) before is refl
-  puts_written (Err e) bytes a b c before begun = puts_begun bytes a b c before begun
-
-  -- lines were added, or a beginning of them
-  pub puts_added : {A E : Type 0} (r : Result A E) (log lines : List ℕ) (left longer : LeftLog) (a b : History) → OnOk r (IsAdded file log left lines longer a b)
-      → OnErr r (AddsFront file lines a b) → PutsOnlyAt file path name a b
-  puts_added (Ok x) log lines left longer a b (shown, added, shows, is, later) front =
-      puts_chain a added b (puts_step a shown added (Adds file lines) (puts_quiet a shown (shown_quiet file log left a shown shows)) is refl)
-      (puts_quiet added b (longer_quiet file log left longer added b later))
-  puts_added (Err e) log lines left longer a b added (inl quiet) = puts_quiet a b quiet
-  puts_added (Err e) log lines left longer a b none (inr (front, rest, shown, added, parts, first, is, last)) =
-      puts_chain a added b (puts_step a shown added (Adds file front) (puts_quiet a shown first) is refl) (puts_quiet added b last)
-
-  puts_one : (a b : History) (step : FolderStep) → b ≡ after step a → IsStepOf file path name step → PutsOnlyAt file path name a b
-  puts_one a b step is of = puts_step a a b step (puts_none a a refl) is of
-
-  pub puts_owner : (which : ℕ) (owner : Owner) (is_owned : Bool) (a b : History) → TakesOwner which owner a b is_owned → PutsOnlyAt file path name a b
-  puts_owner which owner is_owned a b takes = puts_rights a b (rights_owner which owner is_owned a b takes)
-
-  -- what stands under the name is kept, or nothing is lost of it
-  puts_kept : (why : Reason) (a b : History) → IsKept why name a b → PutsOnlyAt file path name a b
-  puts_kept reason.Linked a b (kept, seen, tilde, idle, is) = puts_step a seen b (Links name kept) (puts_idle a seen idle) is (inr (refl, tilde))
-  puts_kept reason.Copied a b (kept, bytes, seen, read, tilde, idle, was, is) =
-      only_more a read b (Makes kept bytes) (puts_look a seen read (Reads name bytes) (puts_idle a seen idle) was tt) is (inr (inl tilde))
-  puts_kept reason.Nothing a b kept = absurd kept
-  puts_kept reason.Known a b kept = absurd kept
-  puts_kept reason.Same a b kept = absurd kept
-  puts_kept reason.Open a b kept = absurd kept
-
-  puts_shown : (why : Reason) (own : Option Stamp) (bytes : List ℕ) (a b : History) → IsShown why name own bytes a b → PutsOnlyAt file path name a b
-  puts_shown reason.Nothing own bytes a b is = puts_look a a b (Follows name None) (puts_none a a refl) is tt
-  puts_shown reason.Known own bytes a b (look, known, is) = puts_look a a b (Follows name (Some look)) (puts_none a a refl) is tt
-  puts_shown reason.Same own bytes a b (look, followed, one, two) =
-      puts_look a followed b (Reads name bytes) (puts_look a a followed (Follows name (Some look)) (puts_none a a refl) one tt) two tt
-  puts_shown reason.Linked own bytes a b shown = absurd shown
-  puts_shown reason.Copied own bytes a b shown = absurd shown
-  puts_shown reason.Open own bytes a b shown = absurd shown
-
-  pub puts_spared : (own : Option Stamp) (bytes : List ℕ) (a b : History) → SparesText name own bytes a b → PutsOnlyAt file path name a b
-  puts_spared own bytes a b (why, inl shown) = puts_shown why own bytes a b shown
-  puts_spared own bytes a b (why, inr kept) = puts_kept why a b kept
-
-  puts_old : (log : Option ℕ) (o : Old) (a b : History) → KeepsOld log o name a b → PutsOnlyAt file path name a b
-  puts_old log old.Nothing a b is = puts_none a b is
-  puts_old log old.Log a b (why, kept) = puts_kept why a b kept
-  puts_old log (old.Text own bytes) a b spared = puts_spared own bytes.now a b spared
-  puts_old log (old.Read size) a b (why, checked, (other, found, opened, followed, known, one, two, same, long), kept) =
-      puts_chain a checked b (puts_look a followed checked (LooksAt other opened) (puts_look a a followed (Follows name (Some found)) (puts_none a a refl) one tt) two tt) (puts_kept why checked b kept)
-
-  puts_free : (a b : History) → GivesFreeName path name a b → PutsOnlyAt file path name a b
-  puts_free a b (inl (linked, one, inl is)) = puts_chain a linked b (puts_one a linked (Links path name) one (inl (refl, refl))) (puts_none linked b is)
-  puts_free a b (inl (linked, one, inr is)) = only_more a linked b (Removes path) (puts_one a linked (Links path name) one (inl (refl, refl))) is (inr (inl refl))
-  puts_free a b (inr (looked, one, is)) = puts_step a looked b (Renames path name) (puts_look a a looked (Looks name None) (puts_none a a refl) one tt) is (refl, refl)
-
-  puts_name : (o : Old) (a b : History) → TakesOld o path name a b → PutsOnlyAt file path name a b
-  puts_name old.Nothing a b free = puts_free a b free
-  puts_name old.Log a b is = puts_one a b (Renames path name) is (refl, refl)
-  puts_name (old.Text own bytes) a b is = puts_one a b (Renames path name) is (refl, refl)
-  puts_name (old.Read size) a b is = puts_one a b (Renames path name) is (refl, refl)
-
-  pub puts_synced : (which : ℕ) (log later : Option ℕ) (a b : History) → SyncsDated which log later a b → PutsOnlyAt file path name a b
-  puts_synced which log None a b (dated, may, is) = only_more a dated b (Syncs which) (puts_none a dated may) is (inl tt)
-  puts_synced which log (Some later) a b (dated, inl may, is) = only_more a dated b (Syncs which) (puts_none a dated may) is (inl tt)
-  puts_synced which log (Some later) a b (dated, inr (of, known, date), is) =
-      only_more a dated b (Syncs which) (puts_look a a dated (Dates which of later) (puts_none a a refl) date tt) is (inl tt)
-
-module _ (file : ℕ) (log : Option ℕ) (s : Staged) where
-  puts_does : (step : DiskStep) (a b : History) → Does file log s step a b → PutsOnlyAt file s.path.now s.name.now a b
-  puts_does disk.Empties a b is = puts_one file s.path.now s.name.now a b (Empties file) is refl
-  puts_does (disk.Writes bytes) a b is = puts_one file s.path.now s.name.now a b (Adds file bytes) is refl
-  puts_does disk.Syncs a b syncs = puts_synced file s.path.now s.name.now file log s.later a b syncs
-  puts_does disk.Keeps a b keeps = puts_old file s.path.now s.name.now log s.old a b keeps
-  puts_does disk.TakesName a b takes = puts_name file s.path.now s.name.now s.old a b takes
-  puts_does disk.SyncsFolder a b is = puts_one file s.path.now s.name.now a b (SyncsFolder s.name.now) is tt
-  puts_does disk.Removes a b gone = puts_at file s.path.now s.name.now a b (at_removal IsOfFile file s.path.now a b gone)
-
-  -- all of a new file's steps, or some
-  pub puts_all : (steps : List DiskStep) (a b : History) → DoesAll file log s steps a b → PutsOnlyAt file s.path.now s.name.now a b
-  puts_all [] a b is = puts_none file s.path.now s.name.now a b is
-  puts_all (step ∷ []) a b does = puts_does step a b does
-  puts_all (step ∷ next ∷ later) a b (done, does, rest) = puts_chain file s.path.now s.name.now a done b (puts_does step a done does) (puts_all (next ∷ later) done b rest)
-
-  pub puts_some : (wanted : List DiskStep) (a b : History) → StopsBefore file log s wanted a b → PutsOnlyAt file s.path.now s.name.now a b
-  puts_some wanted a b t = puts_chain file s.path.now s.name.now a t.done b (puts_all t.made a t.done t.does) (puts_idle file s.path.now s.name.now t.done b t.idle)
-
-  pub puts_whole : {E : Type 0} (r : Result Named E) (steps : Named → List DiskStep) (wanted : List DiskStep) (a b : History) → IfOk r (λ n. DoesAll file log s (steps n) a b)
-      → OnErr r (StopsBefore file log s wanted a b) → PutsOnlyAt file s.path.now s.name.now a b
-  puts_whole (Ok n) steps wanted a b does stops = puts_all (steps n) a b does
-  puts_whole (Err e) steps wanted a b does stops = puts_some wanted a b stops
-
-pub puts_paths : (file : ℕ) (path beside name spelled : List ℕ) (a b : History) → path ≡ beside → name ≡ spelled → PutsOnlyAt file path name a b → PutsOnlyAt file beside spelled a b
-puts_paths file path beside name spelled a b is named puts = subst (λ n. PutsOnlyAt file beside n a b) named (subst (λ p. PutsOnlyAt file p name a b) is puts)
-
 -- ---- a file that is still to take its name
 
 module _ (file : ℕ) (path name : List ℕ) where
-  wait_at : (step : FolderStep) → IsQuietStep step ⊎ IsStepAt path step → IsQuietStep step ⊎ IsStepAt path step ⊎ IsRightsStep step ⊎ IsWaitingStep file name step
-  wait_at step (inl quiet) = inl quiet
-  wait_at step (inr at) = inr (inl at)
+  beside_at : (step : FolderStep) → IsQuietStep step ⊎ IsStepAt path step → IsStepBeside file path name step
+  beside_at step (inl quiet) = inl quiet
+  beside_at step (inr at) = inr (inl at)
 
-  wait_rights : (step : FolderStep) → IsQuietStep step ⊎ IsRightsStep step → IsQuietStep step ⊎ IsStepAt path step ⊎ IsRightsStep step ⊎ IsWaitingStep file name step
-  wait_rights step (inl quiet) = inl quiet
-  wait_rights step (inr rights) = inr (inr (inl rights))
+  beside_rights : (step : FolderStep) → IsQuietStep step ⊎ IsRightsStep step → IsStepBeside file path name step
+  beside_rights step (inl quiet) = inl quiet
+  beside_rights step (inr rights) = inr (inr (inl rights))
 
   pub waits_at : (a b : History) → ChangesOnlyAt path a b → WaitsBeside file path name a b
-  waits_at a b only = only_of a b wait_at only
+  waits_at a b only = only_of a b beside_at only
 
   pub waits_rights : (a b : History) → SetsRights a b → WaitsBeside file path name a b
-  waits_rights a b rights = only_of a b wait_rights rights
+  waits_rights a b rights = only_of a b beside_rights rights
 
   pub waits_quiet : (a b : History) → IsQuiet a b → WaitsBeside file path name a b
   waits_quiet a b quiet = only_of a b (λ step is. inl is) quiet
+
+  pub waits_idle : (a b : History) → IsIdle a b → WaitsBeside file path name a b
+  waits_idle a b idle = only_of a b (λ step is. inl (idle_is_quiet step is)) idle
 
   pub waits_none : (a b : History) → b ≡ a → WaitsBeside file path name a b
   waits_none a b is = only_none a b is
@@ -279,17 +135,17 @@ module _ (file : ℕ) (path name : List ℕ) where
   pub waits_chain : (a b c : History) → WaitsBeside file path name a b → WaitsBeside file path name b c → WaitsBeside file path name a c
   waits_chain a b c one two = only_chain a b c one two
 
-  pub waits_look : (a b c : History) (step : FolderStep) → WaitsBeside file path name a b → c ≡ after step b → IsQuietStep step → WaitsBeside file path name a c
+  waits_look : (a b c : History) (step : FolderStep) → WaitsBeside file path name a b → c ≡ after step b → IsQuietStep step → WaitsBeside file path name a c
   waits_look a b c step before is quiet = only_more a b c step before is (inl quiet)
 
   waits_one : (a b : History) (step : FolderStep) → b ≡ after step a → IsWaitingStep file name step → WaitsBeside file path name a b
   waits_one a b step is waiting = only_more a a b step (waits_none a a refl) is (inr (inr (inr waiting)))
 
+  -- what stands under the name is kept, or nothing is lost of it
   waits_kept : (why : Reason) (a b : History) → IsKept why name a b → WaitsBeside file path name a b
-  waits_kept reason.Linked a b (kept, seen, tilde, idle, is) =
-      only_more a seen b (Links name kept) (only_of a seen (λ step i. inl (idle_is_quiet step i)) idle) is (inr (inr (inr (refl, tilde))))
+  waits_kept reason.Linked a b (kept, seen, tilde, idle, is) = only_more a seen b (Links name kept) (waits_idle a seen idle) is (inr (inr (inr (refl, tilde))))
   waits_kept reason.Copied a b (kept, bytes, seen, read, tilde, idle, was, is) =
-      only_more a read b (Makes kept bytes) (waits_look a seen read (Reads name bytes) (only_of a seen (λ step i. inl (idle_is_quiet step i)) idle) was tt) is (inr (inl tilde))
+      only_more a read b (Makes kept bytes) (waits_look a seen read (Reads name bytes) (waits_idle a seen idle) was tt) is (inr (inl tilde))
   waits_kept reason.Nothing a b kept = absurd kept
   waits_kept reason.Known a b kept = absurd kept
   waits_kept reason.Same a b kept = absurd kept
@@ -304,19 +160,22 @@ module _ (file : ℕ) (path name : List ℕ) where
   waits_shown reason.Copied own bytes a b shown = absurd shown
   waits_shown reason.Open own bytes a b shown = absurd shown
 
+  waits_spared : (own : Option Stamp) (bytes : List ℕ) (a b : History) → SparesText name own bytes a b → WaitsBeside file path name a b
+  waits_spared own bytes a b (why, inl shown) = waits_shown why own bytes a b shown
+  waits_spared own bytes a b (why, inr kept) = waits_kept why a b kept
+
   waits_old : (log : Option ℕ) (o : Old) (a b : History) → KeepsOld log o name a b → WaitsBeside file path name a b
   waits_old log old.Nothing a b is = waits_none a b is
   waits_old log old.Log a b (why, kept) = waits_kept why a b kept
-  waits_old log (old.Text own bytes) a b (why, inl shown) = waits_shown why own bytes.now a b shown
-  waits_old log (old.Text own bytes) a b (why, inr kept) = waits_kept why a b kept
+  waits_old log (old.Text own bytes) a b spared = waits_spared own bytes.now a b spared
   waits_old log (old.Read size) a b (why, checked, (other, found, opened, followed, known, one, two, same, long), kept) =
       waits_chain a checked b (waits_look a followed checked (LooksAt other opened) (waits_look a a followed (Follows name (Some found)) (waits_none a a refl) one tt) two tt) (waits_kept why checked b kept)
 
-  waits_synced : (log later : Option ℕ) (a b : History) → SyncsDated file log later a b → WaitsBeside file path name a b
-  waits_synced log None a b (dated, may, is) = waits_look a dated b (Syncs file) (waits_none a dated may) is tt
-  waits_synced log (Some later) a b (dated, inl may, is) = waits_look a dated b (Syncs file) (waits_none a dated may) is tt
-  waits_synced log (Some later) a b (dated, inr (of, known, date), is) =
-      waits_look a dated b (Syncs file) (waits_look a a dated (Dates file of later) (waits_none a a refl) date tt) is tt
+  waits_synced : (which : ℕ) (log later : Option ℕ) (a b : History) → SyncsDated which log later a b → WaitsBeside file path name a b
+  waits_synced which log None a b (dated, may, is) = waits_look a dated b (Syncs which) (waits_none a dated may) is tt
+  waits_synced which log (Some later) a b (dated, inl may, is) = waits_look a dated b (Syncs which) (waits_none a dated may) is tt
+  waits_synced which log (Some later) a b (dated, inr (of, known, date), is) =
+      waits_look a dated b (Syncs which) (waits_look a a dated (Dates which of later) (waits_none a a refl) date tt) is tt
 
 -- steps before the name is taken
 abbrev IsUnnamed : DiskStep → Type 0
@@ -338,7 +197,7 @@ module _ (file : ℕ) (log : Option ℕ) (s : Staged) where
   waits_does : (step : DiskStep) (a b : History) → IsUnnamed step → Does file log s step a b → WaitsBeside file s.path.now s.name.now a b
   waits_does disk.Empties a b is does = waits_one file s.path.now s.name.now a b (Empties file) does refl
   waits_does (disk.Writes bytes) a b is does = waits_one file s.path.now s.name.now a b (Adds file bytes) does refl
-  waits_does disk.Syncs a b is does = waits_synced file s.path.now s.name.now log s.later a b does
+  waits_does disk.Syncs a b is does = waits_synced file s.path.now s.name.now file log s.later a b does
   waits_does disk.Keeps a b is does = waits_old file s.path.now s.name.now log s.old a b does
   waits_does disk.TakesName a b is does = absurd is
   waits_does disk.SyncsFolder a b is does = absurd is
@@ -356,6 +215,122 @@ module _ (file : ℕ) (log : Option ℕ) (s : Staged) where
   waits_stopped (Ok x) path name bytes a b c is named rights stops = tt
   waits_stopped (Err e) path name bytes a b c is named rights t =
       let all = begun_unnamed (unnamed_steps bytes) t.made (tt, (tt, (tt, (tt, tt)))) t.begins in
-      let put = waits_chain file s.path.now s.name.now b t.done c (waits_all t.made b t.done all t.does) (only_of t.done c (λ step i. inl (idle_is_quiet step i)) t.idle) in
+      let put = waits_chain file s.path.now s.name.now b t.done c (waits_all t.made b t.done all t.does) (waits_idle file s.path.now s.name.now t.done c t.idle) in
       waits_chain file path name a b c (waits_rights file path name a b rights)
       (subst (λ n. WaitsBeside file path n b c) named (subst (λ p. WaitsBeside file p s.name.now b c) is put))
+
+-- ---- what changes at a path, and at the name that its file is to take
+
+module _ (file : ℕ) (path name : List ℕ) where
+  abbrev IsPut : FolderStep → Type 0
+  IsPut step = IsStepBeside file path name step ⊎ IsNamingStep file path name step
+
+  -- the same while it waits
+  puts_waits : (a b : History) → WaitsBeside file path name a b → PutsOnlyAt file path name a b
+  puts_waits a b waits = only_of a b (λ step is. inl is) waits
+
+  pub puts_at : (a b : History) → ChangesOnlyAt path a b → PutsOnlyAt file path name a b
+  puts_at a b only = puts_waits a b (waits_at file path name a b only)
+
+  pub puts_idle : (a b : History) → IsIdle a b → PutsOnlyAt file path name a b
+  puts_idle a b idle = puts_waits a b (waits_idle file path name a b idle)
+
+  pub puts_quiet : (a b : History) → IsQuiet a b → PutsOnlyAt file path name a b
+  puts_quiet a b quiet = puts_waits a b (waits_quiet file path name a b quiet)
+
+  pub puts_none : (a b : History) → b ≡ a → PutsOnlyAt file path name a b
+  puts_none a b is = only_none a b is
+
+  pub puts_chain : (a b c : History) → PutsOnlyAt file path name a b → PutsOnlyAt file path name b c → PutsOnlyAt file path name a c
+  puts_chain a b c one two = only_chain a b c one two
+
+  pub puts_look : (a b c : History) (step : FolderStep) → PutsOnlyAt file path name a b → c ≡ after step b → IsQuietStep step → PutsOnlyAt file path name a c
+  puts_look a b c step before is quiet = only_more a b c step before is (inl (inl quiet))
+
+  pub puts_step : (a b c : History) (step : FolderStep) → PutsOnlyAt file path name a b → c ≡ after step b → IsWaitingStep file name step → PutsOnlyAt file path name a c
+  puts_step a b c step before is waiting = only_more a b c step before is (inl (inr (inr (inr waiting))))
+
+  pub puts_one : (a b : History) (step : FolderStep) → b ≡ after step a → IsNamingStep file path name step → PutsOnlyAt file path name a b
+  puts_one a b step is naming = only_more a a b step (puts_none a a refl) is (inr naming)
+
+  pub puts_rights : (a b : History) → SetsRights a b → PutsOnlyAt file path name a b
+  puts_rights a b rights = puts_waits a b (waits_rights file path name a b rights)
+
+  -- it was done, or failed
+  pub puts_may : {A E : Type 0} (r : Result A E) (a b c : History) (step : A → FolderStep) → PutsOnlyAt file path name a b → Steps r step b c → ((x : A) → IsPut (step x)) → PutsOnlyAt file path name a c
+  puts_may (Ok x) a b c step before is put = only_more a b c (step x) before is (put x)
+  puts_may (Err e) a b c step before is put = puts_chain a b c before (puts_none b c is)
+
+  pub puts_right : (a b c : History) (step : FolderStep) → PutsOnlyAt file path name a b → c ≡ after step b → IsRightsStep step → PutsOnlyAt file path name a c
+  puts_right a b c step before is rights = only_more a b c step before is (inl (inr (inr (inl rights))))
+
+  -- a beginning of bytes may have been written
+  pub puts_begun : (bytes : List ℕ) (a b c : History) → PutsOnlyAt file path name a b
+      → (c ≡ b) ⊎ ((front : List ℕ) × (rest : List ℕ) × (bytes ≡ front ++ rest) × (c ≡ after (Adds file front) b)) → PutsOnlyAt file path name a c
+  puts_begun bytes a b c before (inl is) = puts_chain a b c before (puts_none b c is)
+  puts_begun bytes a b c before (inr (front, rest, parts, is)) = puts_step a b c (Adds file front) before is refl
+
+  pub puts_written : {A E : Type 0} (r : Result A E) (bytes : List ℕ) (a b c : History) → PutsOnlyAt file path name a b → Writes r file bytes b c → PutsOnlyAt file path name a c
+  puts_written (Ok x) bytes a b c before is = puts_step a b c (Adds file bytes) before is refl
+  puts_written (Err e) bytes a b c before begun = puts_begun bytes a b c before begun
+
+  -- lines were added, or a beginning of them
+  pub puts_added : {A E : Type 0} (r : Result A E) (log lines : List ℕ) (left longer : LeftLog) (a b : History) → OnOk r (IsAdded file log left lines longer a b)
+      → OnErr r (AddsFront file lines a b) → PutsOnlyAt file path name a b
+  puts_added (Ok x) log lines left longer a b (shown, added, shows, is, later) front =
+      puts_chain a added b (puts_step a shown added (Adds file lines) (puts_quiet a shown (shown_quiet file log left a shown shows)) is refl)
+      (puts_quiet added b (longer_quiet file log left longer added b later))
+  puts_added (Err e) log lines left longer a b added (inl quiet) = puts_quiet a b quiet
+  puts_added (Err e) log lines left longer a b none (inr (front, rest, shown, added, parts, first, is, last)) =
+      puts_chain a added b (puts_step a shown added (Adds file front) (puts_quiet a shown first) is refl) (puts_quiet added b last)
+
+  pub puts_owner : (which : ℕ) (owner : Owner) (is_owned : Bool) (a b : History) → TakesOwner which owner a b is_owned → PutsOnlyAt file path name a b
+  puts_owner which owner is_owned a b takes = puts_rights a b (rights_owner which owner is_owned a b takes)
+
+  pub puts_spared : (own : Option Stamp) (bytes : List ℕ) (a b : History) → SparesText name own bytes a b → PutsOnlyAt file path name a b
+  puts_spared own bytes a b spared = puts_waits a b (waits_spared file path name own bytes a b spared)
+
+  pub puts_synced : (which : ℕ) (log later : Option ℕ) (a b : History) → SyncsDated which log later a b → PutsOnlyAt file path name a b
+  puts_synced which log later a b syncs = puts_waits a b (waits_synced file path name which log later a b syncs)
+
+  puts_free : (a b : History) → GivesFreeName path name a b → PutsOnlyAt file path name a b
+  puts_free a b (inl (linked, one, inl is)) = puts_chain a linked b (puts_one a linked (Links path name) one (refl, refl)) (puts_none linked b is)
+  puts_free a b (inl (linked, one, inr is)) = only_more a linked b (Removes path) (puts_one a linked (Links path name) one (refl, refl)) is (inl (inr (inl refl)))
+  puts_free a b (inr (looked, one, is)) =
+      puts_chain a looked b (puts_look a a looked (Looks name None) (puts_none a a refl) one tt) (puts_one looked b (Renames path name) is (refl, refl))
+
+  puts_name : (o : Old) (a b : History) → TakesOld o path name a b → PutsOnlyAt file path name a b
+  puts_name old.Nothing a b free = puts_free a b free
+  puts_name old.Log a b is = puts_one a b (Renames path name) is (refl, refl)
+  puts_name (old.Text own bytes) a b is = puts_one a b (Renames path name) is (refl, refl)
+  puts_name (old.Read size) a b is = puts_one a b (Renames path name) is (refl, refl)
+
+module _ (file : ℕ) (log : Option ℕ) (s : Staged) where
+  puts_before : (step : DiskStep) (a b : History) → IsUnnamed step → Does file log s step a b → PutsOnlyAt file s.path.now s.name.now a b
+  puts_before step a b is does = puts_waits file s.path.now s.name.now a b (waits_does file log s step a b is does)
+
+  puts_does : (step : DiskStep) (a b : History) → Does file log s step a b → PutsOnlyAt file s.path.now s.name.now a b
+  puts_does disk.Empties a b does = puts_before disk.Empties a b tt does
+  puts_does (disk.Writes bytes) a b does = puts_before (disk.Writes bytes) a b tt does
+  puts_does disk.Syncs a b does = puts_before disk.Syncs a b tt does
+  puts_does disk.Keeps a b does = puts_before disk.Keeps a b tt does
+  puts_does disk.Removes a b does = puts_before disk.Removes a b tt does
+  puts_does disk.TakesName a b takes = puts_name file s.path.now s.name.now s.old a b takes
+  puts_does disk.SyncsFolder a b is = puts_one file s.path.now s.name.now a b (SyncsFolder s.name.now) is tt
+
+  -- all of a new file's steps, or some
+  pub puts_all : (steps : List DiskStep) (a b : History) → DoesAll file log s steps a b → PutsOnlyAt file s.path.now s.name.now a b
+  puts_all [] a b is = puts_none file s.path.now s.name.now a b is
+  puts_all (step ∷ []) a b does = puts_does step a b does
+  puts_all (step ∷ next ∷ later) a b (done, does, rest) = puts_chain file s.path.now s.name.now a done b (puts_does step a done does) (puts_all (next ∷ later) done b rest)
+
+  pub puts_some : (wanted : List DiskStep) (a b : History) → StopsBefore file log s wanted a b → PutsOnlyAt file s.path.now s.name.now a b
+  puts_some wanted a b t = puts_chain file s.path.now s.name.now a t.done b (puts_all t.made a t.done t.does) (puts_idle file s.path.now s.name.now t.done b t.idle)
+
+  pub puts_whole : {E : Type 0} (r : Result Named E) (steps : Named → List DiskStep) (wanted : List DiskStep) (a b : History) → IfOk r (λ n. DoesAll file log s (steps n) a b)
+      → OnErr r (StopsBefore file log s wanted a b) → PutsOnlyAt file s.path.now s.name.now a b
+  puts_whole (Ok n) steps wanted a b does stops = puts_all (steps n) a b does
+  puts_whole (Err e) steps wanted a b does stops = puts_some wanted a b stops
+
+pub puts_paths : (file : ℕ) (path beside name spelled : List ℕ) (a b : History) → path ≡ beside → name ≡ spelled → PutsOnlyAt file path name a b → PutsOnlyAt file beside spelled a b
+puts_paths file path beside name spelled a b is named puts = subst (λ n. PutsOnlyAt file beside n a b) named (subst (λ p. PutsOnlyAt file p name a b) is puts)

@@ -143,20 +143,33 @@ IsRightsStep other = ⊥
 abbrev pub SetsRights : History → History → Type 0
 SetsRights old now = Only (λ step. IsQuietStep step ⊎ IsRightsStep step) old now
 
--- A file is made at the path, this one gets bytes, and it takes the name; or this one, which has the name, is written over.
--- What stands there gets another name before.
-abbrev pub IsStepOf : ℕ → List ℕ → List ℕ → FolderStep → Type 0
-IsStepOf file path name (Opens opened other (opening.New mode)) = other ≡ path
-IsStepOf file path name (Adds other bytes) = other ≡ file
-IsStepOf file path name (Empties other) = other ≡ file
-IsStepOf file path name (SyncsFolder other) = Unit {0}
-IsStepOf file path name (Links other new) = ((other ≡ path) × (new ≡ name)) ⊎ ((other ≡ name) × EndsInTilde new)
-IsStepOf file path name (Renames other new) = (other ≡ path) × (new ≡ name)
-IsStepOf file path name (Overwrites opened other) = (other ≡ name) × (opened ≡ file)
-IsStepOf file path name other = ⊥
+-- This file gets bytes. What stands under the name gets another one.
+abbrev pub IsWaitingStep : ℕ → List ℕ → FolderStep → Type 0
+IsWaitingStep file name (Adds other bytes) = other ≡ file
+IsWaitingStep file name (Empties other) = other ≡ file
+IsWaitingStep file name (Links other new) = (other ≡ name) × EndsInTilde new
+IsWaitingStep file name other = ⊥
 
+abbrev pub IsStepBeside : ℕ → List ℕ → List ℕ → FolderStep → Type 0
+IsStepBeside file path name step = IsQuietStep step ⊎ IsStepAt path step ⊎ IsRightsStep step ⊎ IsWaitingStep file name step
+
+-- A file of a path gets bytes and rights, and nothing takes the name.
+abbrev pub WaitsBeside : ℕ → List ℕ → List ℕ → History → History → Type 0
+WaitsBeside file path name old now = Only (IsStepBeside file path name) old now
+
+-- A file is made at the path; it takes the name, and that is brought to the device; or this file, which has the name, is
+-- written over.
+abbrev pub IsNamingStep : ℕ → List ℕ → List ℕ → FolderStep → Type 0
+IsNamingStep file path name (Opens opened other (opening.New mode)) = other ≡ path
+IsNamingStep file path name (SyncsFolder other) = Unit {0}
+IsNamingStep file path name (Links other new) = (other ≡ path) × (new ≡ name)
+IsNamingStep file path name (Renames other new) = (other ≡ path) × (new ≡ name)
+IsNamingStep file path name (Overwrites opened other) = (other ≡ name) × (opened ≡ file)
+IsNamingStep file path name other = ⊥
+
+-- the same, and such a step
 abbrev pub PutsOnlyAt : ℕ → List ℕ → List ℕ → History → History → Type 0
-PutsOnlyAt file path name old now = Only (λ step. IsQuietStep step ⊎ IsStepAt path step ⊎ IsRightsStep step ⊎ IsStepOf file path name step) old now
+PutsOnlyAt file path name old now = Only (λ step. IsStepBeside file path name step ⊎ IsNamingStep file path name step) old now
 
 -- the same at the paths of a log
 abbrev pub PutsLogOnly : Paths → History → History → Type 0
@@ -174,16 +187,3 @@ MakesOnlyAt path name old now = (file : ℕ) → PutsOnlyAt file path name old n
 
 abbrev pub ChangesNoName : ℕ → History → History → Type 0
 ChangesNoName file old now = (path : List ℕ) → PutsOnlyBeside file path old now
-
--- ---- a file that is still to take its name
-
--- This file gets bytes. What stands under the name gets another one.
-abbrev pub IsWaitingStep : ℕ → List ℕ → FolderStep → Type 0
-IsWaitingStep file name (Adds other bytes) = other ≡ file
-IsWaitingStep file name (Empties other) = other ≡ file
-IsWaitingStep file name (Links other new) = (other ≡ name) × EndsInTilde new
-IsWaitingStep file name other = ⊥
-
--- A file of a path gets bytes and rights, and nothing takes the name.
-abbrev pub WaitsBeside : ℕ → List ℕ → List ℕ → History → History → Type 0
-WaitsBeside file path name old now = Only (λ step. IsQuietStep step ⊎ IsStepAt path step ⊎ IsRightsStep step ⊎ IsWaitingStep file name step) old now

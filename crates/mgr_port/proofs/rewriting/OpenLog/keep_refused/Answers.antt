@@ -25,7 +25,7 @@ returns-clause-only g c = (
   _,
   λ name.
       let written = puts_step _ _ name _ _ _ _ (puts_chain _ _ name _ _ _ (c.in_ok-refused.ensures.only _ name) (c.in_ok-end_line.ensures.only _ name)) c.in_ok-write.ensures.step refl in
-      puts_may _ _ name _ _ _ _ _ (puts_look _ _ name _ _ _ _ written c.in_ok-sync.ensures.step tt) c.sync_folder.ensures.step (λ _. inr (inr (inr tt))),
+      puts_may _ _ name _ _ _ _ _ (puts_look _ _ name _ _ _ _ written c.in_ok-sync.ensures.step tt) c.sync_folder.ensures.step (λ _. inr tt),
 )
 
 pub returns-in_err-refused-clause-only : goal.returns-in_err-refused-clause-only
