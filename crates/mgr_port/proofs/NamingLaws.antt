@@ -7,7 +7,7 @@ use Rattle.mgr_port.specs.Folder.{History, FolderStep, Adds, Dates, Empties, End
 use Rattle.mgr_port.specs.Locks.{HoldsEmpty, IsTaken, MakesBeside, StandsFor}
 use Rattle.mgr_port.specs.Naming.{AreApart, Holds, Stands, StandsAfter}
 use Rattle.mgr_port.specs.Notes.{LeavesLog, LeavesNext, MakesLog, PutsLog, TakesRights, TakesTextRights}
-use Rattle.mgr_port.specs.Spares.{ChangesOnlyAt, EndsInTilde, GivesFreeName, IsKept, IsRightsStep, IsShown, IsSpare, IsNamingStep, IsStepAt, IsStepBeside, IsWaitingStep, MakesOnlyAt, PutsOnlyAt, WaitsBeside}
+use Rattle.mgr_port.specs.Spares.{ChangesOnlyAt, EndsInTilde, GivesFreeName, IsKept, IsShown, IsSpare, IsNamingStep, IsStepBeside, MakesOnlyAt, PutsOnlyAt, WaitsBeside}
 use Rattle.mgr_port.specs.Staging.{DoesAll, KeepsOld, MayDate, SyncsDated, TakesOld}
 use Rattle.mgr_port.specs.Texts.{LeavesNextText, MakesFor, MakesLike, MakesNextText, NamesText, PutsBeside, PutsInPlace, PutsText, TakesMode, TakesOwner, TriesText, WritesBeside, WritesInPlace}
 use Rattle.mgr_port.specs.Verdicts.{AreOfOneFile}
@@ -25,7 +25,7 @@ use Rattle.mgr_port.specs.declared.staged.Staged.{Staged}
 use Rattle.mgr_port.specs.declared.stamp.Stamp.{Stamp}
 use Rattle.mgr_port.proofs.BytesLaws.{IsStill, still, unchanged}
 use Rattle.mgr_port.proofs.FolderLaws.{idle_is_quiet}
-use Rattle.mgr_port.proofs.PlaceLaws.{puts_chain, puts_one, waits_at}
+use Rattle.mgr_port.proofs.PlaceLaws.{puts_chain, puts_one, puts_waits, waits_at}
 
 -- ---- what holds after a step, and held before it
 
@@ -274,30 +274,6 @@ module _ (stamp_of : ℕ → Stamp) (path : List ℕ) (file : ℕ) where
   quiet_names (Renames other new) quiet steps s = absurd quiet
   quiet_names (Overwrites opened other) quiet steps s = absurd quiet
 
-  rights_names : (step : FolderStep) → IsRightsStep step → IsCarried At step
-  rights_names (Looks other seen) rights steps s = absurd rights
-  rights_names (Follows other seen) rights steps s = absurd rights
-  rights_names (Resolves other target) rights steps s = absurd rights
-  rights_names (LooksAt opened look) rights steps s = absurd rights
-  rights_names (Opens opened other how) rights steps s = absurd rights
-  rights_names (Locks opened lock) rights steps s = absurd rights
-  rights_names (Ends opened size end) rights steps s = absurd rights
-  rights_names (EndsInNewline opened size newline) rights steps s = absurd rights
-  rights_names (Adds opened bytes) rights steps s = absurd rights
-  rights_names (Empties opened) rights steps s = absurd rights
-  rights_names (SetsMode opened mode) rights steps s = s
-  rights_names (GivesTo opened owner) rights steps s = s
-  rights_names (Dates opened log later) rights steps s = absurd rights
-  rights_names (Syncs opened) rights steps s = absurd rights
-  rights_names (SyncsFolder other) rights steps s = absurd rights
-  rights_names (ReadsAll opened bytes) rights steps s = absurd rights
-  rights_names (Reads other bytes) rights steps s = absurd rights
-  rights_names (Links other new) rights steps s = absurd rights
-  rights_names (Makes new bytes) rights steps s = absurd rights
-  rights_names (Removes other) rights steps s = absurd rights
-  rights_names (Renames other new) rights steps s = absurd rights
-  rights_names (Overwrites opened other) rights steps s = absurd rights
-
   abbrev Here : History → Type 0
   Here h = OfTold At h
 
@@ -496,207 +472,160 @@ module _ (stamp_of : ℕ → Stamp) (apart : AreApart stamp_of) where
 
 -- ---- what stands elsewhere
 
-module _ (stamp_of : ℕ → Stamp) (path here : List ℕ) (file : ℕ) (off_path : here ≢ path) (not_kept : EndsInTilde here → ⊥) where
-  other_new : (new : List ℕ) → EndsInTilde new → here ≢ new
-  other_new new tilde same = not_kept (subst EndsInTilde (sym same) tilde)
-
-  at_names : (step : FolderStep) → IsStepAt path step → IsCarried (StandsAfter stamp_of here file) step
-  at_names (Looks other seen) at steps s = absurd at
-  at_names (Follows other None) at steps s = absurd at
-  at_names (Follows other (Some look)) at steps s = absurd at
-  at_names (Resolves other target) at steps s = absurd at
-  at_names (LooksAt opened look) at steps s = absurd at
-  at_names (Opens opened other opening.Read) at steps s = absurd at
-  at_names (Opens opened other opening.Write) at steps s = absurd at
-  at_names (Opens opened other opening.Add) at steps s = absurd at
-  at_names (Opens opened other opening.Beside) at steps s = s.1 (λ same. off_path (same ∙ at))
-  at_names (Opens opened other (opening.New mode)) at steps s = absurd at
-  at_names (Locks opened lock) at steps s = absurd at
-  at_names (Ends opened size end) at steps s = absurd at
-  at_names (EndsInNewline opened size newline) at steps s = absurd at
-  at_names (Adds opened bytes) at steps s = absurd at
-  at_names (Empties opened) at steps s = absurd at
-  at_names (SetsMode opened mode) at steps s = absurd at
-  at_names (GivesTo opened owner) at steps s = absurd at
-  at_names (Dates opened log later) at steps s = absurd at
-  at_names (Syncs opened) at steps s = absurd at
-  at_names (SyncsFolder other) at steps s = absurd at
-  at_names (ReadsAll opened bytes) at steps s = s
-  at_names (Reads other bytes) at steps s = absurd at
-  at_names (Links other new) at steps s = s.1 (other_new new at.1)
-  at_names (Makes new bytes) at steps s = s (other_new new at)
-  at_names (Removes other) at steps s = s.1
-  at_names (Renames other new) at steps s = absurd at
-  at_names (Overwrites opened other) at steps s = absurd at
-
 module _ (stamp_of : ℕ → Stamp) (next : ℕ) (path name here : List ℕ) (file : ℕ) (off_path : here ≢ path) (not_kept : EndsInTilde here → ⊥) where
-  waiting_names : (step : FolderStep) → IsWaitingStep next name step → IsCarried (StandsAfter stamp_of here file) step
-  waiting_names (Looks other seen) waiting steps s = absurd waiting
-  waiting_names (Follows other seen) waiting steps s = absurd waiting
-  waiting_names (Resolves other target) waiting steps s = absurd waiting
-  waiting_names (LooksAt opened look) waiting steps s = absurd waiting
-  waiting_names (Opens opened other how) waiting steps s = absurd waiting
-  waiting_names (Locks opened lock) waiting steps s = absurd waiting
-  waiting_names (Ends opened size end) waiting steps s = absurd waiting
-  waiting_names (EndsInNewline opened size newline) waiting steps s = absurd waiting
-  waiting_names (Adds opened bytes) waiting steps s = s
-  waiting_names (Empties opened) waiting steps s = s
-  waiting_names (SetsMode opened mode) waiting steps s = absurd waiting
-  waiting_names (GivesTo opened owner) waiting steps s = absurd waiting
-  waiting_names (Dates opened log later) waiting steps s = absurd waiting
-  waiting_names (Syncs opened) waiting steps s = absurd waiting
-  waiting_names (SyncsFolder other) waiting steps s = absurd waiting
-  waiting_names (ReadsAll opened bytes) waiting steps s = absurd waiting
-  waiting_names (Reads other bytes) waiting steps s = absurd waiting
-  waiting_names (Links other new) waiting steps s = s.1 (other_new stamp_of path here file off_path not_kept new waiting.1)
-  waiting_names (Makes new bytes) waiting steps s = absurd waiting
-  waiting_names (Removes other) waiting steps s = absurd waiting
-  waiting_names (Renames other new) waiting steps s = absurd waiting
-  waiting_names (Overwrites opened other) waiting steps s = absurd waiting
+  -- a step that gives this path to no file
+  abbrev IsElsewhere : FolderStep → Type 0
+  IsElsewhere step = IsStepBeside next path name step ⊎ (IsNamingStep next path name step × (here ≢ name))
 
-  beside_names : (step : FolderStep) → IsStepBeside next path name step → IsCarried (StandsAfter stamp_of here file) step
-  beside_names step (inl quiet) = quiet_names stamp_of here file step quiet
-  beside_names step (inr (inl at)) = at_names stamp_of path here file off_path not_kept step at
-  beside_names step (inr (inr (inl rights))) = rights_names stamp_of here file step rights
-  beside_names step (inr (inr (inr waiting))) = waiting_names step waiting
+  off_kept : (new : List ℕ) → EndsInTilde new → here ≢ new
+  off_kept new tilde same = not_kept (subst EndsInTilde (sym same) tilde)
+
+  off_beside : (opened : ℕ) (other : List ℕ) → IsElsewhere (Opens opened other opening.Beside) → here ≢ other
+  off_beside opened other (inl (inl quiet)) = absurd quiet
+  off_beside opened other (inl (inr (inl at))) = λ same. off_path (same ∙ at)
+  off_beside opened other (inl (inr (inr (inl rights)))) = absurd rights
+  off_beside opened other (inl (inr (inr (inr waiting)))) = absurd waiting
+  off_beside opened other (inr (naming, off_name)) = absurd naming
+
+  off_new : (opened : ℕ) (other : List ℕ) (mode : ℕ) → IsElsewhere (Opens opened other (opening.New mode)) → here ≢ other
+  off_new opened other mode (inl (inl quiet)) = absurd quiet
+  off_new opened other mode (inl (inr (inl at))) = absurd at
+  off_new opened other mode (inl (inr (inr (inl rights)))) = absurd rights
+  off_new opened other mode (inl (inr (inr (inr waiting)))) = absurd waiting
+  off_new opened other mode (inr (naming, off_name)) = λ same. off_path (same ∙ naming)
+
+  off_link : (other new : List ℕ) → IsElsewhere (Links other new) → here ≢ new
+  off_link other new (inl (inl quiet)) = absurd quiet
+  off_link other new (inl (inr (inl at))) = off_kept new at.1
+  off_link other new (inl (inr (inr (inl rights)))) = absurd rights
+  off_link other new (inl (inr (inr (inr waiting)))) = off_kept new waiting.1
+  off_link other new (inr (naming, off_name)) = λ same. off_name (same ∙ naming.1)
+
+  off_make : (new bytes : List ℕ) → IsElsewhere (Makes new bytes) → here ≢ new
+  off_make new bytes (inl (inl quiet)) = absurd quiet
+  off_make new bytes (inl (inr (inl at))) = off_kept new at
+  off_make new bytes (inl (inr (inr (inl rights)))) = absurd rights
+  off_make new bytes (inl (inr (inr (inr waiting)))) = absurd waiting
+  off_make new bytes (inr (naming, off_name)) = absurd naming
+
+  off_rename : (other new : List ℕ) → IsElsewhere (Renames other new) → here ≢ new
+  off_rename other new (inl (inl quiet)) = absurd quiet
+  off_rename other new (inl (inr (inl at))) = absurd at
+  off_rename other new (inl (inr (inr (inl rights)))) = absurd rights
+  off_rename other new (inl (inr (inr (inr waiting)))) = absurd waiting
+  off_rename other new (inr (naming, off_name)) = λ same. off_name (same ∙ naming.1)
+
+  off_over : (opened : ℕ) (other : List ℕ) → IsElsewhere (Overwrites opened other) → here ≢ other
+  off_over opened other (inl (inl quiet)) = absurd quiet
+  off_over opened other (inl (inr (inl at))) = absurd at
+  off_over opened other (inl (inr (inr (inl rights)))) = absurd rights
+  off_over opened other (inl (inr (inr (inr waiting)))) = absurd waiting
+  off_over opened other (inr (naming, off_name)) = λ same. off_name (same ∙ naming.0)
+
+  names_elsewhere : (step : FolderStep) → IsElsewhere step → IsCarried (StandsAfter stamp_of here file) step
+  names_elsewhere (Looks other seen) of steps s = s
+  names_elsewhere (Follows other None) of steps s = s.1
+  names_elsewhere (Follows other (Some look)) of steps s = s.1
+  names_elsewhere (Resolves other target) of steps s = s
+  names_elsewhere (LooksAt opened look) of steps s = s.1
+  names_elsewhere (Opens opened other opening.Read) of steps s = s.1
+  names_elsewhere (Opens opened other opening.Write) of steps s = s.1
+  names_elsewhere (Opens opened other opening.Add) of steps s = s.1
+  names_elsewhere (Opens opened other opening.Beside) of steps s = s.1 (off_beside opened other of)
+  names_elsewhere (Opens opened other (opening.New mode)) of steps s = (s.1 (off_new opened other mode of)).1
+  names_elsewhere (Locks opened lock) of steps s = s
+  names_elsewhere (Ends opened size end) of steps s = s
+  names_elsewhere (EndsInNewline opened size newline) of steps s = s
+  names_elsewhere (Adds opened bytes) of steps s = s
+  names_elsewhere (Empties opened) of steps s = s
+  names_elsewhere (SetsMode opened mode) of steps s = s
+  names_elsewhere (GivesTo opened owner) of steps s = s
+  names_elsewhere (Dates opened log later) of steps s = s
+  names_elsewhere (Syncs opened) of steps s = s
+  names_elsewhere (SyncsFolder other) of steps s = s
+  names_elsewhere (ReadsAll opened bytes) of steps s = s
+  names_elsewhere (Reads other bytes) of steps s = s
+  names_elsewhere (Links other new) of steps s = s.1 (off_link other new of)
+  names_elsewhere (Makes new bytes) of steps s = s (off_make new bytes of)
+  names_elsewhere (Removes other) of steps s = s.1
+  names_elsewhere (Renames other new) of steps s = (s.1 (off_rename other new of)).1
+  names_elsewhere (Overwrites opened other) of steps s = s.1 (off_over opened other of)
 
   stood_waiting : (a b : History) → WaitsBeside next path name a b → Stands stamp_of here file b → Stands stamp_of here file a
-  stood_waiting a b waits stands = over_only _ (StandsAfter stamp_of here file) beside_names a b waits stands
+  stood_waiting a b waits stands = over_only _ (StandsAfter stamp_of here file) (λ step is. names_elsewhere step (inl is)) a b waits stands
 
-module _ (stamp_of : ℕ → Stamp) (next : ℕ) (path name here : List ℕ) (file : ℕ) (off_path : here ≢ path) (off_name : here ≢ name) (not_kept : EndsInTilde here → ⊥) where
-  naming_names : (step : FolderStep) → IsNamingStep next path name step → IsCarried (StandsAfter stamp_of here file) step
-  naming_names (Looks other seen) naming steps s = absurd naming
-  naming_names (Follows other None) naming steps s = absurd naming
-  naming_names (Follows other (Some look)) naming steps s = absurd naming
-  naming_names (Resolves other target) naming steps s = absurd naming
-  naming_names (LooksAt opened look) naming steps s = absurd naming
-  naming_names (Opens opened other opening.Read) naming steps s = absurd naming
-  naming_names (Opens opened other opening.Write) naming steps s = absurd naming
-  naming_names (Opens opened other opening.Add) naming steps s = absurd naming
-  naming_names (Opens opened other opening.Beside) naming steps s = absurd naming
-  naming_names (Opens opened other (opening.New mode)) naming steps s = (s.1 (λ same. off_path (same ∙ naming))).1
-  naming_names (Locks opened lock) naming steps s = absurd naming
-  naming_names (Ends opened size end) naming steps s = absurd naming
-  naming_names (EndsInNewline opened size newline) naming steps s = absurd naming
-  naming_names (Adds opened bytes) naming steps s = absurd naming
-  naming_names (Empties opened) naming steps s = absurd naming
-  naming_names (SetsMode opened mode) naming steps s = absurd naming
-  naming_names (GivesTo opened owner) naming steps s = absurd naming
-  naming_names (Dates opened log later) naming steps s = absurd naming
-  naming_names (Syncs opened) naming steps s = absurd naming
-  naming_names (SyncsFolder other) naming steps s = s
-  naming_names (ReadsAll opened bytes) naming steps s = absurd naming
-  naming_names (Reads other bytes) naming steps s = absurd naming
-  naming_names (Links other new) naming steps s = s.1 (λ same. off_name (same ∙ naming.1))
-  naming_names (Makes new bytes) naming steps s = absurd naming
-  naming_names (Removes other) naming steps s = absurd naming
-  naming_names (Renames other new) naming steps s = (s.1 (λ same. off_name (same ∙ naming.1))).1
-  naming_names (Overwrites opened other) naming steps s = s.1 (λ same. off_name (same ∙ naming.0))
+  elsewhere : here ≢ name → (step : FolderStep) → IsStepBeside next path name step ⊎ IsNamingStep next path name step → IsElsewhere step
+  elsewhere off_name step (inl beside) = inl beside
+  elsewhere off_name step (inr naming) = inr (naming, off_name)
 
-  step_names : (step : FolderStep) → IsStepBeside next path name step ⊎ IsNamingStep next path name step → IsCarried (StandsAfter stamp_of here file) step
-  step_names step (inl beside) = beside_names stamp_of next path name here file off_path not_kept step beside
-  step_names step (inr naming) = naming_names step naming
-
-  pub stood_elsewhere : (a b : History) → PutsOnlyAt next path name a b → Stands stamp_of here file b → Stands stamp_of here file a
-  stood_elsewhere a b puts stands = over_only _ (StandsAfter stamp_of here file) step_names a b puts stands
+  pub stood_elsewhere : (off_name : here ≢ name) (a b : History) → PutsOnlyAt next path name a b → Stands stamp_of here file b → Stands stamp_of here file a
+  stood_elsewhere off_name a b puts stands = over_only _ (StandsAfter stamp_of here file) (λ step is. names_elsewhere step (elsewhere off_name step is)) a b puts stands
 
 -- ---- a log, while one that is to take its name waits
 
-at_still : (path : List ℕ) (step : FolderStep) → IsStepAt path step → IsStill (change_of step)
-at_still path (Looks other seen) at = absurd at
-at_still path (Follows other seen) at = absurd at
-at_still path (Resolves other target) at = absurd at
-at_still path (LooksAt opened look) at = absurd at
-at_still path (Opens opened other how) at = tt
-at_still path (Locks opened lock) at = absurd at
-at_still path (Ends opened size end) at = absurd at
-at_still path (EndsInNewline opened size newline) at = absurd at
-at_still path (Adds opened bytes) at = absurd at
-at_still path (Empties opened) at = absurd at
-at_still path (SetsMode opened mode) at = absurd at
-at_still path (GivesTo opened owner) at = absurd at
-at_still path (Dates opened log later) at = absurd at
-at_still path (Syncs opened) at = absurd at
-at_still path (SyncsFolder other) at = absurd at
-at_still path (ReadsAll opened bytes) at = tt
-at_still path (Reads other bytes) at = absurd at
-at_still path (Links other new) at = tt
-at_still path (Makes new bytes) at = tt
-at_still path (Removes other) at = tt
-at_still path (Renames other new) at = absurd at
-at_still path (Overwrites opened other) at = absurd at
-
-rights_still : (step : FolderStep) → IsRightsStep step → IsStill (change_of step)
-rights_still (Looks other seen) rights = absurd rights
-rights_still (Follows other seen) rights = absurd rights
-rights_still (Resolves other target) rights = absurd rights
-rights_still (LooksAt opened look) rights = absurd rights
-rights_still (Opens opened other how) rights = absurd rights
-rights_still (Locks opened lock) rights = absurd rights
-rights_still (Ends opened size end) rights = absurd rights
-rights_still (EndsInNewline opened size newline) rights = absurd rights
-rights_still (Adds opened bytes) rights = absurd rights
-rights_still (Empties opened) rights = absurd rights
-rights_still (SetsMode opened mode) rights = tt
-rights_still (GivesTo opened owner) rights = tt
-rights_still (Dates opened log later) rights = absurd rights
-rights_still (Syncs opened) rights = absurd rights
-rights_still (SyncsFolder other) rights = absurd rights
-rights_still (ReadsAll opened bytes) rights = absurd rights
-rights_still (Reads other bytes) rights = absurd rights
-rights_still (Links other new) rights = absurd rights
-rights_still (Makes new bytes) rights = absurd rights
-rights_still (Removes other) rights = absurd rights
-rights_still (Renames other new) rights = absurd rights
-rights_still (Overwrites opened other) rights = absurd rights
-
 -- if it is another file
 module _ (next : ℕ) (path name : List ℕ) (file : ℕ) (other : file ≢ next) (found : List ℕ) where
+  abbrev IsOf : FolderStep → Type 0
+  IsOf step = IsStepBeside next path name step ⊎ IsNamingStep next path name step
+
+  adds_to : (opened : ℕ) (bytes : List ℕ) → IsOf (Adds opened bytes) → opened ≡ next
+  adds_to opened bytes (inl (inl quiet)) = absurd quiet
+  adds_to opened bytes (inl (inr (inl at))) = absurd at
+  adds_to opened bytes (inl (inr (inr (inl rights)))) = absurd rights
+  adds_to opened bytes (inl (inr (inr (inr waiting)))) = waiting
+  adds_to opened bytes (inr naming) = absurd naming
+
+  empties : (opened : ℕ) → IsOf (Empties opened) → opened ≡ next
+  empties opened (inl (inl quiet)) = absurd quiet
+  empties opened (inl (inr (inl at))) = absurd at
+  empties opened (inl (inr (inr (inl rights)))) = absurd rights
+  empties opened (inl (inr (inr (inr waiting)))) = waiting
+  empties opened (inr naming) = absurd naming
+
+  overwrites : (opened : ℕ) (there : List ℕ) → IsOf (Overwrites opened there) → opened ≡ next
+  overwrites opened there (inl (inl quiet)) = absurd quiet
+  overwrites opened there (inl (inr (inl at))) = absurd at
+  overwrites opened there (inl (inr (inr (inl rights)))) = absurd rights
+  overwrites opened there (inl (inr (inr (inr waiting)))) = absurd waiting
+  overwrites opened there (inr naming) = naming.1
+
   not_written : (written : ℕ) (bytes was : List ℕ) (steps : List FolderStep) → written ≡ next → (written ≢ file → found ≡ was) → HasAfter file was steps → HasAfter file found steps
   not_written written bytes was steps is same has = subst (λ l. HasAfter file l steps) (sym (same (λ e. other (sym e ∙ is)))) has
 
-  waiting_bytes : (step : FolderStep) → IsWaitingStep next name step → IsCarried (HasAfter file found) step
-  waiting_bytes (Looks other seen) waiting steps has = absurd waiting
-  waiting_bytes (Follows other seen) waiting steps has = absurd waiting
-  waiting_bytes (Resolves other target) waiting steps has = absurd waiting
-  waiting_bytes (LooksAt opened look) waiting steps has = absurd waiting
-  waiting_bytes (Opens opened other how) waiting steps has = absurd waiting
-  waiting_bytes (Locks opened lock) waiting steps has = absurd waiting
-  waiting_bytes (Ends opened size end) waiting steps has = absurd waiting
-  waiting_bytes (EndsInNewline opened size newline) waiting steps has = absurd waiting
-  waiting_bytes (Adds opened bytes) waiting steps (was, has, tells) = not_written opened bytes was steps waiting tells.1.1 has
-  waiting_bytes (Empties opened) waiting steps (was, has, tells) = not_written opened [] was steps waiting tells.1.1 has
-  waiting_bytes (SetsMode opened mode) waiting steps has = absurd waiting
-  waiting_bytes (GivesTo opened owner) waiting steps has = absurd waiting
-  waiting_bytes (Dates opened log later) waiting steps has = absurd waiting
-  waiting_bytes (Syncs opened) waiting steps has = absurd waiting
-  waiting_bytes (SyncsFolder other) waiting steps has = absurd waiting
-  waiting_bytes (ReadsAll opened bytes) waiting steps has = absurd waiting
-  waiting_bytes (Reads other bytes) waiting steps has = absurd waiting
-  waiting_bytes (Links other new) waiting steps has = has_over file found (Links other new) tt steps has
-  waiting_bytes (Makes new bytes) waiting steps has = absurd waiting
-  waiting_bytes (Removes other) waiting steps has = absurd waiting
-  waiting_bytes (Renames other new) waiting steps has = absurd waiting
-  waiting_bytes (Overwrites opened other) waiting steps has = absurd waiting
+  put_bytes : (step : FolderStep) → IsOf step → IsCarried (HasAfter file found) step
+  put_bytes (Looks there seen) of steps has = has_over file found (Looks there seen) tt steps has
+  put_bytes (Follows there seen) of steps has = has_over file found (Follows there seen) tt steps has
+  put_bytes (Resolves there target) of steps has = has_over file found (Resolves there target) tt steps has
+  put_bytes (LooksAt opened look) of steps has = has_over file found (LooksAt opened look) tt steps has
+  put_bytes (Opens opened there how) of steps has = has_over file found (Opens opened there how) tt steps has
+  put_bytes (Locks opened lock) of steps has = has_over file found (Locks opened lock) tt steps has
+  put_bytes (Ends opened size end) of steps has = has_over file found (Ends opened size end) tt steps has
+  put_bytes (EndsInNewline opened size newline) of steps has = has_over file found (EndsInNewline opened size newline) tt steps has
+  put_bytes (SetsMode opened mode) of steps has = has_over file found (SetsMode opened mode) tt steps has
+  put_bytes (GivesTo opened owner) of steps has = has_over file found (GivesTo opened owner) tt steps has
+  put_bytes (Dates opened dated later) of steps has = has_over file found (Dates opened dated later) tt steps has
+  put_bytes (Syncs opened) of steps has = has_over file found (Syncs opened) tt steps has
+  put_bytes (SyncsFolder there) of steps has = has_over file found (SyncsFolder there) tt steps has
+  put_bytes (ReadsAll opened bytes) of steps has = has_over file found (ReadsAll opened bytes) tt steps has
+  put_bytes (Reads there bytes) of steps has = has_over file found (Reads there bytes) tt steps has
+  put_bytes (Links there new) of steps has = has_over file found (Links there new) tt steps has
+  put_bytes (Makes new bytes) of steps has = has_over file found (Makes new bytes) tt steps has
+  put_bytes (Removes there) of steps has = has_over file found (Removes there) tt steps has
+  put_bytes (Renames there new) of steps has = has_over file found (Renames there new) tt steps has
+  put_bytes (Adds opened bytes) of steps (was, has, tells) = not_written opened bytes was steps (adds_to opened bytes of) tells.1.1 has
+  put_bytes (Empties opened) of steps (was, has, tells) = not_written opened [] was steps (empties opened of) tells.1.1 has
+  put_bytes (Overwrites opened there) of steps (was, has, tells) = not_written opened [] was steps (overwrites opened there of) tells.1.1 has
 
-  beside_bytes : (step : FolderStep) → IsStepBeside next path name step → IsCarried (HasAfter file found) step
-  beside_bytes step (inl quiet) = has_over file found step (still step quiet)
-  beside_bytes step (inr (inl at)) = has_over file found step (at_still path step at)
-  beside_bytes step (inr (inr (inl rights))) = has_over file found step (rights_still step rights)
-  beside_bytes step (inr (inr (inr waiting))) = waiting_bytes step waiting
+  pub had_elsewhere : (a b : History) → PutsOnlyAt next path name a b → OfTold (HasAfter file found) b → OfTold (HasAfter file found) a
+  had_elsewhere a b puts has = over_only _ (HasAfter file found) put_bytes a b puts has
 
   had_waiting : (a b : History) → WaitsBeside next path name a b → OfTold (HasAfter file found) b → OfTold (HasAfter file found) a
-  had_waiting a b waits has = over_only _ (HasAfter file found) beside_bytes a b waits has
-
--- if none was taken
-spare_bytes : (path : List ℕ) (file : ℕ) (found : List ℕ) (step : FolderStep) → IsQuietStep step ⊎ IsStepAt path step → IsCarried (HasAfter file found) step
-spare_bytes path file found step (inl quiet) = has_over file found step (still step quiet)
-spare_bytes path file found step (inr at) = has_over file found step (at_still path step at)
+  had_waiting a b waits has = had_elsewhere a b (puts_waits next path name a b waits) has
 
 pub held_early : (stamp_of : ℕ → Stamp) (path name found : List ℕ) (a b : History) → name ≢ path → (EndsInTilde name → ⊥) → ChangesOnlyAt path a b → Holds stamp_of name found b
     → Holds stamp_of name found a
 held_early stamp_of path name found a b off_path not_kept only (file, stands, has) =
-    (file, stood_waiting stamp_of file path name name file off_path not_kept a b (waits_at file path name a b only) stands, over_only _ (HasAfter file found) (spare_bytes path file found) a b only has)
+    (file, stood_waiting stamp_of file path name name file off_path not_kept a b (waits_at file path name a b only) stands, had_waiting (suc file) path name file (λ e. absurd omega (arith, e)) found a b (waits_at (suc file) path name a b only) has)
 
 module _ (stamp_of : ℕ → Stamp) (apart : AreApart stamp_of) where
   -- the log is the old one, or has all of the lines
@@ -726,48 +655,11 @@ module _ (stamp_of : ℕ → Stamp) (apart : AreApart stamp_of) where
 
 -- ---- a log, while a text is put that may fail
 
--- if another file is written
-module _ (next : ℕ) (path name : List ℕ) (file : ℕ) (other : file ≢ next) (found : List ℕ) where
-  naming_bytes : (step : FolderStep) → IsNamingStep next path name step → IsCarried (HasAfter file found) step
-  naming_bytes (Looks there seen) naming steps has = absurd naming
-  naming_bytes (Follows there seen) naming steps has = absurd naming
-  naming_bytes (Resolves there target) naming steps has = absurd naming
-  naming_bytes (LooksAt opened look) naming steps has = absurd naming
-  naming_bytes (Opens opened there opening.Read) naming steps has = absurd naming
-  naming_bytes (Opens opened there opening.Write) naming steps has = absurd naming
-  naming_bytes (Opens opened there opening.Add) naming steps has = absurd naming
-  naming_bytes (Opens opened there opening.Beside) naming steps has = absurd naming
-  naming_bytes (Opens opened there (opening.New mode)) naming steps has = has_over file found (Opens opened there (opening.New mode)) tt steps has
-  naming_bytes (Locks opened lock) naming steps has = absurd naming
-  naming_bytes (Ends opened size end) naming steps has = absurd naming
-  naming_bytes (EndsInNewline opened size newline) naming steps has = absurd naming
-  naming_bytes (Adds opened bytes) naming steps has = absurd naming
-  naming_bytes (Empties opened) naming steps has = absurd naming
-  naming_bytes (SetsMode opened mode) naming steps has = absurd naming
-  naming_bytes (GivesTo opened owner) naming steps has = absurd naming
-  naming_bytes (Dates opened log later) naming steps has = absurd naming
-  naming_bytes (Syncs opened) naming steps has = absurd naming
-  naming_bytes (SyncsFolder there) naming steps has = has_over file found (SyncsFolder there) tt steps has
-  naming_bytes (ReadsAll opened bytes) naming steps has = absurd naming
-  naming_bytes (Reads there bytes) naming steps has = absurd naming
-  naming_bytes (Links there new) naming steps has = has_over file found (Links there new) tt steps has
-  naming_bytes (Makes new bytes) naming steps has = absurd naming
-  naming_bytes (Removes there) naming steps has = absurd naming
-  naming_bytes (Renames there new) naming steps has = has_over file found (Renames there new) tt steps has
-  naming_bytes (Overwrites opened there) naming steps (was, has, tells) = not_written next path name file other found opened [] was steps naming.1 tells.1.1 has
-
-  step_bytes : (step : FolderStep) → IsStepBeside next path name step ⊎ IsNamingStep next path name step → IsCarried (HasAfter file found) step
-  step_bytes step (inl beside) = beside_bytes next path name file other found step beside
-  step_bytes step (inr naming) = naming_bytes step naming
-
-  pub had_elsewhere : (a b : History) → PutsOnlyAt next path name a b → OfTold (HasAfter file found) b → OfTold (HasAfter file found) a
-  had_elsewhere a b puts has = over_only _ (HasAfter file found) step_bytes a b puts has
-
 module _ (stamp_of : ℕ → Stamp) (path name log : List ℕ) (off_path : log ≢ path) (off_name : log ≢ name) (not_kept : EndsInTilde log → ⊥) where
   held_elsewhere : (next file : ℕ) (found : List ℕ) (a b : History) → PutsOnlyAt next path name a b → (Stands stamp_of log file a → file ≢ next)
       → Stands stamp_of log file b → OfTold (HasAfter file found) b → Holds stamp_of log found a
   held_elsewhere next file found a b puts other stands has =
-      let stood = stood_elsewhere stamp_of next path name log file off_path off_name not_kept a b puts stands in
+      let stood = stood_elsewhere stamp_of next path name log file off_path not_kept off_name a b puts stands in
       (file, stood, had_elsewhere next path name file (other stood) found a b puts has)
 
   -- no file gets bytes

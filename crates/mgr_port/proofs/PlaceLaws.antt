@@ -226,7 +226,7 @@ module _ (file : ℕ) (path name : List ℕ) where
   IsPut step = IsStepBeside file path name step ⊎ IsNamingStep file path name step
 
   -- the same while it waits
-  puts_waits : (a b : History) → WaitsBeside file path name a b → PutsOnlyAt file path name a b
+  pub puts_waits : (a b : History) → WaitsBeside file path name a b → PutsOnlyAt file path name a b
   puts_waits a b waits = only_of a b (λ step is. inl is) waits
 
   pub puts_at : (a b : History) → ChangesOnlyAt path a b → PutsOnlyAt file path name a b
