@@ -1,6 +1,6 @@
 -- Steps that change something at one path alone, one after another.
 use Rattle.std.proofs.Common.{◌≡◌, ◌⊎◌, inl, inr, ℕ, Bool, true, false, List, [], ◌∷◌, Option, Some, None, Result, Ok, Err, IfOk, OnErr, OnOk, ◌++◌, refl, sym, subst}
-use Rattle.mgr_port.specs.Disk.{DiskStep, BeginsSteps, unnamed_steps}
+use Rattle.mgr_port.specs.Disk.{DiskStep, BeginsSteps}
 use Rattle.mgr_port.specs.Disk as disk
 use Rattle.mgr_port.specs.Folder.{History, FolderStep, Adds, Dates, Empties, Follows, GivesTo, Links, Looks, LooksAt, Makes, Reads, Removes, Renames, Syncs, SyncsFolder, AreAll, IsIdle, IsQuiet, IsQuietStep, Only, Steps, Writes, after}
 use Rattle.mgr_port.specs.Growth.{AddsFront, IsAdded}
@@ -210,11 +210,11 @@ module _ (file : ℕ) (log : Option ℕ) (s : Staged) where
       waits_chain file s.path.now s.name.now a done b (waits_does step a done one does) (waits_all (next ∷ later) done b all rest)
 
   -- its rights were set, and then it was put in part
-  pub waits_stopped : {A E : Type 0} (r : Result A E) (path name bytes : List ℕ) (a b c : History) → s.path.now ≡ path → s.name.now ≡ name → SetsRights a b
-      → OnErr r (StopsBefore file log s (unnamed_steps bytes) b c) → OnErr r (WaitsBeside file path name a c)
-  waits_stopped (Ok x) path name bytes a b c is named rights stops = tt
-  waits_stopped (Err e) path name bytes a b c is named rights t =
-      let all = begun_unnamed (unnamed_steps bytes) t.made (tt, (tt, (tt, (tt, tt)))) t.begins in
+  pub waits_stopped : {A E : Type 0} (r : Result A E) (path name : List ℕ) (wanted : List DiskStep) (a b c : History) → AreUnnamed wanted → s.path.now ≡ path → s.name.now ≡ name
+      → SetsRights a b → OnErr r (StopsBefore file log s wanted b c) → OnErr r (WaitsBeside file path name a c)
+  waits_stopped (Ok x) path name wanted a b c unnamed is named rights stops = tt
+  waits_stopped (Err e) path name wanted a b c unnamed is named rights t =
+      let all = begun_unnamed wanted t.made unnamed t.begins in
       let put = waits_chain file s.path.now s.name.now b t.done c (waits_all t.made b t.done all t.does) (waits_idle file s.path.now s.name.now t.done c t.idle) in
       waits_chain file path name a b c (waits_rights file path name a b rights)
       (subst (λ n. WaitsBeside file path n b c) named (subst (λ p. WaitsBeside file p s.name.now b c) is put))

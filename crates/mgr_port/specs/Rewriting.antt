@@ -1,13 +1,15 @@
 -- What a log that is written anew asks of a folder.
 use Rattle.std.specs.Prelude.{◌≡◌, ◌⊎◌, ℕ, List, [], ◌∷◌, Bool, true, false, Some, None, if◌then◌else◌}
-use Rattle.mgr_port.specs.Disk as disk
+use Rattle.mgr_port.specs.Disk.{last_steps}
 use Rattle.mgr_port.specs.Folder.{History, Adds, EndsInNewline, LooksAt, Opens, Syncs, SyncsFolder, after}
 use Rattle.mgr_port.specs.Locks.{IsHeldEmpty, OpensBeside, OpensLocked, ShowsPlain}
-use Rattle.mgr_port.specs.Spares.{ChangesOnlyAt, IsOneOfMore, MayRemove}
+use Rattle.mgr_port.specs.Spares.{ChangesOnlyAt, IsOneOfMore, MayRemove, WaitsBeside}
 use Rattle.mgr_port.specs.Staging.{DoesAll}
 use Rattle.mgr_port.specs.Texts.{TakesMode}
 use Rattle.mgr_port.specs.declared.folder.Opening.TheVariants as opening
 use Rattle.mgr_port.specs.declared.spare.Look.{Look}
+use Rattle.mgr_port.specs.declared.staged.Named.{Named}
+use Rattle.mgr_port.specs.declared.staged.Named.TheVariants as named
 use Rattle.mgr_port.specs.declared.staged.Old.TheVariants as old
 use Rattle.mgr_port.specs.declared.staged.Staged.{Staged}
 
@@ -48,8 +50,17 @@ MakesNextLog file log path before now =
     × ChangesOnlyAt path removed held × IsHeldEmpty file path held × (looked ≡ after (LooksAt log like) held) × TakesMode file like looked now
 
 -- What was written beside is on the device, with the date of the log if nothing of that is refused. The log stands there as
--- it was read, and is kept; then the file has its name, on the device too.
-abbrev pub NamesRead : ℕ → ℕ → List ℕ → List ℕ → ℕ → Bool → History → History → Type 0
-NamesRead file log path name read refused before now =
+-- it was read, and is kept; then the file has its name, which may be on the device too.
+abbrev pub NamesReadBy : ℕ → ℕ → List ℕ → List ℕ → ℕ → Bool → Named → History → History → Type 0
+NamesReadBy file log path name read refused named before now =
     (s : Staged) × (s.path.now ≡ path) × (s.name.now ≡ name) × (s.later ≡ (if refused then None else Some 0)) × (s.old ≡ old.Read read)
-    × DoesAll file (Some log) s (disk.Syncs ∷ disk.Keeps ∷ disk.TakesName ∷ disk.SyncsFolder ∷ []) before now
+    × DoesAll file (Some log) s (last_steps named) before now
+
+-- it is
+abbrev pub NamesRead : ℕ → ℕ → List ℕ → List ℕ → ℕ → Bool → History → History → Type 0
+NamesRead file log path name read refused before now = NamesReadBy file log path name read refused named.Settled before now
+
+-- the file does not get the name of the log, or so
+abbrev pub LeavesRead : ℕ → ℕ → List ℕ → List ℕ → ℕ → Bool → History → History → Type 0
+LeavesRead file log path name read refused before now =
+    WaitsBeside file path name before now ⊎ ((named : Named) × NamesReadBy file log path name read refused named before now)

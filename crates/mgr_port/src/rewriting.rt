@@ -2,7 +2,7 @@
 ghost use Rattle.std.specs.Prelude.{◌≡◌, ℕ, None, Some, IfOk, OnOk, true, if◌then◌else◌, string_bytes};
 ghost use Rattle.mgr_port.specs.Folder.{IsIdle, IsQuiet};
 ghost use Rattle.mgr_port.specs.Locks.{ShowsPlain};
-ghost use Rattle.mgr_port.specs.Rewriting.{EndsLine, KeepsRefused, MakesNextLog, NamesRead};
+ghost use Rattle.mgr_port.specs.Rewriting.{EndsLine, KeepsRefused, LeavesRead, MakesNextLog, NamesRead};
 ghost use Rattle.mgr_port.specs.Rewriting.{OpensRefused, OpensToRewrite};
 ghost use Rattle.mgr_port.specs.Spares.{ChangesNoName, MakesOnlyBeside, PutsOnlyAt, PutsOnlyBeside};
 
@@ -122,6 +122,10 @@ impl<T: Drop> OpenLog<T> {
             (string_bytes paths.now.next_log)
             (string_bytes paths.now.log) self.now.read self.now.refused
             (F.steps folder.old) (F.steps folder.new)) }
+        ensures left { LeavesRead (F.file_of next) (F.file_of self.now.file)
+            (string_bytes paths.now.next_log)
+            (string_bytes paths.now.log) self.now.read self.now.refused
+            (F.steps folder.old) (F.steps folder.new) }
         ensures only { PutsOnlyAt (F.file_of next) (string_bytes paths.now.next_log)
             (string_bytes paths.now.log) (F.steps folder.old) (F.steps folder.new) }
     {

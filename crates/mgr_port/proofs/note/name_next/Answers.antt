@@ -23,4 +23,4 @@ returns-in_err-take_rights-clause-unnamed g c = on_err _ (waits_rights _ _ _ _ _
 
 pub returns-clause-unnamed : goal.returns-clause-unnamed
 returns-clause-unnamed g c =
-    waits_stopped _ _ _ c.put_log.result _ _ _ _ _ _ c.as_str-2.ensures.value c.as_str-3.ensures.value c.in_ok-take_rights.ensures.only c.put_log.ensures.unnamed
+    waits_stopped _ _ _ c.put_log.result _ _ _ _ _ _ (tt, (tt, (tt, (tt, tt)))) c.as_str-2.ensures.value c.as_str-3.ensures.value c.in_ok-take_rights.ensures.only c.put_log.ensures.unnamed
