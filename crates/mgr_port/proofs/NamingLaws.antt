@@ -489,10 +489,10 @@ module _ (stamp_of : ℕ → Stamp) (next : ℕ) (path name here : List ℕ) (fi
 
   off_new : (opened : ℕ) (other : List ℕ) (mode : ℕ) → IsElsewhere (Opens opened other (opening.New mode)) → here ≢ other
   off_new opened other mode (inl (inl quiet)) = absurd quiet
-  off_new opened other mode (inl (inr (inl at))) = absurd at
+  off_new opened other mode (inl (inr (inl at))) = λ same. off_path (same ∙ at)
   off_new opened other mode (inl (inr (inr (inl rights)))) = absurd rights
   off_new opened other mode (inl (inr (inr (inr waiting)))) = absurd waiting
-  off_new opened other mode (inr (naming, off_name)) = λ same. off_path (same ∙ naming)
+  off_new opened other mode (inr (naming, off_name)) = absurd naming
 
   off_link : (other new : List ℕ) → IsElsewhere (Links other new) → here ≢ new
   off_link other new (inl (inl quiet)) = absurd quiet
@@ -664,7 +664,7 @@ module _ (stamp_of : ℕ → Stamp) (path name log : List ℕ) (off_path : log �
 
   -- no file gets bytes
   held_made : (found : List ℕ) (a b : History) → MakesOnlyAt path name a b → Holds stamp_of log found b → Holds stamp_of log found a
-  held_made found a b makes (file, stands, has) = held_elsewhere (suc file) file found a b (makes (suc file)) (λ _ e. absurd omega (arith, e)) stands has
+  held_made found a b makes (file, stands, has) = held_elsewhere (suc file) file found a b (puts_waits (suc file) path name a b (makes (suc file))) (λ _ e. absurd omega (arith, e)) stands has
 
   -- a new one does
   held_beside : (dated : Option ℕ) (bytes found : List ℕ) (own : Option Stamp) (a b : History) → WritesBeside dated path name bytes own a b → Holds stamp_of log found b → Holds stamp_of log found a
@@ -675,15 +675,15 @@ module _ (stamp_of : ℕ → Stamp) (path name log : List ℕ) (off_path : log �
   -- one that is not the log's does
   held_over : (over : ℕ) (found : List ℕ) (a b : History) → WritesInPlace over path name a b → (Stands stamp_of log over b → ⊥) → Holds stamp_of log found b → Holds stamp_of log found a
   held_over over found a b (inl makes) not_over holds = held_made found a b makes holds
-  held_over over found a b (inr (spared, emptied, makes, is, puts)) not_over (file, stands, has) =
+  held_over over found a b (inr (spared, emptied, makes, is, waits)) not_over (file, stands, has) =
       let empties = puts_one over path name spared emptied (Overwrites over name) is (refl, refl) in
       let other : file ≢ over = λ same. not_over (subst (λ f. Stands stamp_of log f b) same stands) in
-      held_made found a spared makes (held_elsewhere over file found spared b (puts_chain over path name spared emptied b empties puts) (λ _. other) stands has)
+      held_made found a spared makes (held_elsewhere over file found spared b (puts_chain over path name spared emptied b empties (puts_waits over path name emptied b waits)) (λ _. other) stands has)
 
   pub held_tried : (over : ℕ) (dated : Option ℕ) (bytes found : List ℕ) (own : Option Stamp) (a b : History) → TriesText over dated path name bytes own a b → (Stands stamp_of log over b → ⊥)
       → Holds stamp_of log found b → Holds stamp_of log found a
   held_tried over dated bytes found own a b (made, put, makes, beside, in_place) not_over holds =
-      held_made found a made makes (held_beside dated bytes found own made put beside (held_over over found put b in_place not_over holds))
+      held_made found a made (λ file. makes file name) (held_beside dated bytes found own made put beside (held_over over found put b in_place not_over holds))
 
 -- a text that could not be put beside is the old one, or has all of the bytes
 pub text_left : (stamp_of : ℕ → Stamp) (apart : AreApart stamp_of) (file : ℕ) (log : Option ℕ) (path name bytes found : List ℕ) (own : Option Stamp) (is_there : Bool) (seen made b : History)

@@ -77,7 +77,7 @@ at_removal P file path a b (inr (opened, looked, one, rest)) =
       | inr (found, followed, two, inr (of, is)) ↦ then_step path a followed b (Removes path) (then_look path a looked followed (Follows path found) first two tt) is refl
     ]
 
-pub at_removal_if : (P : Stamp → Option Look → Type 0) (file : Option ℕ) (path : List ℕ) (a b : History) → MayRemoveIf P file path a b → ChangesOnlyAt path a b
+at_removal_if : (P : Stamp → Option Look → Type 0) (file : Option ℕ) (path : List ℕ) (a b : History) → MayRemoveIf P file path a b → ChangesOnlyAt path a b
 at_removal_if P None path a b is = at_none path a b is
 at_removal_if P (Some file) path a b may = at_removal P file path a b may
 
@@ -135,11 +135,23 @@ module _ (file : ℕ) (path name : List ℕ) where
   pub waits_chain : (a b c : History) → WaitsBeside file path name a b → WaitsBeside file path name b c → WaitsBeside file path name a c
   waits_chain a b c one two = only_chain a b c one two
 
-  waits_look : (a b c : History) (step : FolderStep) → WaitsBeside file path name a b → c ≡ after step b → IsQuietStep step → WaitsBeside file path name a c
+  pub waits_look : (a b c : History) (step : FolderStep) → WaitsBeside file path name a b → c ≡ after step b → IsQuietStep step → WaitsBeside file path name a c
   waits_look a b c step before is quiet = only_more a b c step before is (inl quiet)
 
-  waits_one : (a b : History) (step : FolderStep) → b ≡ after step a → IsWaitingStep file name step → WaitsBeside file path name a b
+  pub waits_right : (a b c : History) (step : FolderStep) → WaitsBeside file path name a b → c ≡ after step b → IsRightsStep step → WaitsBeside file path name a c
+  waits_right a b c step before is rights = only_more a b c step before is (inr (inr (inl rights)))
+
+  pub waits_owner : (which : ℕ) (owner : Owner) (is_owned : Bool) (a b : History) → TakesOwner which owner a b is_owned → WaitsBeside file path name a b
+  waits_owner which owner is_owned a b takes = waits_rights a b (rights_owner which owner is_owned a b takes)
+
+  pub waits_one : (a b : History) (step : FolderStep) → b ≡ after step a → IsWaitingStep file name step → WaitsBeside file path name a b
   waits_one a b step is waiting = only_more a a b step (waits_none a a refl) is (inr (inr (inr waiting)))
+
+  -- a beginning of bytes may have been written
+  pub waits_begun : (bytes : List ℕ) (a b : History) → (b ≡ a) ⊎ ((front : List ℕ) × (rest : List ℕ) × (bytes ≡ front ++ rest) × (b ≡ after (Adds file front) a))
+      → WaitsBeside file path name a b
+  waits_begun bytes a b (inl is) = waits_none a b is
+  waits_begun bytes a b (inr (front, rest, parts, is)) = waits_one a b (Adds file front) is refl
 
   -- what stands under the name is kept, or nothing is lost of it
   waits_kept : (why : Reason) (a b : History) → IsKept why name a b → WaitsBeside file path name a b
@@ -160,7 +172,7 @@ module _ (file : ℕ) (path name : List ℕ) where
   waits_shown reason.Copied own bytes a b shown = absurd shown
   waits_shown reason.Open own bytes a b shown = absurd shown
 
-  waits_spared : (own : Option Stamp) (bytes : List ℕ) (a b : History) → SparesText name own bytes a b → WaitsBeside file path name a b
+  pub waits_spared : (own : Option Stamp) (bytes : List ℕ) (a b : History) → SparesText name own bytes a b → WaitsBeside file path name a b
   waits_spared own bytes a b (why, inl shown) = waits_shown why own bytes a b shown
   waits_spared own bytes a b (why, inr kept) = waits_kept why a b kept
 
@@ -171,7 +183,7 @@ module _ (file : ℕ) (path name : List ℕ) where
   waits_old log (old.Read size) a b (why, checked, (other, found, opened, followed, known, one, two, same, long), kept) =
       waits_chain a checked b (waits_look a followed checked (LooksAt other opened) (waits_look a a followed (Follows name (Some found)) (waits_none a a refl) one tt) two tt) (waits_kept why checked b kept)
 
-  waits_synced : (which : ℕ) (log later : Option ℕ) (a b : History) → SyncsDated which log later a b → WaitsBeside file path name a b
+  pub waits_synced : (which : ℕ) (log later : Option ℕ) (a b : History) → SyncsDated which log later a b → WaitsBeside file path name a b
   waits_synced which log None a b (dated, may, is) = waits_look a dated b (Syncs which) (waits_none a dated may) is tt
   waits_synced which log (Some later) a b (dated, inl may, is) = waits_look a dated b (Syncs which) (waits_none a dated may) is tt
   waits_synced which log (Some later) a b (dated, inr (of, known, date), is) =
@@ -232,7 +244,7 @@ module _ (file : ℕ) (path name : List ℕ) where
   pub puts_at : (a b : History) → ChangesOnlyAt path a b → PutsOnlyAt file path name a b
   puts_at a b only = puts_waits a b (waits_at file path name a b only)
 
-  pub puts_idle : (a b : History) → IsIdle a b → PutsOnlyAt file path name a b
+  puts_idle : (a b : History) → IsIdle a b → PutsOnlyAt file path name a b
   puts_idle a b idle = puts_waits a b (waits_idle file path name a b idle)
 
   pub puts_quiet : (a b : History) → IsQuiet a b → PutsOnlyAt file path name a b
@@ -261,14 +273,9 @@ module _ (file : ℕ) (path name : List ℕ) where
   puts_may (Ok x) a b c step before is put = only_more a b c (step x) before is (put x)
   puts_may (Err e) a b c step before is put = puts_chain a b c before (puts_none b c is)
 
-  pub puts_right : (a b c : History) (step : FolderStep) → PutsOnlyAt file path name a b → c ≡ after step b → IsRightsStep step → PutsOnlyAt file path name a c
-  puts_right a b c step before is rights = only_more a b c step before is (inl (inr (inr (inl rights))))
-
-  -- a beginning of bytes may have been written
   pub puts_begun : (bytes : List ℕ) (a b c : History) → PutsOnlyAt file path name a b
       → (c ≡ b) ⊎ ((front : List ℕ) × (rest : List ℕ) × (bytes ≡ front ++ rest) × (c ≡ after (Adds file front) b)) → PutsOnlyAt file path name a c
-  puts_begun bytes a b c before (inl is) = puts_chain a b c before (puts_none b c is)
-  puts_begun bytes a b c before (inr (front, rest, parts, is)) = puts_step a b c (Adds file front) before is refl
+  puts_begun bytes a b c before begun = puts_chain a b c before (puts_waits b c (waits_begun file path name bytes b c begun))
 
   pub puts_written : {A E : Type 0} (r : Result A E) (bytes : List ℕ) (a b c : History) → PutsOnlyAt file path name a b → Writes r file bytes b c → PutsOnlyAt file path name a c
   puts_written (Ok x) bytes a b c before is = puts_step a b c (Adds file bytes) before is refl
@@ -283,15 +290,6 @@ module _ (file : ℕ) (path name : List ℕ) where
   puts_added (Err e) log lines left longer a b added (inl quiet) = puts_quiet a b quiet
   puts_added (Err e) log lines left longer a b none (inr (front, rest, shown, added, parts, first, is, last)) =
       puts_chain a added b (puts_step a shown added (Adds file front) (puts_quiet a shown first) is refl) (puts_quiet added b last)
-
-  pub puts_owner : (which : ℕ) (owner : Owner) (is_owned : Bool) (a b : History) → TakesOwner which owner a b is_owned → PutsOnlyAt file path name a b
-  puts_owner which owner is_owned a b takes = puts_rights a b (rights_owner which owner is_owned a b takes)
-
-  pub puts_spared : (own : Option Stamp) (bytes : List ℕ) (a b : History) → SparesText name own bytes a b → PutsOnlyAt file path name a b
-  puts_spared own bytes a b spared = puts_waits a b (waits_spared file path name own bytes a b spared)
-
-  pub puts_synced : (which : ℕ) (log later : Option ℕ) (a b : History) → SyncsDated which log later a b → PutsOnlyAt file path name a b
-  puts_synced which log later a b syncs = puts_waits a b (waits_synced file path name which log later a b syncs)
 
   puts_free : (a b : History) → GivesFreeName path name a b → PutsOnlyAt file path name a b
   puts_free a b (inl (linked, one, inl is)) = puts_chain a linked b (puts_one a linked (Links path name) one (refl, refl)) (puts_none linked b is)
@@ -319,12 +317,12 @@ module _ (file : ℕ) (log : Option ℕ) (s : Staged) where
   puts_does disk.SyncsFolder a b is = puts_one file s.path.now s.name.now a b (SyncsFolder s.name.now) is tt
 
   -- all of a new file's steps, or some
-  pub puts_all : (steps : List DiskStep) (a b : History) → DoesAll file log s steps a b → PutsOnlyAt file s.path.now s.name.now a b
+  puts_all : (steps : List DiskStep) (a b : History) → DoesAll file log s steps a b → PutsOnlyAt file s.path.now s.name.now a b
   puts_all [] a b is = puts_none file s.path.now s.name.now a b is
   puts_all (step ∷ []) a b does = puts_does step a b does
   puts_all (step ∷ next ∷ later) a b (done, does, rest) = puts_chain file s.path.now s.name.now a done b (puts_does step a done does) (puts_all (next ∷ later) done b rest)
 
-  pub puts_some : (wanted : List DiskStep) (a b : History) → StopsBefore file log s wanted a b → PutsOnlyAt file s.path.now s.name.now a b
+  puts_some : (wanted : List DiskStep) (a b : History) → StopsBefore file log s wanted a b → PutsOnlyAt file s.path.now s.name.now a b
   puts_some wanted a b t = puts_chain file s.path.now s.name.now a t.done b (puts_all t.made a t.done t.does) (puts_idle file s.path.now s.name.now t.done b t.idle)
 
   pub puts_whole : {E : Type 0} (r : Result Named E) (steps : Named → List DiskStep) (wanted : List DiskStep) (a b : History) → IfOk r (λ n. DoesAll file log s (steps n) a b)
@@ -334,3 +332,6 @@ module _ (file : ℕ) (log : Option ℕ) (s : Staged) where
 
 pub puts_paths : (file : ℕ) (path beside name spelled : List ℕ) (a b : History) → path ≡ beside → name ≡ spelled → PutsOnlyAt file path name a b → PutsOnlyAt file beside spelled a b
 puts_paths file path beside name spelled a b is named puts = subst (λ n. PutsOnlyAt file beside n a b) named (subst (λ p. PutsOnlyAt file p name a b) is puts)
+
+pub waits_path : (file : ℕ) (spelled path name : List ℕ) (a b : History) → spelled ≡ path → WaitsBeside file spelled name a b → WaitsBeside file path name a b
+waits_path file spelled path name a b is waits = subst (λ p. WaitsBeside file p name a b) is waits

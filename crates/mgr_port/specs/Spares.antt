@@ -123,6 +123,7 @@ GivesFreeName path name old now =
 -- A file is opened to be added to, or made there; what stands there is kept, or goes. An open file is read.
 abbrev pub IsStepAt : List ℕ → FolderStep → Type 0
 IsStepAt path (Opens file other opening.Beside) = other ≡ path
+IsStepAt path (Opens file other (opening.New mode)) = other ≡ path
 IsStepAt path (Links other name) = (other ≡ path) × EndsInTilde name
 IsStepAt path (Makes name bytes) = EndsInTilde name
 IsStepAt path (Removes other) = other ≡ path
@@ -157,10 +158,8 @@ IsStepBeside file path name step = IsQuietStep step ⊎ IsStepAt path step ⊎ I
 abbrev pub WaitsBeside : ℕ → List ℕ → List ℕ → History → History → Type 0
 WaitsBeside file path name old now = Only (IsStepBeside file path name) old now
 
--- A file is made at the path; it takes the name, and that is brought to the device; or this file, which has the name, is
--- written over.
+-- The file of the path takes the name, and that is brought to the device; or this file, which has the name, is written over.
 abbrev pub IsNamingStep : ℕ → List ℕ → List ℕ → FolderStep → Type 0
-IsNamingStep file path name (Opens opened other (opening.New mode)) = other ≡ path
 IsNamingStep file path name (SyncsFolder other) = Unit {0}
 IsNamingStep file path name (Links other new) = (other ≡ path) × (new ≡ name)
 IsNamingStep file path name (Renames other new) = (other ≡ path) × (new ≡ name)
@@ -175,15 +174,16 @@ PutsOnlyAt file path name old now = Only (λ step. IsStepBeside file path name s
 abbrev pub PutsLogOnly : Paths → History → History → Type 0
 PutsLogOnly paths old now = (file : ℕ) × PutsOnlyAt file (string_bytes paths.next_log) (string_bytes paths.log) old now
 
--- at this path alone, whatever name its file is to take; the same, and no file gets bytes; at both, and none does; at no path
-abbrev pub PutsOnlyBeside : ℕ → List ℕ → History → History → Type 0
-PutsOnlyBeside file path old now = (name : List ℕ) → PutsOnlyAt file path name old now
+-- no file gets bytes, and none takes the name, or any
+abbrev pub MakesOnlyAt : List ℕ → List ℕ → History → History → Type 0
+MakesOnlyAt path name old now = (file : ℕ) → WaitsBeside file path name old now
 
 abbrev pub MakesOnlyBeside : List ℕ → History → History → Type 0
-MakesOnlyBeside path old now = (file : ℕ) → PutsOnlyBeside file path old now
+MakesOnlyBeside path old now = (file : ℕ) (name : List ℕ) → WaitsBeside file path name old now
 
-abbrev pub MakesOnlyAt : List ℕ → List ℕ → History → History → Type 0
-MakesOnlyAt path name old now = (file : ℕ) → PutsOnlyAt file path name old now
+-- at this path alone, whatever name its file is to take; at no path
+abbrev pub PutsOnlyBeside : ℕ → List ℕ → History → History → Type 0
+PutsOnlyBeside file path old now = (name : List ℕ) → PutsOnlyAt file path name old now
 
 abbrev pub ChangesNoName : ℕ → History → History → Type 0
 ChangesNoName file old now = (path : List ℕ) → PutsOnlyBeside file path old now

@@ -3,7 +3,7 @@ ghost use Rattle.std.specs.Option.{option_map};
 ghost use Rattle.std.specs.Prelude.{◌≡◌, ◌≤◌, List, ℕ, None, Some, IfOk, IfSome, OnErr, OnOk, string_bytes};
 ghost use Rattle.mgr_port.specs.Folder.{IsQuiet};
 ghost use Rattle.mgr_port.specs.Locks.{IsOwnRead};
-ghost use Rattle.mgr_port.specs.Spares.{MakesOnlyAt, MakesOnlyBeside, PutsOnlyAt, WaitsBeside};
+ghost use Rattle.mgr_port.specs.Spares.{MakesOnlyBeside, PutsOnlyAt, WaitsBeside};
 ghost use Rattle.mgr_port.specs.Texts.{IsOwnBeside, IsThere, LeavesNextText, MakesLike, MakesNextText, NamesText};
 ghost use Rattle.mgr_port.specs.Texts.{PutsBeside, PutsInPlace, PutsText, TriesText, WritesInPlace};
 
@@ -258,8 +258,8 @@ fn make_next<F: Folder>(
     ensures made { IfOk result (λ o. IfSome o (λ file. MakesNextText (F.file_of file)
         (string_bytes paths.now.next_text)
         (string_bytes paths.now.text) is_there (F.steps folder.old) (F.steps folder.new))) }
-    ensures only { MakesOnlyAt (string_bytes paths.now.next_text)
-        (string_bytes paths.now.text) (F.steps folder.old) (F.steps folder.new) }
+    ensures only { MakesOnlyBeside (string_bytes paths.now.next_text)
+        (F.steps folder.old) (F.steps folder.new) }
 {
     let path = paths.next_text.as_str();
     match folder.look(paths.text.as_str())?.found {
