@@ -137,10 +137,15 @@ class Person:
             os.kill(program, number)
         self.left()
 
-    def await_logged(self):
-        """Waits until the last word is shown, and then until it is in the log, which comes after that."""
+    def await_shown(self):
+        """Waits until the last word is shown, and returns it."""
         word = self.words[-1]
         self.terminal.expect("its word", lambda: word in " ".join(self.terminal.shown()), True, seconds=PATIENCE)
+        return word
+
+    def await_logged(self):
+        """Waits until the last word is shown, and then until it is in the log, which comes after that."""
+        word = self.await_shown()
         logged = lambda: words_in(typed(operations_in(self.engine.log(self.number))))  # noqa: E731
         await_that(f"{word} is in the log", lambda: word in logged(), PATIENCE)
 
@@ -161,7 +166,9 @@ class Person:
         self.signal(signal.SIGTERM, self.terminal.programs()[:1])
 
     def hang_up(self):
-        """has the terminal closed right after a word"""
+        """has the terminal closed right after a word is shown"""
+        # With a terminal goes what no program has read of it.
+        self.await_shown()
         self.close(self.terminal.programs())
 
     def close(self, programs):
@@ -183,6 +190,8 @@ class Person:
 
     def doze(self):
         """is stopped, as a laptop that is closed, and goes on"""
+        # What they have not read the shell would.
+        self.await_shown()
         live, mgr = self.terminal.programs()
         for program in (live, mgr):
             os.kill(program, signal.SIGSTOP)
