@@ -7,7 +7,7 @@ use Rattle.mgr_port.specs.Folder.{History, FolderStep, Adds, Dates, Empties, End
 use Rattle.mgr_port.specs.Locks.{HoldsEmpty, IsTaken, MakesBeside, StandsFor}
 use Rattle.mgr_port.specs.Naming.{AreApart, Holds, Stands, StandsAfter}
 use Rattle.mgr_port.specs.Notes.{LeavesLog, LeavesNext, MakesLog, PutsLog, TakesRights, TakesTextRights}
-use Rattle.mgr_port.specs.Spares.{ChangesOnlyAt, EndsInTilde, GivesFreeName, IsKept, IsShown, IsSpare, IsNamingStep, IsStepBeside, MakesOnlyAt, PutsOnlyAt, WaitsBeside}
+use Rattle.mgr_port.specs.Spares.{ChangesOnlyAt, EndsInTilde, GivesFreeName, IsKept, IsShown, IsSpare, IsMakingStep, IsNamingStep, IsRightsStep, IsStepAt, IsStepBeside, MakesFileAt, MakesOnlyAt, PutsOnlyAt, WaitsBeside}
 use Rattle.mgr_port.specs.Staging.{DoesAll, KeepsOld, MayDate, SyncsDated, TakesOld}
 use Rattle.mgr_port.specs.Texts.{LeavesNextText, MakesFor, MakesLike, MakesNextText, NamesText, PutsBeside, PutsInPlace, PutsText, TakesMode, TakesOwner, TriesText, WritesBeside, WritesInPlace}
 use Rattle.mgr_port.specs.Verdicts.{AreOfOneFile}
@@ -489,7 +489,7 @@ module _ (stamp_of : ℕ → Stamp) (next : ℕ) (path name here : List ℕ) (fi
 
   off_new : (opened : ℕ) (other : List ℕ) (mode : ℕ) → IsElsewhere (Opens opened other (opening.New mode)) → here ≢ other
   off_new opened other mode (inl (inl quiet)) = absurd quiet
-  off_new opened other mode (inl (inr (inl at))) = λ same. off_path (same ∙ at)
+  off_new opened other mode (inl (inr (inl at))) = absurd at
   off_new opened other mode (inl (inr (inr (inl rights)))) = absurd rights
   off_new opened other mode (inl (inr (inr (inr waiting)))) = absurd waiting
   off_new opened other mode (inr (naming, off_name)) = absurd naming
@@ -554,6 +554,16 @@ module _ (stamp_of : ℕ → Stamp) (next : ℕ) (path name here : List ℕ) (fi
   stood_waiting : (a b : History) → WaitsBeside next path name a b → Stands stamp_of here file b → Stands stamp_of here file a
   stood_waiting a b waits stands = over_only _ (StandsAfter stamp_of here file) (λ step is. names_elsewhere step (inl is)) a b waits stands
 
+  -- a new file at the path
+  new_names : (step : FolderStep) → IsQuietStep step ⊎ IsStepAt path step ⊎ IsRightsStep step ⊎ IsMakingStep path step → IsCarried (StandsAfter stamp_of here file) step
+  new_names step (inl quiet) = names_elsewhere step (inl (inl quiet))
+  new_names step (inr (inl at)) = names_elsewhere step (inl (inr (inl at)))
+  new_names step (inr (inr (inl rights))) = names_elsewhere step (inl (inr (inr (inl rights))))
+  new_names step (inr (inr (inr (opened, mode, is)))) = subst (IsCarried (StandsAfter stamp_of here file)) (sym is) (λ steps s. (s.1 off_path).1)
+
+  stood_new : (a b : History) → MakesFileAt path a b → Stands stamp_of here file b → Stands stamp_of here file a
+  stood_new a b makes stands = over_only _ (StandsAfter stamp_of here file) new_names a b makes stands
+
   elsewhere : here ≢ name → (step : FolderStep) → IsStepBeside next path name step ⊎ IsNamingStep next path name step → IsElsewhere step
   elsewhere off_name step (inl beside) = inl beside
   elsewhere off_name step (inr naming) = inr (naming, off_name)
@@ -615,6 +625,15 @@ module _ (next : ℕ) (path name : List ℕ) (file : ℕ) (other : file ≢ next
   put_bytes (Adds opened bytes) of steps (was, has, tells) = not_written opened bytes was steps (adds_to opened bytes of) tells.1.1 has
   put_bytes (Empties opened) of steps (was, has, tells) = not_written opened [] was steps (empties opened of) tells.1.1 has
   put_bytes (Overwrites opened there) of steps (was, has, tells) = not_written opened [] was steps (overwrites opened there of) tells.1.1 has
+
+  new_bytes : (step : FolderStep) → IsQuietStep step ⊎ IsStepAt path step ⊎ IsRightsStep step ⊎ IsMakingStep path step → IsCarried (HasAfter file found) step
+  new_bytes step (inl quiet) = put_bytes step (inl (inl quiet))
+  new_bytes step (inr (inl at)) = put_bytes step (inl (inr (inl at)))
+  new_bytes step (inr (inr (inl rights))) = put_bytes step (inl (inr (inr (inl rights))))
+  new_bytes step (inr (inr (inr (opened, mode, is)))) = subst (IsCarried (HasAfter file found)) (sym is) (has_over file found (Opens opened path (opening.New mode)) tt)
+
+  had_new : (a b : History) → MakesFileAt path a b → OfTold (HasAfter file found) b → OfTold (HasAfter file found) a
+  had_new a b makes has = over_only _ (HasAfter file found) new_bytes a b makes has
 
   pub had_elsewhere : (a b : History) → PutsOnlyAt next path name a b → OfTold (HasAfter file found) b → OfTold (HasAfter file found) a
   had_elsewhere a b puts has = over_only _ (HasAfter file found) put_bytes a b puts has
@@ -680,10 +699,15 @@ module _ (stamp_of : ℕ → Stamp) (path name log : List ℕ) (off_path : log �
       let other : file ≢ over = λ same. not_over (subst (λ f. Stands stamp_of log f b) same stands) in
       held_made found a spared makes (held_elsewhere over file found spared b (puts_chain over path name spared emptied b empties (puts_waits over path name emptied b waits)) (λ _. other) stands has)
 
+  -- or is made, without bytes
+  held_new : (found : List ℕ) (a b : History) → MakesFileAt path a b → Holds stamp_of log found b → Holds stamp_of log found a
+  held_new found a b makes (file, stands, has) =
+      (file, stood_new stamp_of 0 path name log file off_path not_kept a b makes stands, had_new (suc file) path name file (λ e. absurd omega (arith, e)) found a b makes has)
+
   pub held_tried : (over : ℕ) (dated : Option ℕ) (bytes found : List ℕ) (own : Option Stamp) (a b : History) → TriesText over dated path name bytes own a b → (Stands stamp_of log over b → ⊥)
       → Holds stamp_of log found b → Holds stamp_of log found a
   held_tried over dated bytes found own a b (made, put, makes, beside, in_place) not_over holds =
-      held_made found a made (λ file. makes file name) (held_beside dated bytes found own made put beside (held_over over found put b in_place not_over holds))
+      held_new found a made makes (held_beside dated bytes found own made put beside (held_over over found put b in_place not_over holds))
 
 -- a text that could not be put beside is the old one, or has all of the bytes
 pub text_left : (stamp_of : ℕ → Stamp) (apart : AreApart stamp_of) (file : ℕ) (log : Option ℕ) (path name bytes found : List ℕ) (own : Option Stamp) (is_there : Bool) (seen made b : History)

@@ -7,7 +7,7 @@ use Rattle.mgr_port.specs.Folder.{History, Follows, IsQuiet, LooksAt, after}
 use Rattle.mgr_port.specs.Growth.{IsAdded}
 use Rattle.mgr_port.specs.Locks.{IsTaken, OpensLocked}
 use Rattle.mgr_port.specs.Notes.{IsLeftAt, LeavesLog, LoadsLog, MakesLog, MakesRoom, MakesRoomIf, NamesLog, PutsLog, ReadsLog, TakesRights, old_for}
-use Rattle.mgr_port.specs.Spares.{ChangesOnlyAt, MakesOnlyBeside, PutsOnlyAt, WaitsBeside}
+use Rattle.mgr_port.specs.Spares.{ChangesOnlyAt, MakesFileAt, PutsOnlyAt, WaitsBeside}
 use Rattle.mgr_port.specs.Staging.{DoesAll, IsSettled}
 use Rattle.mgr_port.specs.Texts.{LeavesNextText, MakesNextText, NamesText, PutsBeside, PutsInPlace, PutsText, TriesText, WritesBeside, WritesInPlace}
 use Rattle.mgr_port.specs.declared.log.LeftLog.{LeftLog}
@@ -152,7 +152,7 @@ tried_beside o next file_of log path name bytes own is_there seen made put there
     inr (file_of next, is_there, seen, subst (λ p. IfSome p (λ file. MakesNextText (file_of file) path name is_there seen made)) there makes, puts, leaves)
 
 -- or it was tried to write it where it stands
-pub tried_in_place : (log : Option ℕ) (path name spelled bytes : List ℕ) (own : Option Stamp) (before made put now : History) → spelled ≡ name → MakesOnlyBeside path before made
+pub tried_in_place : (log : Option ℕ) (path name spelled bytes : List ℕ) (own : Option Stamp) (before made put now : History) → spelled ≡ name → MakesFileAt path before made
     → WritesBeside log path name bytes own made put → (over : ℕ) × ((beside : List ℕ) → WritesInPlace over beside spelled put now) → (over : ℕ) × TriesText over log path name bytes own before now
 tried_in_place log path name spelled bytes own before made put now same makes beside (over, writes) = (over, (made, put, makes, beside, subst (λ n. WritesInPlace over path n put now) same (writes path)))
 

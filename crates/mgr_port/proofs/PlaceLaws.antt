@@ -2,12 +2,13 @@
 use Rattle.std.proofs.Common.{◌≡◌, ◌⊎◌, inl, inr, ℕ, Bool, true, false, List, [], ◌∷◌, Option, Some, None, Result, Ok, Err, IfOk, OnErr, OnOk, ◌++◌, refl, sym, subst}
 use Rattle.mgr_port.specs.Disk.{DiskStep, BeginsSteps}
 use Rattle.mgr_port.specs.Disk as disk
-use Rattle.mgr_port.specs.Folder.{History, FolderStep, Adds, Dates, Empties, Follows, GivesTo, Links, Looks, LooksAt, Makes, Reads, Removes, Renames, Syncs, SyncsFolder, AreAll, IsIdle, IsQuiet, IsQuietStep, Only, Steps, Writes, after}
+use Rattle.mgr_port.specs.Folder.{History, FolderStep, Adds, Dates, Empties, Follows, GivesTo, Links, Looks, LooksAt, Makes, Opens, Reads, Removes, Renames, Syncs, SyncsFolder, AreAll, IsIdle, IsQuiet, IsQuietStep, Only, Steps, Writes, after}
 use Rattle.mgr_port.specs.Growth.{AddsFront, IsAdded}
 use Rattle.mgr_port.specs.Notes.{Leaves, MayRemoveIf}
-use Rattle.mgr_port.specs.Spares.{ChangesOnlyAt, GivesFreeName, IsKept, IsOfFile, IsOneOfMore, IsRightsStep, IsShown, IsNamingStep, IsStepAt, IsStepBeside, IsWaitingStep, MayRemove, PutsOnlyAt, SetsRights, SparesText, WaitsBeside}
+use Rattle.mgr_port.specs.Spares.{ChangesOnlyAt, GivesFreeName, IsKept, IsOfFile, IsOneOfMore, IsRightsStep, IsShown, IsMakingStep, IsNamingStep, IsStepAt, IsStepBeside, IsWaitingStep, MakesFileAt, MayRemove, PutsOnlyAt, SetsRights, SparesText, WaitsBeside}
 use Rattle.mgr_port.specs.Staging.{Does, DoesAll, KeepsOld, StopsBefore, SyncsDated, TakesOld}
 use Rattle.mgr_port.specs.Texts.{TakesOwner}
+use Rattle.mgr_port.specs.declared.folder.Opening.TheVariants as opening
 use Rattle.mgr_port.specs.declared.spare.Owner.{Owner}
 use Rattle.mgr_port.specs.declared.staged.Named.{Named}
 use Rattle.mgr_port.specs.declared.staged.Old.{Old}
@@ -96,32 +97,68 @@ rights_look a b c step before is quiet = only_more a b c step before is (inl qui
 pub rights_chain : (a b c : History) → SetsRights a b → SetsRights b c → SetsRights a c
 rights_chain a b c one two = only_chain a b c one two
 
+pub rights_step : (a b c : History) (step : FolderStep) → SetsRights a b → c ≡ after step b → IsRightsStep step → SetsRights a c
+rights_step a b c step before is rights = only_more a b c step before is (inr rights)
+
 pub rights_may : {A E : Type 0} (r : Result A E) (a b c : History) (step : A → FolderStep) → SetsRights a b → Steps r step b c → ((x : A) → IsRightsStep (step x)) → SetsRights a c
-rights_may (Ok x) a b c step before is set = only_more a b c (step x) before is (inr (set x))
+rights_may (Ok x) a b c step before is set = rights_step a b c (step x) before is (set x)
 rights_may (Err e) a b c step before is set = rights_chain a b c before (rights_none b c is)
 
 pub rights_owner : (file : ℕ) (owner : Owner) (is_owned : Bool) (a b : History) → TakesOwner file owner a b is_owned → SetsRights a b
 rights_owner file owner true a b (look, looked, one, inl (same, is)) = rights_chain a looked b (rights_look a a looked (LooksAt file look) (rights_none a a refl) one tt) (rights_none looked b is)
 rights_owner file owner true a b (look, looked, one, inr is) =
-    only_more a looked b (GivesTo file owner) (rights_look a a looked (LooksAt file look) (rights_none a a refl) one tt) is (inr tt)
+    rights_step a looked b (GivesTo file owner) (rights_look a a looked (LooksAt file look) (rights_none a a refl) one tt) is tt
 rights_owner file owner false a b (look, other, is) = rights_look a a b (LooksAt file look) (rights_none a a refl) is tt
+
+-- ---- what changes at a path, sets rights, or is of another kind
+
+module _ (path : List ℕ) (IsOther : FolderStep → Type 0) where
+  abbrev IsOneOf : FolderStep → Type 0
+  IsOneOf step = IsQuietStep step ⊎ IsStepAt path step ⊎ IsRightsStep step ⊎ IsOther step
+
+  one_at : (step : FolderStep) → IsQuietStep step ⊎ IsStepAt path step → IsOneOf step
+  one_at step (inl quiet) = inl quiet
+  one_at step (inr at) = inr (inl at)
+
+  one_rights : (step : FolderStep) → IsQuietStep step ⊎ IsRightsStep step → IsOneOf step
+  one_rights step (inl quiet) = inl quiet
+  one_rights step (inr rights) = inr (inr (inl rights))
+
+  any_at : (a b : History) → ChangesOnlyAt path a b → Only IsOneOf a b
+  any_at a b only = only_of a b one_at only
+
+  any_rights : (a b : History) → SetsRights a b → Only IsOneOf a b
+  any_rights a b rights = only_of a b one_rights rights
+
+-- ---- a new file
+
+module _ (path : List ℕ) where
+  pub new_at : (a b : History) → ChangesOnlyAt path a b → MakesFileAt path a b
+  new_at a b only = any_at path (IsMakingStep path) a b only
+
+  pub new_rights : (a b : History) → SetsRights a b → MakesFileAt path a b
+  new_rights a b rights = any_rights path (IsMakingStep path) a b rights
+
+  pub new_chain : (a b c : History) → MakesFileAt path a b → MakesFileAt path b c → MakesFileAt path a c
+  new_chain a b c one two = only_chain a b c one two
+
+  -- it was made, or that failed
+  pub new_made : {A E : Type 0} (r : Result A E) (file_of : A → ℕ) (mode : ℕ) (a b c : History) → MakesFileAt path a b
+      → Steps r (λ x. Opens (file_of x) path (opening.New mode)) b c → MakesFileAt path a c
+  new_made (Ok x) file_of mode a b c before is = only_more a b c (Opens (file_of x) path (opening.New mode)) before is (inr (inr (inr (file_of x, mode, refl))))
+  new_made (Err e) file_of mode a b c before is = new_chain a b c before (only_none b c is)
+
+pub new_path : (spelled path : List ℕ) (a b : History) → spelled ≡ path → MakesFileAt spelled a b → MakesFileAt path a b
+new_path spelled path a b is makes = subst (λ p. MakesFileAt p a b) is makes
 
 -- ---- a file that is still to take its name
 
 module _ (file : ℕ) (path name : List ℕ) where
-  beside_at : (step : FolderStep) → IsQuietStep step ⊎ IsStepAt path step → IsStepBeside file path name step
-  beside_at step (inl quiet) = inl quiet
-  beside_at step (inr at) = inr (inl at)
-
-  beside_rights : (step : FolderStep) → IsQuietStep step ⊎ IsRightsStep step → IsStepBeside file path name step
-  beside_rights step (inl quiet) = inl quiet
-  beside_rights step (inr rights) = inr (inr (inl rights))
-
   pub waits_at : (a b : History) → ChangesOnlyAt path a b → WaitsBeside file path name a b
-  waits_at a b only = only_of a b beside_at only
+  waits_at a b only = any_at path (IsWaitingStep file name) a b only
 
   pub waits_rights : (a b : History) → SetsRights a b → WaitsBeside file path name a b
-  waits_rights a b rights = only_of a b beside_rights rights
+  waits_rights a b rights = any_rights path (IsWaitingStep file name) a b rights
 
   pub waits_quiet : (a b : History) → IsQuiet a b → WaitsBeside file path name a b
   waits_quiet a b quiet = only_of a b (λ step is. inl is) quiet
@@ -137,12 +174,6 @@ module _ (file : ℕ) (path name : List ℕ) where
 
   pub waits_look : (a b c : History) (step : FolderStep) → WaitsBeside file path name a b → c ≡ after step b → IsQuietStep step → WaitsBeside file path name a c
   waits_look a b c step before is quiet = only_more a b c step before is (inl quiet)
-
-  pub waits_right : (a b c : History) (step : FolderStep) → WaitsBeside file path name a b → c ≡ after step b → IsRightsStep step → WaitsBeside file path name a c
-  waits_right a b c step before is rights = only_more a b c step before is (inr (inr (inl rights)))
-
-  pub waits_owner : (which : ℕ) (owner : Owner) (is_owned : Bool) (a b : History) → TakesOwner which owner a b is_owned → WaitsBeside file path name a b
-  waits_owner which owner is_owned a b takes = waits_rights a b (rights_owner which owner is_owned a b takes)
 
   pub waits_one : (a b : History) (step : FolderStep) → b ≡ after step a → IsWaitingStep file name step → WaitsBeside file path name a b
   waits_one a b step is waiting = only_more a a b step (waits_none a a refl) is (inr (inr (inr waiting)))
@@ -332,6 +363,3 @@ module _ (file : ℕ) (log : Option ℕ) (s : Staged) where
 
 pub puts_paths : (file : ℕ) (path beside name spelled : List ℕ) (a b : History) → path ≡ beside → name ≡ spelled → PutsOnlyAt file path name a b → PutsOnlyAt file beside spelled a b
 puts_paths file path beside name spelled a b is named puts = subst (λ n. PutsOnlyAt file beside n a b) named (subst (λ p. PutsOnlyAt file p name a b) is puts)
-
-pub waits_path : (file : ℕ) (spelled path name : List ℕ) (a b : History) → spelled ≡ path → WaitsBeside file spelled name a b → WaitsBeside file path name a b
-waits_path file spelled path name a b is waits = subst (λ p. WaitsBeside file p name a b) is waits

@@ -123,7 +123,6 @@ GivesFreeName path name old now =
 -- A file is opened to be added to, or made there; what stands there is kept, or goes. An open file is read.
 abbrev pub IsStepAt : List ℕ → FolderStep → Type 0
 IsStepAt path (Opens file other opening.Beside) = other ≡ path
-IsStepAt path (Opens file other (opening.New mode)) = other ≡ path
 IsStepAt path (Links other name) = (other ≡ path) × EndsInTilde name
 IsStepAt path (Makes name bytes) = EndsInTilde name
 IsStepAt path (Removes other) = other ≡ path
@@ -143,6 +142,10 @@ IsRightsStep other = ⊥
 -- a file gets rights, and nothing else changes
 abbrev pub SetsRights : History → History → Type 0
 SetsRights old now = Only (λ step. IsQuietStep step ⊎ IsRightsStep step) old now
+
+-- a new file is made at the path
+abbrev pub IsMakingStep : List ℕ → FolderStep → Type 0
+IsMakingStep path step = (file : ℕ) × (mode : ℕ) × (step ≡ Opens file path (opening.New mode))
 
 -- This file gets bytes. What stands under the name gets another one.
 abbrev pub IsWaitingStep : ℕ → List ℕ → FolderStep → Type 0
@@ -180,6 +183,10 @@ MakesOnlyAt path name old now = (file : ℕ) → WaitsBeside file path name old 
 
 abbrev pub MakesOnlyBeside : List ℕ → History → History → Type 0
 MakesOnlyBeside path old now = (file : ℕ) (name : List ℕ) → WaitsBeside file path name old now
+
+-- A new file may be made at the path, and may get rights; no file gets bytes.
+abbrev pub MakesFileAt : List ℕ → History → History → Type 0
+MakesFileAt path old now = Only (λ step. IsQuietStep step ⊎ IsStepAt path step ⊎ IsRightsStep step ⊎ IsMakingStep path step) old now
 
 -- at this path alone, whatever name its file is to take; at no path
 abbrev pub PutsOnlyBeside : ℕ → List ℕ → History → History → Type 0

@@ -3,7 +3,7 @@ use Rattle.std.specs.Prelude.{◌≡◌, ◌≢◌, ◌⊎◌, ℕ, List, Bool, 
 use Rattle.mgr_port.specs.Disk.{steps_to, whole_steps}
 use Rattle.mgr_port.specs.Folder.{History, Adds, Follows, GivesTo, IsQuiet, Locks, Looks, LooksAt, Opens, Overwrites, SetsMode, after}
 use Rattle.mgr_port.specs.Locks.{MakesBeside, OpensLocked}
-use Rattle.mgr_port.specs.Spares.{MakesOnlyAt, MakesOnlyBeside, PutsOnlyAt, SparesText, WaitsBeside}
+use Rattle.mgr_port.specs.Spares.{MakesFileAt, MakesOnlyAt, PutsOnlyAt, SparesText, WaitsBeside}
 use Rattle.mgr_port.specs.Staging.{DoesAll, SyncsDated}
 use Rattle.mgr_port.specs.Verdicts.{IsDatedBy, mode_like}
 use Rattle.mgr_port.specs.declared.folder.Lock.{Lock}
@@ -120,7 +120,7 @@ WritesInPlace file path name before now =
 -- A new file may be made, and be written; then this one may be written in place.
 abbrev pub TriesText : ℕ → Option ℕ → List ℕ → List ℕ → List ℕ → Option Stamp → History → History → Type 0
 TriesText over log path name bytes own before now =
-    (made : History) × (put : History) × MakesOnlyBeside path before made × WritesBeside log path name bytes own made put
+    (made : History) × (put : History) × MakesFileAt path before made × WritesBeside log path name bytes own made put
     × WritesInPlace over path name put now
 
 -- a text beside a log is this port's own if it is dated by that log; or what it was stays

@@ -3,7 +3,7 @@ ghost use Rattle.std.specs.Option.{option_map};
 ghost use Rattle.std.specs.Prelude.{◌≡◌, ◌≤◌, List, ℕ, None, Some, IfOk, IfSome, OnErr, OnOk, string_bytes};
 ghost use Rattle.mgr_port.specs.Folder.{IsQuiet};
 ghost use Rattle.mgr_port.specs.Locks.{IsOwnRead};
-ghost use Rattle.mgr_port.specs.Spares.{MakesOnlyBeside, PutsOnlyAt, WaitsBeside};
+ghost use Rattle.mgr_port.specs.Spares.{MakesFileAt, PutsOnlyAt, WaitsBeside};
 ghost use Rattle.mgr_port.specs.Texts.{IsOwnBeside, IsThere, LeavesNextText, MakesLike, MakesNextText, NamesText};
 ghost use Rattle.mgr_port.specs.Texts.{PutsBeside, PutsInPlace, PutsText, TriesText, WritesInPlace};
 
@@ -258,7 +258,7 @@ fn make_next<F: Folder>(
     ensures made { IfOk result (λ o. IfSome o (λ file. MakesNextText (F.file_of file)
         (string_bytes paths.now.next_text)
         (string_bytes paths.now.text) is_there (F.steps folder.old) (F.steps folder.new))) }
-    ensures only { MakesOnlyBeside (string_bytes paths.now.next_text)
+    ensures only { MakesFileAt (string_bytes paths.now.next_text)
         (F.steps folder.old) (F.steps folder.new) }
 {
     let path = paths.next_text.as_str();
@@ -273,7 +273,7 @@ fn make_next<F: Folder>(
 fn make_like<F: Folder>(folder: &mut F, path: &str, like: Look) -> io::Result<Option<F::File>>
     ensures made { IfOk result (λ o. IfSome o (λ file.
         MakesLike (F.file_of file) path.now like (F.steps folder.old) (F.steps folder.new))) }
-    ensures only { MakesOnlyBeside path.now (F.steps folder.old) (F.steps folder.new) }
+    ensures only { MakesFileAt path.now (F.steps folder.old) (F.steps folder.new) }
 {
     let Ok(next) = make_beside(folder, path, 0) else {
         return only_name(like);
