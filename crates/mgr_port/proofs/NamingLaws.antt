@@ -7,7 +7,7 @@ use Rattle.mgr_port.specs.Folder.{History, FolderStep, Adds, Dates, Empties, End
 use Rattle.mgr_port.specs.Locks.{HoldsEmpty, IsTaken, MakesBeside, StandsFor}
 use Rattle.mgr_port.specs.Naming.{AreApart, Holds, Stands, StandsAfter}
 use Rattle.mgr_port.specs.Notes.{LeavesLog, LeavesNext, MakesLog, PutsLog, TakesRights, TakesTextRights}
-use Rattle.mgr_port.specs.Spares.{ChangesOnlyAt, EndsInTilde, GivesFreeName, IsKept, IsShown, IsSpare, IsMakingStep, IsNamingStep, IsRightsStep, IsStepAt, IsStepBeside, MakesFileAt, MakesOnlyAt, PutsOnlyAt, WaitsBeside}
+use Rattle.mgr_port.specs.Spares.{ChangesOnlyAt, EndsInTilde, GivesFreeName, IsKept, IsShown, IsSpare, IsNamingStep, IsStepBeside, MakesFileAt, PutsOnlyAt, WaitsBeside}
 use Rattle.mgr_port.specs.Staging.{DoesAll, KeepsOld, MayDate, SyncsDated, TakesOld}
 use Rattle.mgr_port.specs.Texts.{LeavesNextText, MakesFor, MakesLike, MakesNextText, NamesText, PutsBeside, PutsInPlace, PutsText, TakesMode, TakesOwner, TriesText, WritesBeside, WritesInPlace}
 use Rattle.mgr_port.specs.Verdicts.{AreOfOneFile}
@@ -25,7 +25,7 @@ use Rattle.mgr_port.specs.declared.staged.Staged.{Staged}
 use Rattle.mgr_port.specs.declared.stamp.Stamp.{Stamp}
 use Rattle.mgr_port.proofs.BytesLaws.{IsStill, still, unchanged}
 use Rattle.mgr_port.proofs.FolderLaws.{idle_is_quiet}
-use Rattle.mgr_port.proofs.PlaceLaws.{puts_chain, puts_one, puts_waits, waits_at}
+use Rattle.mgr_port.proofs.PlaceLaws.{at_idle, at_spared, puts_chain, puts_front, puts_one, puts_waits, waits_at, waits_fits}
 
 -- ---- what holds after a step, and held before it
 
@@ -554,16 +554,6 @@ module _ (stamp_of : ℕ → Stamp) (next : ℕ) (path name here : List ℕ) (fi
   stood_waiting : (a b : History) → WaitsBeside next path name a b → Stands stamp_of here file b → Stands stamp_of here file a
   stood_waiting a b waits stands = over_only _ (StandsAfter stamp_of here file) (λ step is. names_elsewhere step (inl is)) a b waits stands
 
-  -- a new file at the path
-  new_names : (step : FolderStep) → IsQuietStep step ⊎ IsStepAt path step ⊎ IsRightsStep step ⊎ IsMakingStep path step → IsCarried (StandsAfter stamp_of here file) step
-  new_names step (inl quiet) = names_elsewhere step (inl (inl quiet))
-  new_names step (inr (inl at)) = names_elsewhere step (inl (inr (inl at)))
-  new_names step (inr (inr (inl rights))) = names_elsewhere step (inl (inr (inr (inl rights))))
-  new_names step (inr (inr (inr (opened, mode, is)))) = subst (IsCarried (StandsAfter stamp_of here file)) (sym is) (λ steps s. (s.1 off_path).1)
-
-  stood_new : (a b : History) → MakesFileAt path a b → Stands stamp_of here file b → Stands stamp_of here file a
-  stood_new a b makes stands = over_only _ (StandsAfter stamp_of here file) new_names a b makes stands
-
   elsewhere : here ≢ name → (step : FolderStep) → IsStepBeside next path name step ⊎ IsNamingStep next path name step → IsElsewhere step
   elsewhere off_name step (inl beside) = inl beside
   elsewhere off_name step (inr naming) = inr (naming, off_name)
@@ -626,15 +616,6 @@ module _ (next : ℕ) (path name : List ℕ) (file : ℕ) (other : file ≢ next
   put_bytes (Empties opened) of steps (was, has, tells) = not_written opened [] was steps (empties opened of) tells.1.1 has
   put_bytes (Overwrites opened there) of steps (was, has, tells) = not_written opened [] was steps (overwrites opened there of) tells.1.1 has
 
-  new_bytes : (step : FolderStep) → IsQuietStep step ⊎ IsStepAt path step ⊎ IsRightsStep step ⊎ IsMakingStep path step → IsCarried (HasAfter file found) step
-  new_bytes step (inl quiet) = put_bytes step (inl (inl quiet))
-  new_bytes step (inr (inl at)) = put_bytes step (inl (inr (inl at)))
-  new_bytes step (inr (inr (inl rights))) = put_bytes step (inl (inr (inr (inl rights))))
-  new_bytes step (inr (inr (inr (opened, mode, is)))) = subst (IsCarried (HasAfter file found)) (sym is) (has_over file found (Opens opened path (opening.New mode)) tt)
-
-  had_new : (a b : History) → MakesFileAt path a b → OfTold (HasAfter file found) b → OfTold (HasAfter file found) a
-  had_new a b makes has = over_only _ (HasAfter file found) new_bytes a b makes has
-
   pub had_elsewhere : (a b : History) → PutsOnlyAt next path name a b → OfTold (HasAfter file found) b → OfTold (HasAfter file found) a
   had_elsewhere a b puts has = over_only _ (HasAfter file found) put_bytes a b puts has
 
@@ -681,10 +662,6 @@ module _ (stamp_of : ℕ → Stamp) (path name log : List ℕ) (off_path : log �
       let stood = stood_elsewhere stamp_of next path name log file off_path not_kept off_name a b puts stands in
       (file, stood, had_elsewhere next path name file (other stood) found a b puts has)
 
-  -- no file gets bytes
-  held_made : (found : List ℕ) (a b : History) → MakesOnlyAt path name a b → Holds stamp_of log found b → Holds stamp_of log found a
-  held_made found a b makes (file, stands, has) = held_elsewhere (suc file) file found a b (puts_waits (suc file) path name a b (makes (suc file))) (λ _ e. absurd omega (arith, e)) stands has
-
   -- a new one does
   held_beside : (dated : Option ℕ) (bytes found : List ℕ) (own : Option Stamp) (a b : History) → WritesBeside dated path name bytes own a b → Holds stamp_of log found b → Holds stamp_of log found a
   held_beside dated bytes found own a b (inl is) holds = subst (Holds stamp_of log found) is holds
@@ -692,22 +669,31 @@ module _ (stamp_of : ℕ → Stamp) (path name log : List ℕ) (off_path : log �
       held_elsewhere next file found a b puts (λ stood. is_another stamp_of log file next path name is_there seen a off_path makes stood) stands has
 
   -- one that is not the log's does
-  held_over : (over : ℕ) (found : List ℕ) (a b : History) → WritesInPlace over path name a b → (Stands stamp_of log over b → ⊥) → Holds stamp_of log found b → Holds stamp_of log found a
-  held_over over found a b (inl makes) not_over holds = held_made found a b makes holds
-  held_over over found a b (inr (spared, emptied, makes, is, waits)) not_over (file, stands, has) =
-      let empties = puts_one over path name spared emptied (Overwrites over name) is (refl, refl) in
+  held_over : (over : ℕ) (bytes found : List ℕ) (own : Option Stamp) (a b : History) → WritesInPlace over name bytes own a b → (Stands stamp_of log over b → ⊥)
+      → Holds stamp_of log found b → Holds stamp_of log found a
+  held_over over bytes found own a b (inl idle) not_over holds = held_early stamp_of path log found a b off_path not_kept (at_idle path a b idle) holds
+  held_over over bytes found own a b (inr (spared, spares, inl is)) not_over holds =
+      held_early stamp_of name log found a spared off_name not_kept (at_spared name own bytes a spared spares) (subst (Holds stamp_of log found) is holds)
+  held_over over bytes found own a b (inr (spared, spares, inr (emptied, is, front))) not_over (file, stands, has) =
+      let puts = puts_chain over path name spared emptied b (puts_one over path name spared emptied (Overwrites over name) is (refl, refl)) (puts_front over path name bytes emptied b front) in
       let other : file ≢ over = λ same. not_over (subst (λ f. Stands stamp_of log f b) same stands) in
-      held_made found a spared makes (held_elsewhere over file found spared b (puts_chain over path name spared emptied b empties (puts_waits over path name emptied b waits)) (λ _. other) stands has)
+      held_early stamp_of name log found a spared off_name not_kept (at_spared name own bytes a spared spares) (held_elsewhere over file found spared b puts (λ _. other) stands has)
 
-  -- or is made, without bytes
+  -- or is made, and gets none
   held_new : (found : List ℕ) (a b : History) → MakesFileAt path a b → Holds stamp_of log found b → Holds stamp_of log found a
-  held_new found a b makes (file, stands, has) =
-      (file, stood_new stamp_of 0 path name log file off_path not_kept a b makes stands, had_new (suc file) path name file (λ e. absurd omega (arith, e)) found a b makes has)
+  held_new found a b (inl only) holds = held_early stamp_of path log found a b off_path not_kept only holds
+  held_new found a b (inr (next, mode, cleared, made, only, is, fits)) (file, stands, has) =
+      let waits : WaitsBeside next path name made b = waits_fits next path name made b fits in
+      let here = told (StandsAfter stamp_of log file) (Opens next path (opening.New mode)) cleared made is (stood_waiting stamp_of next path name log file off_path not_kept made b waits stands) in
+      let other = told_fact (file ≢ next) cleared (told_more _ _ cleared (λ steps s. (s.1 off_path).0) here) in
+      let there = told_more _ (StandsAfter stamp_of log file) cleared (λ steps s. (s.1 off_path).1) here in
+      let whole = had file found (Opens next path (opening.New mode)) cleared made tt is (had_waiting next path name file other found made b waits has) in
+      held_early stamp_of path log found a cleared off_path not_kept only (file, there, whole)
 
   pub held_tried : (over : ℕ) (dated : Option ℕ) (bytes found : List ℕ) (own : Option Stamp) (a b : History) → TriesText over dated path name bytes own a b → (Stands stamp_of log over b → ⊥)
       → Holds stamp_of log found b → Holds stamp_of log found a
-  held_tried over dated bytes found own a b (made, put, makes, beside, in_place) not_over holds =
-      held_new found a made makes (held_beside dated bytes found own made put beside (held_over over found put b in_place not_over holds))
+  held_tried over dated bytes found own a b (made, put, known, makes, beside, in_place) not_over holds =
+      held_new found a made makes (held_beside dated bytes found own made put beside (held_over over bytes found known put b in_place not_over holds))
 
 -- a text that could not be put beside is the old one, or has all of the bytes
 pub text_left : (stamp_of : ℕ → Stamp) (apart : AreApart stamp_of) (file : ℕ) (log : Option ℕ) (path name bytes found : List ℕ) (own : Option Stamp) (is_there : Bool) (seen made b : History)

@@ -2,13 +2,13 @@
 use Rattle.std.proofs.Common.{◌≡◌, ◌⊎◌, inl, inr, ℕ, Bool, true, false, List, [], ◌∷◌, Option, Some, None, Result, Ok, Err, IfOk, OnErr, OnOk, ◌++◌, refl, sym, subst}
 use Rattle.mgr_port.specs.Disk.{DiskStep, BeginsSteps}
 use Rattle.mgr_port.specs.Disk as disk
-use Rattle.mgr_port.specs.Folder.{History, FolderStep, Adds, Dates, Empties, Follows, GivesTo, Links, Looks, LooksAt, Makes, Opens, Reads, Removes, Renames, Syncs, SyncsFolder, AreAll, IsIdle, IsQuiet, IsQuietStep, Only, Steps, Writes, after}
+use Rattle.mgr_port.specs.Folder.{History, FolderStep, Adds, Dates, Empties, Follows, GivesTo, Links, Looks, LooksAt, Makes, Reads, Removes, Renames, Syncs, SyncsFolder, AreAll, IsIdle, IsQuiet, IsQuietStep, Only, Steps, Writes, after}
 use Rattle.mgr_port.specs.Growth.{AddsFront, IsAdded}
+use Rattle.mgr_port.specs.Locks.{MakesBeside}
 use Rattle.mgr_port.specs.Notes.{Leaves, MayRemoveIf}
-use Rattle.mgr_port.specs.Spares.{ChangesOnlyAt, GivesFreeName, IsKept, IsOfFile, IsOneOfMore, IsRightsStep, IsShown, IsMakingStep, IsNamingStep, IsStepAt, IsStepBeside, IsWaitingStep, MakesFileAt, MayRemove, PutsOnlyAt, SetsRights, SparesText, WaitsBeside}
+use Rattle.mgr_port.specs.Spares.{ChangesOnlyAt, GivesFreeName, IsKept, IsOfFile, IsOneOfMore, IsRightsStep, IsShown, IsSpare, IsNamingStep, IsStepAt, IsStepBeside, IsWaitingStep, FitsAt, FitsTaken, MakesFileAt, MakesWay, MayRemove, PutsOnlyAt, PutsOnlyBeside, SetsRights, SparesText, WaitsBeside}
 use Rattle.mgr_port.specs.Staging.{Does, DoesAll, KeepsOld, StopsBefore, SyncsDated, TakesOld}
 use Rattle.mgr_port.specs.Texts.{TakesOwner}
-use Rattle.mgr_port.specs.declared.folder.Opening.TheVariants as opening
 use Rattle.mgr_port.specs.declared.spare.Owner.{Owner}
 use Rattle.mgr_port.specs.declared.staged.Named.{Named}
 use Rattle.mgr_port.specs.declared.staged.Old.{Old}
@@ -20,7 +20,7 @@ use Rattle.mgr_port.specs.declared.spare.Reason.{Reason}
 use Rattle.mgr_port.specs.declared.spare.Reason.TheVariants as reason
 use Rattle.mgr_port.specs.declared.stamp.Stamp.{Stamp}
 use Rattle.mgr_port.proofs.BytesLaws.{longer_quiet, shown_quiet}
-use Rattle.mgr_port.proofs.FolderLaws.{idle_is_quiet, only_chain, only_more, only_none}
+use Rattle.mgr_port.proofs.FolderLaws.{idle_follow, idle_follow_read, idle_is_quiet, only_chain, only_more, only_none}
 
 all_of : {P Q : FolderStep → Type 0} (steps : List FolderStep) → ((step : FolderStep) → P step → Q step) → AreAll P steps → AreAll Q steps
 all_of [] f all = tt
@@ -28,6 +28,16 @@ all_of (step ∷ steps) f (one, all) = (f step one, all_of steps f all)
 
 only_of : {P Q : FolderStep → Type 0} (a b : History) → ((step : FolderStep) → P step → Q step) → Only P a b → Only Q a b
 only_of a b f i = record { seen = i.seen; all = all_of i.seen f i.all; is = i.is }
+
+pub quiet_idle : (a b : History) → IsIdle a b → IsQuiet a b
+quiet_idle a b idle = only_of a b idle_is_quiet idle
+
+-- a file has a date, if it may, and is on the device
+pub quiet_synced : (file : ℕ) (log later : Option ℕ) (a b : History) → SyncsDated file log later a b → IsQuiet a b
+quiet_synced file log None a b (dated, may, is) = only_more a dated b (Syncs file) (only_none a dated may) is tt
+quiet_synced file log (Some later) a b (dated, inl may, is) = only_more a dated b (Syncs file) (only_none a dated may) is tt
+quiet_synced file log (Some later) a b (dated, inr (of, known, date), is) =
+    only_more a dated b (Syncs file) (only_more a a dated (Dates file of later) (only_none a a refl) date tt) is tt
 
 pub at_idle : (path : List ℕ) (a b : History) → IsIdle a b → ChangesOnlyAt path a b
 at_idle path a b idle = only_of a b (λ step is. inl (idle_is_quiet step is)) idle
@@ -86,67 +96,97 @@ at_removal_if P (Some file) path a b may = at_removal P file path a b may
 pub at_leaving : (next log : Option ℕ) (path : List ℕ) (a b : History) → Leaves next log path a b → ChangesOnlyAt path a b
 at_leaving next log path a b (gone, one, two) = at_chain path a gone b (at_removal_if IsOfFile next path a gone one) (at_removal_if IsOneOfMore log path gone b two)
 
+-- what stood there has let go of it
+pub at_way : (path : List ℕ) (a b : History) → MakesWay path a b → ChangesOnlyAt path a b
+unfolding IsSpare
+at_way path a b (inl is) = at_look path a b (Looks path None) is tt
+at_way path a b (inr (spare, inl (found, bare, one), is)) = then_step path a spare b (Removes path) (at_look path a spare (Looks path found) one tt) is refl
+at_way path a b (inr (spare, inr (why, kept), is)) = then_step path a spare b (Removes path) (at_kept why path a spare kept) is refl
+
+-- nothing is lost of what takes part
+shown_idle : (why : Reason) (path : List ℕ) (own : Option Stamp) (bytes : List ℕ) (a b : History) → IsShown why path own bytes a b → IsIdle a b
+shown_idle reason.Nothing path own bytes a b is = idle_follow a b path None is
+shown_idle reason.Known path own bytes a b (look, known, is) = idle_follow a b path (Some look) is
+shown_idle reason.Same path own bytes a b (look, followed, one, two) = idle_follow_read a followed b path bytes (Some look) one two
+shown_idle reason.Linked path own bytes a b shown = absurd shown
+shown_idle reason.Copied path own bytes a b shown = absurd shown
+shown_idle reason.Open path own bytes a b shown = absurd shown
+
+pub at_spared : (path : List ℕ) (own : Option Stamp) (bytes : List ℕ) (a b : History) → SparesText path own bytes a b → ChangesOnlyAt path a b
+at_spared path own bytes a b (why, inl shown) = at_idle path a b (shown_idle why path own bytes a b shown)
+at_spared path own bytes a b (why, inr kept) = at_kept why path a b kept
+
+-- a step failed
+pub at_failed : {A E : Type 0} (r : Result A E) (path : List ℕ) (a b c : History) (step : A → FolderStep) → ChangesOnlyAt path a b → Steps r step b c → OnErr r (ChangesOnlyAt path a c)
+at_failed (Ok x) path a b c step before is = tt
+at_failed (Err e) path a b c step before is = at_chain path a b c before (at_none path b c is)
+
 -- ---- rights
 
-pub rights_none : (a b : History) → b ≡ a → SetsRights a b
-rights_none a b is = only_none a b is
+module _ (file : ℕ) where
+  pub rights_none : (a b : History) → b ≡ a → SetsRights file a b
+  rights_none a b is = only_none a b is
 
-pub rights_look : (a b c : History) (step : FolderStep) → SetsRights a b → c ≡ after step b → IsQuietStep step → SetsRights a c
-rights_look a b c step before is quiet = only_more a b c step before is (inl quiet)
+  pub rights_look : (a b c : History) (step : FolderStep) → SetsRights file a b → c ≡ after step b → IsQuietStep step → SetsRights file a c
+  rights_look a b c step before is quiet = only_more a b c step before is (inl quiet)
 
-pub rights_chain : (a b c : History) → SetsRights a b → SetsRights b c → SetsRights a c
-rights_chain a b c one two = only_chain a b c one two
+  pub rights_chain : (a b c : History) → SetsRights file a b → SetsRights file b c → SetsRights file a c
+  rights_chain a b c one two = only_chain a b c one two
 
-pub rights_step : (a b c : History) (step : FolderStep) → SetsRights a b → c ≡ after step b → IsRightsStep step → SetsRights a c
-rights_step a b c step before is rights = only_more a b c step before is (inr rights)
+  pub rights_step : (a b c : History) (step : FolderStep) → SetsRights file a b → c ≡ after step b → IsRightsStep file step → SetsRights file a c
+  rights_step a b c step before is rights = only_more a b c step before is (inr rights)
 
-pub rights_may : {A E : Type 0} (r : Result A E) (a b c : History) (step : A → FolderStep) → SetsRights a b → Steps r step b c → ((x : A) → IsRightsStep (step x)) → SetsRights a c
-rights_may (Ok x) a b c step before is set = rights_step a b c (step x) before is (set x)
-rights_may (Err e) a b c step before is set = rights_chain a b c before (rights_none b c is)
+  pub rights_may : {A E : Type 0} (r : Result A E) (a b c : History) (step : A → FolderStep) → SetsRights file a b → Steps r step b c → ((x : A) → IsRightsStep file (step x)) → SetsRights file a c
+  rights_may (Ok x) a b c step before is set = rights_step a b c (step x) before is (set x)
+  rights_may (Err e) a b c step before is set = rights_chain a b c before (rights_none b c is)
 
-pub rights_owner : (file : ℕ) (owner : Owner) (is_owned : Bool) (a b : History) → TakesOwner file owner a b is_owned → SetsRights a b
-rights_owner file owner true a b (look, looked, one, inl (same, is)) = rights_chain a looked b (rights_look a a looked (LooksAt file look) (rights_none a a refl) one tt) (rights_none looked b is)
-rights_owner file owner true a b (look, looked, one, inr is) =
-    rights_step a looked b (GivesTo file owner) (rights_look a a looked (LooksAt file look) (rights_none a a refl) one tt) is tt
-rights_owner file owner false a b (look, other, is) = rights_look a a b (LooksAt file look) (rights_none a a refl) is tt
+  pub rights_owner : (owner : Owner) (is_owned : Bool) (a b : History) → TakesOwner file owner a b is_owned → SetsRights file a b
+  rights_owner owner true a b (look, looked, one, inl (same, is)) = rights_chain a looked b (rights_look a a looked (LooksAt file look) (rights_none a a refl) one tt) (rights_none looked b is)
+  rights_owner owner true a b (look, looked, one, inr is) = rights_step a looked b (GivesTo file owner) (rights_look a a looked (LooksAt file look) (rights_none a a refl) one tt) is refl
+  rights_owner owner false a b (look, other, is) = rights_look a a b (LooksAt file look) (rights_none a a refl) is tt
 
--- ---- what changes at a path, sets rights, or is of another kind
+-- ---- a file that gets rights at a path
 
-module _ (path : List ℕ) (IsOther : FolderStep → Type 0) where
-  abbrev IsOneOf : FolderStep → Type 0
-  IsOneOf step = IsQuietStep step ⊎ IsStepAt path step ⊎ IsRightsStep step ⊎ IsOther step
+module _ (file : ℕ) (path : List ℕ) where
+  abbrev IsFitting : FolderStep → Type 0
+  IsFitting step = IsQuietStep step ⊎ IsStepAt path step ⊎ IsRightsStep file step
 
-  one_at : (step : FolderStep) → IsQuietStep step ⊎ IsStepAt path step → IsOneOf step
-  one_at step (inl quiet) = inl quiet
-  one_at step (inr at) = inr (inl at)
+  fitting_at : (step : FolderStep) → IsQuietStep step ⊎ IsStepAt path step → IsFitting step
+  fitting_at step (inl quiet) = inl quiet
+  fitting_at step (inr at) = inr (inl at)
 
-  one_rights : (step : FolderStep) → IsQuietStep step ⊎ IsRightsStep step → IsOneOf step
-  one_rights step (inl quiet) = inl quiet
-  one_rights step (inr rights) = inr (inr (inl rights))
+  fitting_rights : (step : FolderStep) → IsQuietStep step ⊎ IsRightsStep file step → IsFitting step
+  fitting_rights step (inl quiet) = inl quiet
+  fitting_rights step (inr rights) = inr (inr rights)
 
-  any_at : (a b : History) → ChangesOnlyAt path a b → Only IsOneOf a b
-  any_at a b only = only_of a b one_at only
+  pub fits_at : (a b : History) → ChangesOnlyAt path a b → FitsAt file path a b
+  fits_at a b only = only_of a b fitting_at only
 
-  any_rights : (a b : History) → SetsRights a b → Only IsOneOf a b
-  any_rights a b rights = only_of a b one_rights rights
+  pub fits_rights : (a b : History) → SetsRights file a b → FitsAt file path a b
+  fits_rights a b rights = only_of a b fitting_rights rights
+
+  pub fits_chain : (a b c : History) → FitsAt file path a b → FitsAt file path b c → FitsAt file path a c
+  fits_chain a b c one two = only_chain a b c one two
+
+-- it is opened as it is
+pub then_opened_fits : {A E : Type 0} (r : Result A E) (file_of : A → ℕ) (path : List ℕ) (a b c : History) → ChangesOnlyAt path a b → ChangesOnlyAt path b c
+    → IfOk r (λ x. FitsAt (file_of x) path a c)
+then_opened_fits (Ok x) file_of path a b c one two = fits_at (file_of x) path a c (at_chain path a b c one two)
+then_opened_fits (Err e) file_of path a b c one two = tt
 
 -- ---- a new file
 
 module _ (path : List ℕ) where
   pub new_at : (a b : History) → ChangesOnlyAt path a b → MakesFileAt path a b
-  new_at a b only = any_at path (IsMakingStep path) a b only
+  new_at a b only = inl only
 
-  pub new_rights : (a b : History) → SetsRights a b → MakesFileAt path a b
-  new_rights a b rights = any_rights path (IsMakingStep path) a b rights
+  pub new_later : (a b c : History) → ChangesOnlyAt path a b → MakesFileAt path b c → MakesFileAt path a c
+  new_later a b c first (inl only) = inl (at_chain path a b c first only)
+  new_later a b c first (inr (file, mode, cleared, made, only, is, fits)) = inr (file, mode, cleared, made, at_chain path a b cleared first only, is, fits)
 
-  pub new_chain : (a b c : History) → MakesFileAt path a b → MakesFileAt path b c → MakesFileAt path a c
-  new_chain a b c one two = only_chain a b c one two
-
-  -- it was made, or that failed
-  pub new_made : {A E : Type 0} (r : Result A E) (file_of : A → ℕ) (mode : ℕ) (a b c : History) → MakesFileAt path a b
-      → Steps r (λ x. Opens (file_of x) path (opening.New mode)) b c → MakesFileAt path a c
-  new_made (Ok x) file_of mode a b c before is = only_more a b c (Opens (file_of x) path (opening.New mode)) before is (inr (inr (inr (file_of x, mode, refl))))
-  new_made (Err e) file_of mode a b c before is = new_chain a b c before (only_none b c is)
+  -- it was made, and gets rights
+  pub new_made : (file mode : ℕ) (a b c : History) → MakesBeside file path mode a b → FitsAt file path b c → MakesFileAt path a c
+  new_made file mode a b c (cleared, way, is) fits = inr (file, mode, cleared, b, at_way path a cleared way, is, fits)
 
 pub new_path : (spelled path : List ℕ) (a b : History) → spelled ≡ path → MakesFileAt spelled a b → MakesFileAt path a b
 new_path spelled path a b is makes = subst (λ p. MakesFileAt p a b) is makes
@@ -154,11 +194,19 @@ new_path spelled path a b is makes = subst (λ p. MakesFileAt p a b) is makes
 -- ---- a file that is still to take its name
 
 module _ (file : ℕ) (path name : List ℕ) where
-  pub waits_at : (a b : History) → ChangesOnlyAt path a b → WaitsBeside file path name a b
-  waits_at a b only = any_at path (IsWaitingStep file name) a b only
+  beside_fitting : (step : FolderStep) → IsQuietStep step ⊎ IsStepAt path step ⊎ IsRightsStep file step → IsStepBeside file path name step
+  beside_fitting step (inl quiet) = inl quiet
+  beside_fitting step (inr (inl at)) = inr (inl at)
+  beside_fitting step (inr (inr rights)) = inr (inr (inl rights))
 
-  pub waits_rights : (a b : History) → SetsRights a b → WaitsBeside file path name a b
-  waits_rights a b rights = any_rights path (IsWaitingStep file name) a b rights
+  pub waits_fits : (a b : History) → FitsAt file path a b → WaitsBeside file path name a b
+  waits_fits a b fits = only_of a b beside_fitting fits
+
+  pub waits_at : (a b : History) → ChangesOnlyAt path a b → WaitsBeside file path name a b
+  waits_at a b only = waits_fits a b (fits_at file path a b only)
+
+  pub waits_rights : (a b : History) → SetsRights file a b → WaitsBeside file path name a b
+  waits_rights a b rights = waits_fits a b (fits_rights file path a b rights)
 
   pub waits_quiet : (a b : History) → IsQuiet a b → WaitsBeside file path name a b
   waits_quiet a b quiet = only_of a b (λ step is. inl is) quiet
@@ -194,17 +242,8 @@ module _ (file : ℕ) (path name : List ℕ) where
   waits_kept reason.Same a b kept = absurd kept
   waits_kept reason.Open a b kept = absurd kept
 
-  waits_shown : (why : Reason) (own : Option Stamp) (bytes : List ℕ) (a b : History) → IsShown why name own bytes a b → WaitsBeside file path name a b
-  waits_shown reason.Nothing own bytes a b is = waits_look a a b (Follows name None) (waits_none a a refl) is tt
-  waits_shown reason.Known own bytes a b (look, known, is) = waits_look a a b (Follows name (Some look)) (waits_none a a refl) is tt
-  waits_shown reason.Same own bytes a b (look, followed, one, two) =
-      waits_look a followed b (Reads name bytes) (waits_look a a followed (Follows name (Some look)) (waits_none a a refl) one tt) two tt
-  waits_shown reason.Linked own bytes a b shown = absurd shown
-  waits_shown reason.Copied own bytes a b shown = absurd shown
-  waits_shown reason.Open own bytes a b shown = absurd shown
-
-  pub waits_spared : (own : Option Stamp) (bytes : List ℕ) (a b : History) → SparesText name own bytes a b → WaitsBeside file path name a b
-  waits_spared own bytes a b (why, inl shown) = waits_shown why own bytes a b shown
+  waits_spared : (own : Option Stamp) (bytes : List ℕ) (a b : History) → SparesText name own bytes a b → WaitsBeside file path name a b
+  waits_spared own bytes a b (why, inl shown) = waits_idle a b (shown_idle why name own bytes a b shown)
   waits_spared own bytes a b (why, inr kept) = waits_kept why a b kept
 
   waits_old : (log : Option ℕ) (o : Old) (a b : History) → KeepsOld log o name a b → WaitsBeside file path name a b
@@ -213,12 +252,6 @@ module _ (file : ℕ) (path name : List ℕ) where
   waits_old log (old.Text own bytes) a b spared = waits_spared own bytes.now a b spared
   waits_old log (old.Read size) a b (why, checked, (other, found, opened, followed, known, one, two, same, long), kept) =
       waits_chain a checked b (waits_look a followed checked (LooksAt other opened) (waits_look a a followed (Follows name (Some found)) (waits_none a a refl) one tt) two tt) (waits_kept why checked b kept)
-
-  pub waits_synced : (which : ℕ) (log later : Option ℕ) (a b : History) → SyncsDated which log later a b → WaitsBeside file path name a b
-  waits_synced which log None a b (dated, may, is) = waits_look a dated b (Syncs which) (waits_none a dated may) is tt
-  waits_synced which log (Some later) a b (dated, inl may, is) = waits_look a dated b (Syncs which) (waits_none a dated may) is tt
-  waits_synced which log (Some later) a b (dated, inr (of, known, date), is) =
-      waits_look a dated b (Syncs which) (waits_look a a dated (Dates which of later) (waits_none a a refl) date tt) is tt
 
 -- steps before the name is taken
 abbrev IsUnnamed : DiskStep → Type 0
@@ -240,7 +273,7 @@ module _ (file : ℕ) (log : Option ℕ) (s : Staged) where
   waits_does : (step : DiskStep) (a b : History) → IsUnnamed step → Does file log s step a b → WaitsBeside file s.path.now s.name.now a b
   waits_does disk.Empties a b is does = waits_one file s.path.now s.name.now a b (Empties file) does refl
   waits_does (disk.Writes bytes) a b is does = waits_one file s.path.now s.name.now a b (Adds file bytes) does refl
-  waits_does disk.Syncs a b is does = waits_synced file s.path.now s.name.now file log s.later a b does
+  waits_does disk.Syncs a b is does = waits_quiet file s.path.now s.name.now a b (quiet_synced file log s.later a b does)
   waits_does disk.Keeps a b is does = waits_old file s.path.now s.name.now log s.old a b does
   waits_does disk.TakesName a b is does = absurd is
   waits_does disk.SyncsFolder a b is does = absurd is
@@ -254,7 +287,7 @@ module _ (file : ℕ) (log : Option ℕ) (s : Staged) where
 
   -- its rights were set, and then it was put in part
   pub waits_stopped : {A E : Type 0} (r : Result A E) (path name : List ℕ) (wanted : List DiskStep) (a b c : History) → AreUnnamed wanted → s.path.now ≡ path → s.name.now ≡ name
-      → SetsRights a b → OnErr r (StopsBefore file log s wanted b c) → OnErr r (WaitsBeside file path name a c)
+      → SetsRights file a b → OnErr r (StopsBefore file log s wanted b c) → OnErr r (WaitsBeside file path name a c)
   waits_stopped (Ok x) path name wanted a b c unnamed is named rights stops = tt
   waits_stopped (Err e) path name wanted a b c unnamed is named rights t =
       let all = begun_unnamed wanted t.made unnamed t.begins in
@@ -296,7 +329,7 @@ module _ (file : ℕ) (path name : List ℕ) where
   pub puts_one : (a b : History) (step : FolderStep) → b ≡ after step a → IsNamingStep file path name step → PutsOnlyAt file path name a b
   puts_one a b step is naming = only_more a a b step (puts_none a a refl) is (inr naming)
 
-  pub puts_rights : (a b : History) → SetsRights a b → PutsOnlyAt file path name a b
+  pub puts_rights : (a b : History) → SetsRights file a b → PutsOnlyAt file path name a b
   puts_rights a b rights = puts_waits a b (waits_rights file path name a b rights)
 
   -- it was done, or failed
@@ -312,15 +345,19 @@ module _ (file : ℕ) (path name : List ℕ) where
   puts_written (Ok x) bytes a b c before is = puts_step a b c (Adds file bytes) before is refl
   puts_written (Err e) bytes a b c before begun = puts_begun bytes a b c before begun
 
-  -- lines were added, or a beginning of them
+  -- a beginning of lines was added, or none
+  pub puts_front : (lines : List ℕ) (a b : History) → AddsFront file lines a b → PutsOnlyAt file path name a b
+  puts_front lines a b (inl quiet) = puts_quiet a b quiet
+  puts_front lines a b (inr (front, rest, shown, added, parts, first, is, last)) =
+      puts_chain a added b (puts_step a shown added (Adds file front) (puts_quiet a shown first) is refl) (puts_quiet added b last)
+
+  -- all of them were, or a beginning
   pub puts_added : {A E : Type 0} (r : Result A E) (log lines : List ℕ) (left longer : LeftLog) (a b : History) → OnOk r (IsAdded file log left lines longer a b)
       → OnErr r (AddsFront file lines a b) → PutsOnlyAt file path name a b
   puts_added (Ok x) log lines left longer a b (shown, added, shows, is, later) front =
       puts_chain a added b (puts_step a shown added (Adds file lines) (puts_quiet a shown (shown_quiet file log left a shown shows)) is refl)
       (puts_quiet added b (longer_quiet file log left longer added b later))
-  puts_added (Err e) log lines left longer a b added (inl quiet) = puts_quiet a b quiet
-  puts_added (Err e) log lines left longer a b none (inr (front, rest, shown, added, parts, first, is, last)) =
-      puts_chain a added b (puts_step a shown added (Adds file front) (puts_quiet a shown first) is refl) (puts_quiet added b last)
+  puts_added (Err e) log lines left longer a b none front = puts_front lines a b front
 
   puts_free : (a b : History) → GivesFreeName path name a b → PutsOnlyAt file path name a b
   puts_free a b (inl (linked, one, inl is)) = puts_chain a linked b (puts_one a linked (Links path name) one (refl, refl)) (puts_none linked b is)
@@ -363,3 +400,8 @@ module _ (file : ℕ) (log : Option ℕ) (s : Staged) where
 
 pub puts_paths : (file : ℕ) (path beside name spelled : List ℕ) (a b : History) → path ≡ beside → name ≡ spelled → PutsOnlyAt file path name a b → PutsOnlyAt file beside spelled a b
 puts_paths file path beside name spelled a b is named puts = subst (λ n. PutsOnlyAt file beside n a b) named (subst (λ p. PutsOnlyAt file p name a b) is puts)
+
+-- a file was taken, and gets rights
+pub fits_puts : (IsTaken : ℕ → History → Type 0) (path : List ℕ) (a b : History) → FitsTaken IsTaken path a b → (file : ℕ) × PutsOnlyBeside file path a b
+fits_puts IsTaken path a b (inl only) = (0, λ name. puts_at 0 path name a b only)
+fits_puts IsTaken path a b (inr (file, taken, only, is, rights)) = (file, λ name. puts_chain file path name a taken b (puts_at file path name a taken only) (puts_rights file path name taken b rights))

@@ -23,6 +23,10 @@ abbrev pub TakesIfNew : ℕ → ℕ → Bool → History → History → Type 0
 TakesIfNew file log true before now = now ≡ before
 TakesIfNew file log false before now = (like : Look) × (looked : History) × (looked ≡ after (LooksAt log like) before) × TakesMode file like looked now
 
+-- a file was opened so
+abbrev pub IsBeside : ℕ → List ℕ → History → Type 0
+IsBeside file path now = (before : History) × OpensBeside file path before now
+
 -- what was refused of a log has a plain file, or gets a new one, like the log
 unfoldable pub OpensRefused : ℕ → ℕ → List ℕ → History → History → Type 0
 OpensRefused file log path before now =

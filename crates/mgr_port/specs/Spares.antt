@@ -134,18 +134,31 @@ ChangesOnlyAt path old now = Only (λ step. IsQuietStep step ⊎ IsStepAt path s
 
 -- ---- what changes at a path, and at the name that its file is to take
 
-abbrev pub IsRightsStep : FolderStep → Type 0
-IsRightsStep (SetsMode file mode) = Unit {0}
-IsRightsStep (GivesTo file owner) = Unit {0}
-IsRightsStep other = ⊥
+abbrev pub IsRightsStep : ℕ → FolderStep → Type 0
+IsRightsStep file (SetsMode other mode) = other ≡ file
+IsRightsStep file (GivesTo other owner) = other ≡ file
+IsRightsStep file other = ⊥
 
--- a file gets rights, and nothing else changes
-abbrev pub SetsRights : History → History → Type 0
-SetsRights old now = Only (λ step. IsQuietStep step ⊎ IsRightsStep step) old now
+-- this file gets rights, and nothing else changes
+abbrev pub SetsRights : ℕ → History → History → Type 0
+SetsRights file old now = Only (λ step. IsQuietStep step ⊎ IsRightsStep file step) old now
 
--- a new file is made at the path
-abbrev pub IsMakingStep : List ℕ → FolderStep → Type 0
-IsMakingStep path step = (file : ℕ) × (mode : ℕ) × (step ≡ Opens file path (opening.New mode))
+-- the same, but what changes at the path
+abbrev pub FitsAt : ℕ → List ℕ → History → History → Type 0
+FitsAt file path old now = Only (λ step. IsQuietStep step ⊎ IsStepAt path step ⊎ IsRightsStep file step) old now
+
+-- Only the path changes; or a file was taken so, and then that one gets rights.
+abbrev pub FitsTaken : (ℕ → History → Type 0) → List ℕ → History → History → Type 0
+FitsTaken IsTaken path old now =
+    ChangesOnlyAt path old now
+    ⊎ ((file : ℕ) × (taken : History) × ChangesOnlyAt path old taken × IsTaken file taken × SetsRights file taken now)
+
+-- Only the path changes; or a new file is made there, and then that one gets rights.
+abbrev pub MakesFileAt : List ℕ → History → History → Type 0
+MakesFileAt path old now =
+    ChangesOnlyAt path old now
+    ⊎ ((file : ℕ) × (mode : ℕ) × (cleared : History) × (made : History) × ChangesOnlyAt path old cleared
+    × (made ≡ after (Opens file path (opening.New mode)) cleared) × FitsAt file path made now)
 
 -- This file gets bytes. What stands under the name gets another one.
 abbrev pub IsWaitingStep : ℕ → List ℕ → FolderStep → Type 0
@@ -155,7 +168,7 @@ IsWaitingStep file name (Links other new) = (other ≡ name) × EndsInTilde new
 IsWaitingStep file name other = ⊥
 
 abbrev pub IsStepBeside : ℕ → List ℕ → List ℕ → FolderStep → Type 0
-IsStepBeside file path name step = IsQuietStep step ⊎ IsStepAt path step ⊎ IsRightsStep step ⊎ IsWaitingStep file name step
+IsStepBeside file path name step = IsQuietStep step ⊎ IsStepAt path step ⊎ IsRightsStep file step ⊎ IsWaitingStep file name step
 
 -- A file of a path gets bytes and rights, and nothing takes the name.
 abbrev pub WaitsBeside : ℕ → List ℕ → List ℕ → History → History → Type 0
@@ -176,17 +189,6 @@ PutsOnlyAt file path name old now = Only (λ step. IsStepBeside file path name s
 -- the same at the paths of a log
 abbrev pub PutsLogOnly : Paths → History → History → Type 0
 PutsLogOnly paths old now = (file : ℕ) × PutsOnlyAt file (string_bytes paths.next_log) (string_bytes paths.log) old now
-
--- no file gets bytes, and none takes the name, or any
-abbrev pub MakesOnlyAt : List ℕ → List ℕ → History → History → Type 0
-MakesOnlyAt path name old now = (file : ℕ) → WaitsBeside file path name old now
-
-abbrev pub MakesOnlyBeside : List ℕ → History → History → Type 0
-MakesOnlyBeside path old now = (file : ℕ) (name : List ℕ) → WaitsBeside file path name old now
-
--- A new file may be made at the path, and may get rights; no file gets bytes.
-abbrev pub MakesFileAt : List ℕ → History → History → Type 0
-MakesFileAt path old now = Only (λ step. IsQuietStep step ⊎ IsStepAt path step ⊎ IsRightsStep step ⊎ IsMakingStep path step) old now
 
 -- at this path alone, whatever name its file is to take; at no path
 abbrev pub PutsOnlyBeside : ℕ → List ℕ → History → History → Type 0

@@ -1,9 +1,10 @@
 -- How a text, and a new file for it, come under a name.
 use Rattle.std.specs.Prelude.{◌≡◌, ◌≢◌, ◌⊎◌, ℕ, List, Bool, true, false, Option, Some, None}
 use Rattle.mgr_port.specs.Disk.{steps_to, whole_steps}
-use Rattle.mgr_port.specs.Folder.{History, Adds, Follows, GivesTo, IsQuiet, Locks, Looks, LooksAt, Opens, Overwrites, SetsMode, after}
+use Rattle.mgr_port.specs.Folder.{History, Adds, Follows, GivesTo, IsIdle, IsQuiet, Locks, Looks, LooksAt, Opens, Overwrites, SetsMode, after}
+use Rattle.mgr_port.specs.Growth.{AddsFront}
 use Rattle.mgr_port.specs.Locks.{MakesBeside, OpensLocked}
-use Rattle.mgr_port.specs.Spares.{MakesFileAt, MakesOnlyAt, PutsOnlyAt, SparesText, WaitsBeside}
+use Rattle.mgr_port.specs.Spares.{MakesFileAt, PutsOnlyAt, SparesText, WaitsBeside}
 use Rattle.mgr_port.specs.Staging.{DoesAll, SyncsDated}
 use Rattle.mgr_port.specs.Verdicts.{IsDatedBy, mode_like}
 use Rattle.mgr_port.specs.declared.folder.Lock.{Lock}
@@ -111,17 +112,18 @@ WritesBeside log path name bytes own before now =
     (now ≡ before) ⊎ ((file : ℕ) × (is_there : Bool) × (seen : History) × MakesNextText file path name is_there seen before
     × PutsOnlyAt file path name before now × LeavesNextText file log path name bytes own before now)
 
--- no file gets bytes; or this one does, which the name stands for, once it is written over
-abbrev pub WritesInPlace : ℕ → List ℕ → List ℕ → History → History → Type 0
-WritesInPlace file path name before now =
-    MakesOnlyAt path name before now ⊎ ((spared : History) × (emptied : History) × MakesOnlyAt path name before spared
-    × (emptied ≡ after (Overwrites file name) spared) × WaitsBeside file path name emptied now)
+-- Nothing changes; or nothing of the text is lost, and it stays, or this file, which the name stands for, is written over:
+-- then it has a beginning of the bytes.
+abbrev pub WritesInPlace : ℕ → List ℕ → List ℕ → Option Stamp → History → History → Type 0
+WritesInPlace file name bytes own before now =
+    IsIdle before now ⊎ ((spared : History) × SparesText name own bytes before spared
+    × ((now ≡ spared) ⊎ ((emptied : History) × (emptied ≡ after (Overwrites file name) spared) × AddsFront file bytes emptied now)))
 
 -- A new file may be made, and be written; then this one may be written in place.
 abbrev pub TriesText : ℕ → Option ℕ → List ℕ → List ℕ → List ℕ → Option Stamp → History → History → Type 0
 TriesText over log path name bytes own before now =
-    (made : History) × (put : History) × MakesFileAt path before made × WritesBeside log path name bytes own made put
-    × WritesInPlace over path name put now
+    (made : History) × (put : History) × (known : Option Stamp) × MakesFileAt path before made
+    × WritesBeside log path name bytes own made put × WritesInPlace over name bytes known put now
 
 -- a text beside a log is this port's own if it is dated by that log; or what it was stays
 abbrev pub IsOwnBeside : {A : Type 0} → Option ℕ → List ℕ → Stamp → Option Stamp → Option Stamp → History → A → Type 0

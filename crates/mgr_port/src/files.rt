@@ -32,7 +32,7 @@ pub(crate) fn plain_if_there<F: Folder>(folder: &mut F, path: &str) -> io::Resul
 pub(crate) fn take_mode<F: Folder>(folder: &mut F, log: &F::File, like: Look) -> io::Result<()>
     ensures taken { OnOk result
         (TakesMode (F.file_of log.now) like (F.steps folder.old) (F.steps folder.new)) }
-    ensures only { SetsRights (F.steps folder.old) (F.steps folder.new) }
+    ensures only { SetsRights (F.file_of log.now) (F.steps folder.old) (F.steps folder.new) }
 {
     let is_owned = take_owner(folder, log, like.owner)?;
     folder.set_mode(log, mode_like(like.mode, is_owned))

@@ -440,7 +440,7 @@ fn take_rights<F: Folder>(
     ensures taken { OnOk result
         (TakesRights (F.file_of log.now) standing text.now
         (F.steps folder.old) (F.steps folder.new)) }
-    ensures only { SetsRights (F.steps folder.old) (F.steps folder.new) }
+    ensures only { SetsRights (F.file_of log.now) (F.steps folder.old) (F.steps folder.new) }
 {
     if let Some(like) = standing {
         return take_mode(folder, log, like);

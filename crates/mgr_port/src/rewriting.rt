@@ -1,10 +1,10 @@
 //! A log that is read whole, and written anew beside.
-ghost use Rattle.std.specs.Prelude.{◌≡◌, ℕ, None, Some, IfOk, OnOk, true, if◌then◌else◌, string_bytes};
+ghost use Rattle.std.specs.Prelude.{◌≡◌, ℕ, None, Some, IfOk, OnErr, OnOk, true, if◌then◌else◌, string_bytes};
 ghost use Rattle.mgr_port.specs.Folder.{IsIdle, IsQuiet};
-ghost use Rattle.mgr_port.specs.Locks.{ShowsPlain};
-ghost use Rattle.mgr_port.specs.Rewriting.{EndsLine, KeepsRefused, LeavesRead, MakesNextLog, NamesRead};
+ghost use Rattle.mgr_port.specs.Locks.{IsHeldEmpty, ShowsPlain};
+ghost use Rattle.mgr_port.specs.Rewriting.{EndsLine, IsBeside, KeepsRefused, LeavesRead, MakesNextLog, NamesRead};
 ghost use Rattle.mgr_port.specs.Rewriting.{OpensRefused, OpensToRewrite};
-ghost use Rattle.mgr_port.specs.Spares.{ChangesNoName, MakesOnlyBeside, PutsOnlyAt, PutsOnlyBeside};
+ghost use Rattle.mgr_port.specs.Spares.{ChangesNoName, FitsAt, FitsTaken, PutsOnlyAt, PutsOnlyBeside};
 
 use crate::files::take_mode;
 use crate::folder::{Folder, Opening};
@@ -100,7 +100,8 @@ impl<T: Drop> OpenLog<T> {
     pub(crate) fn make_next<F: Folder<File = T>>(&self, folder: &mut F, path: &str) -> io::Result<T>
         ensures made { IfOk result (λ next. MakesNextLog (F.file_of next) (F.file_of self.now.file)
             path.now (F.steps folder.old) (F.steps folder.new)) }
-        ensures only { MakesOnlyBeside path.now (F.steps folder.old) (F.steps folder.new) }
+        ensures only { OnErr result (FitsTaken (λ file. IsHeldEmpty file path.now) path.now
+            (F.steps folder.old) (F.steps folder.new)) }
     {
         // One that was killed when it gave the log its name may have left it this one too.
         let _ = remove_second_name(folder, path, &self.file);
@@ -165,7 +166,10 @@ fn open_refused<F: Folder>(folder: &mut F, path: &str, log: &F::File) -> io::Res
     ensures opened { IfOk result
         (λ file. OpensRefused (F.file_of file) (F.file_of log.now) path.now
         (F.steps folder.old) (F.steps folder.new)) }
-    ensures only { MakesOnlyBeside path.now (F.steps folder.old) (F.steps folder.new) }
+    ensures fits { IfOk result
+        (λ file. FitsAt (F.file_of file) path.now (F.steps folder.old) (F.steps folder.new)) }
+    ensures only { OnErr result (FitsTaken (λ file. IsBeside file path.now) path.now
+        (F.steps folder.old) (F.steps folder.new)) }
 {
     if is_plain_there(folder, path)? {
         return open_beside(folder, path);

@@ -1,6 +1,6 @@
 //! A text, as this port found and left it.
 ghost use Rattle.std.specs.Option.{option_map};
-ghost use Rattle.std.specs.Prelude.{◌≡◌, ◌≤◌, List, ℕ, None, Some, IfOk, IfSome, OnErr, OnOk, string_bytes};
+ghost use Rattle.std.specs.Prelude.{◌≡◌, ◌≤◌, ℕ, None, Some, IfOk, IfSome, OnErr, OnOk, string_bytes};
 ghost use Rattle.mgr_port.specs.Folder.{IsQuiet};
 ghost use Rattle.mgr_port.specs.Locks.{IsOwnRead};
 ghost use Rattle.mgr_port.specs.Spares.{MakesFileAt, PutsOnlyAt, WaitsBeside};
@@ -194,8 +194,8 @@ impl<T: Drop> Text<T> {
         ensures put { OnOk result (PutsInPlace (option_map (λ l. F.file_of l.now) log.entry)
             path.now bytes.now self.old.own self.new.own
             (F.steps folder.old) (F.steps folder.new)) }
-        ensures only { (over : ℕ) × ((beside : List ℕ)
-            → WritesInPlace over beside path.now (F.steps folder.old) (F.steps folder.new)) }
+        ensures only { (over : ℕ) × WritesInPlace over path.now bytes.now self.old.own
+            (F.steps folder.old) (F.steps folder.new) }
     {
         let spare = spare_text(folder, path, self.own, bytes, Keeping::ByCopy)?;
         let file = folder.overwrite(spare)?;

@@ -3,7 +3,7 @@ ghost use Rattle.std.specs.Prelude.{IfOk, OnErr, OnOk};
 ghost use Rattle.mgr_port.specs.Folder.{IsIdle};
 ghost use Rattle.mgr_port.specs.Locks.{MakesBeside};
 ghost use Rattle.mgr_port.specs.Spares.{ChangesOnlyAt, GivesFreeName, IsOfFile, IsOneOfMore, IsVacated, MakesWay};
-ghost use Rattle.mgr_port.specs.Spares.{MakesFileAt, MayRemove, RemovesIf};
+ghost use Rattle.mgr_port.specs.Spares.{MayRemove, RemovesIf};
 
 use crate::folder::{Folder, Opening};
 use crate::keeping::{Keeping, keep};
@@ -101,7 +101,8 @@ pub fn give_free_name<F: Folder>(folder: &mut F, path: &str, name: &str) -> io::
 pub(crate) fn make_beside<F: Folder>(folder: &mut F, path: &str, mode: u32) -> io::Result<F::File>
     ensures made { IfOk result (λ file.
         MakesBeside (F.file_of file) path.now mode (F.steps folder.old) (F.steps folder.new)) }
-    ensures only { MakesFileAt path.now (F.steps folder.old) (F.steps folder.new) }
+    ensures only { OnErr result
+        (ChangesOnlyAt path.now (F.steps folder.old) (F.steps folder.new)) }
 {
     make_way(folder, path)?;
     folder.open(path, Opening::New(mode))

@@ -20,4 +20,4 @@ returns-in_err-check_lock-clause-unnamed g c = on_err _ (waits_quiet _ _ _ _ _ (
 
 pub returns-clause-unnamed : goal.returns-clause-unnamed
 returns-clause-unnamed g c =
-    waits_stopped _ _ _ c.put_whole.result _ _ _ _ _ _ (tt, (tt, (tt, (tt, tt)))) c.as_str.ensures.value c.as_str-2.ensures.value (rights_look _ _ _ _ (rights_none _ _ refl) c.in_ok-lock.ensures.step tt) c.put_whole.ensures.unnamed
+    waits_stopped _ _ _ c.put_whole.result _ _ _ _ _ _ (tt, (tt, (tt, (tt, tt)))) c.as_str.ensures.value c.as_str-2.ensures.value (rights_look _ _ _ _ _ (rights_none _ _ _ refl) c.in_ok-lock.ensures.step tt) c.put_whole.ensures.unnamed

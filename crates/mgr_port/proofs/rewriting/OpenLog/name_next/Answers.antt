@@ -23,5 +23,5 @@ returns-in-Ok-clause-left g c =
 
 pub returns-clause-left : goal.returns-clause-left
 returns-clause-left g c =
-    inl (waits_chain _ _ _ _ _ _ (waits_stopped _ _ _ {A = ℕ} (Err c.in-Err.error) _ _ _ _ _ _ (tt, (tt, tt)) c.as_str.ensures.value c.as_str-2.ensures.value (rights_none _ _ refl) c.in-Err.ensures.unnamed)
+    inl (waits_chain _ _ _ _ _ _ (waits_stopped _ _ _ {A = ℕ} (Err c.in-Err.error) _ _ _ _ _ _ (tt, (tt, tt)) c.as_str.ensures.value c.as_str-2.ensures.value (rights_none _ _ _ refl) c.in-Err.ensures.unnamed)
     (waits_at _ _ _ _ _ (at_path _ _ _ _ c.as_str.ensures.value (at_removal _ _ _ _ _ c.remove_open.ensures.tried))))
