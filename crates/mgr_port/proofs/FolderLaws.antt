@@ -1,5 +1,5 @@
 -- Steps that change nothing, one behind another.
-use Rattle.std.proofs.Common.{◌≡◌, inl, inr, ◌∙◌, ℕ, List, [], ◌∷◌, ◌++◌, Option, Some, None, Result, Ok, Err, IfOk, OnOk, OnErr, refl, sym, ap, subst, append_assoc}
+use Rattle.std.proofs.Common.{◌≡◌, inr, ◌∙◌, ℕ, List, [], ◌∷◌, ◌++◌, Option, Some, None, Result, Ok, Err, IfOk, OnOk, OnErr, refl, sym, ap, subst, append_assoc}
 use Rattle.std.specs.Option.{option_map}
 use Rattle.mgr_port.specs.Folder.{History, FolderStep, Adds, Dates, Empties, Ends, EndsInNewline, Follows, GivesTo, Links, Locks, Looks, LooksAt, Makes, Opens, Overwrites, Reads, ReadsAll, Removes, Renames, Resolves, SetsMode, Syncs, SyncsFolder, IsIdleStep, IsQuietStep, AreAll, IsIdle, IsQuiet, Only, Steps, after}
 use Rattle.mgr_port.specs.Spares.{IsKept, IsSpare, IsSpareFor, SparesText}
@@ -46,12 +46,6 @@ only_chain {P} a b c i j = record {
   is = j.is ∙ ap (option_map (λ steps. j.seen ++ steps)) i.is ∙ more_more a i.seen j.seen;
 }
 
--- a date may have been given, and nothing else was
-pub idle_date : (file : ℕ) (log : Option ℕ) (a b c : History) (later : Option ℕ) → MayDate file log later a b → c ≡ b → IsIdle a c
-idle_date file log a b c None is same = only_none a c (same ∙ is)
-idle_date file log a b c (Some later) (inl is) same = only_none a c (same ∙ is)
-idle_date file log a b c (Some later) (inr (of, known, is)) same = only_more a a c (Dates file of later) (only_none a a refl) (same ∙ is) tt
-
 -- what was kept later on
 pub kept_later : (why : Reason) (path : List ℕ) (a b c : History) → IsIdle a b → IsKept why path b c → IsKept why path a c
 kept_later reason.Linked path a b c i (name, seen, tilde, j, is) = (name, seen, tilde, only_chain a b seen i j, is)
@@ -86,10 +80,11 @@ pub on_err : {A E P : Type 0} (r : Result A E) → P → OnErr r P
 on_err (Ok a) p = tt
 on_err (Err e) p = p
 
--- a date may have been given, and the file is not on the device
-pub sync_idle : {A E : Type 0} (r : Result A E) (file : ℕ) (log : Option ℕ) (a b c : History) (step : A → FolderStep) (later : Option ℕ) → MayDate file log later a b → Steps r step b c → OnErr r (IsIdle a c)
-sync_idle (Ok x) file log a b c step later may is = tt
-sync_idle (Err e) file log a b c step later may is = idle_date file log a b c later may is
+-- a date may have been given, and a later step failed
+pub still_dated : {A E : Type 0} (r : Result A E) (file : ℕ) (log : Option ℕ) (a b c : History) (step : A → FolderStep) (later : Option ℕ) → MayDate file log later a b → Steps r step b c
+    → OnErr r (MayDate file log later a c)
+still_dated (Ok x) file log a b c step later may is = tt
+still_dated (Err e) file log a b c step later may is = subst (λ h. MayDate file log later a h) (sym is) may
 
 -- a text of which something would be lost was kept, or could not be
 pub text_kept : {E : Type 0} (r : Result Spare E) (o : Option Spare) (path : List ℕ) (own : Option Stamp) (bytes : List ℕ) (a b c : History) → o ≡ None → IsSpareFor path own bytes a b o
@@ -115,7 +110,6 @@ idle_is_quiet (Looks path found) idle = tt
 idle_is_quiet (Follows path found) idle = tt
 idle_is_quiet (Resolves path target) idle = tt
 idle_is_quiet (LooksAt file look) idle = tt
-idle_is_quiet (Dates file log later) idle = tt
 idle_is_quiet (Reads path bytes) idle = tt
 idle_is_quiet (Opens file path how) idle = absurd idle
 idle_is_quiet (Locks file lock) idle = absurd idle
@@ -125,6 +119,7 @@ idle_is_quiet (Adds file bytes) idle = absurd idle
 idle_is_quiet (Empties file) idle = absurd idle
 idle_is_quiet (SetsMode file mode) idle = absurd idle
 idle_is_quiet (GivesTo file owner) idle = absurd idle
+idle_is_quiet (Dates file log later) idle = absurd idle
 idle_is_quiet (Syncs file) idle = absurd idle
 idle_is_quiet (SyncsFolder path) idle = absurd idle
 idle_is_quiet (ReadsAll file bytes) idle = absurd idle

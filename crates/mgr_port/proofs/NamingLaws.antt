@@ -25,7 +25,7 @@ use Rattle.mgr_port.specs.declared.staged.Staged.{Staged}
 use Rattle.mgr_port.specs.declared.stamp.Stamp.{Stamp}
 use Rattle.mgr_port.proofs.BytesLaws.{IsStill, still, unchanged}
 use Rattle.mgr_port.proofs.FolderLaws.{idle_is_quiet}
-use Rattle.mgr_port.proofs.PlaceLaws.{at_idle, at_spared, puts_chain, puts_front, puts_one, puts_waits, waits_at, waits_fits}
+use Rattle.mgr_port.proofs.PlaceLaws.{at_idle, at_spared, puts_chain, puts_in_place, puts_one, puts_waits, waits_at, waits_fits}
 
 -- ---- what holds after a step, and held before it
 
@@ -67,14 +67,6 @@ module _ (P : List FolderStep → Type 0) (quiet : (step : FolderStep) → IsQui
   over_one : (a b : History) (step : FolderStep) → IsQuietStep step → b ≡ after step a → OfTold P b → OfTold P a
   over_one a b step is_quiet is holds = carry P step a b (quiet step is_quiet) is holds
 
-  over_date : (file : ℕ) (log later : Option ℕ) (a b : History) → MayDate file log later a b → OfTold P b → OfTold P a
-  over_date file log None a b is holds = subst (OfTold P) is holds
-  over_date file log (Some later) a b (inl is) holds = subst (OfTold P) is holds
-  over_date file log (Some later) a b (inr (of, known, is)) holds = over_one a b (Dates file of later) tt is holds
-
-  over_synced : (file : ℕ) (log later : Option ℕ) (a b : History) → SyncsDated file log later a b → OfTold P b → OfTold P a
-  over_synced file log later a b (dated, may, is) holds = over_date file log later a dated may (over_one dated b (Syncs file) tt is holds)
-
   over_shown : (why : Reason) (path : List ℕ) (own : Option Stamp) (bytes : List ℕ) (a b : History) → IsShown why path own bytes a b → OfTold P b → OfTold P a
   over_shown reason.Nothing path own bytes a b is holds = over_one a b (Follows path None) tt is holds
   over_shown reason.Known path own bytes a b (look, known, is) holds = over_one a b (Follows path (Some look)) tt is holds
@@ -83,6 +75,16 @@ module _ (P : List FolderStep → Type 0) (quiet : (step : FolderStep) → IsQui
   over_shown reason.Linked path own bytes a b shown holds = absurd shown
   over_shown reason.Copied path own bytes a b shown holds = absurd shown
   over_shown reason.Open path own bytes a b shown holds = absurd shown
+
+-- and over a date
+module _ (P : List FolderStep → Type 0) (quiet : (step : FolderStep) → IsQuietStep step → IsCarried P step) (dates : (file of later : ℕ) → IsCarried P (Dates file of later)) where
+  over_date : (file : ℕ) (log later : Option ℕ) (a b : History) → MayDate file log later a b → OfTold P b → OfTold P a
+  over_date file log None a b is holds = subst (OfTold P) is holds
+  over_date file log (Some later) a b (inl is) holds = subst (OfTold P) is holds
+  over_date file log (Some later) a b (inr (of, known, is)) holds = carry P (Dates file of later) a b (dates file of later) is holds
+
+  over_synced : (file : ℕ) (log later : Option ℕ) (a b : History) → SyncsDated file log later a b → OfTold P b → OfTold P a
+  over_synced file log later a b (dated, may, is) holds = over_date file log later a dated may (over_one P quiet dated b (Syncs file) tt is holds)
 
 -- and over names that are kept
 module _ (P : List FolderStep → Type 0) (quiet : (step : FolderStep) → IsQuietStep step → IsCarried P step)
@@ -130,7 +132,7 @@ module _ (P : List FolderStep → Type 0) (stays : (step : FolderStep) → IsSti
   -- what comes after a new file's bytes
   over_synced_old : (file : ℕ) (log : Option ℕ) (s : Staged) (a b c : History) → SyncsDated file log s.later a b → KeepsOld log s.old s.name.now b c → OfTold P c → OfTold P a
   over_synced_old file log s a b c syncs keeps holds =
-      over_synced P quiet_stays file log s.later a b syncs
+      over_synced P quiet_stays (λ other of later. stays (Dates other of later) tt) file log s.later a b syncs
       (over_old P quiet_stays (λ other name t. stays (Links other name) tt) (λ name l t. stays (Makes name l) tt) log s.old s.name.now b c keeps holds)
 
   over_last : (file : ℕ) (log : Option ℕ) (s : Staged) (n : Named) (a b : History) → DoesAll file log s (last_steps n) a b → OfTold P b → OfTold P a
@@ -194,7 +196,7 @@ module _ (file : ℕ) (found : List ℕ) where
   added was bytes (Some steps) b is known has = let s = subst Has is has in s.2.1.0 refl ∙ ap (λ l. l ++ bytes) (known s.0 s.1)
 
   had_synced : (log later : Option ℕ) (a b : History) → SyncsDated file log later a b → Has b → Has a
-  had_synced log later a b syncs has = over_synced HasFound (quiet_stays HasFound has_over) file log later a b syncs has
+  had_synced log later a b syncs has = over_synced HasFound (quiet_stays HasFound has_over) (λ other of at. has_over (Dates other of at) tt) file log later a b syncs has
 
   -- all that was written, if nothing else was
   whole_bytes : (log : Option ℕ) (s : Staged) (n : Named) (bytes : List ℕ) (a b : History) → DoesAll file log s (steps_to n bytes) a b → Has b → found ≡ bytes
@@ -263,7 +265,7 @@ module _ (stamp_of : ℕ → Stamp) (path : List ℕ) (file : ℕ) where
   quiet_names (Empties opened) quiet steps s = absurd quiet
   quiet_names (SetsMode opened mode) quiet steps s = absurd quiet
   quiet_names (GivesTo opened owner) quiet steps s = absurd quiet
-  quiet_names (Dates opened log later) quiet steps s = s
+  quiet_names (Dates opened log later) quiet steps s = absurd quiet
   quiet_names (Syncs opened) quiet steps s = s
   quiet_names (SyncsFolder other) quiet steps s = absurd quiet
   quiet_names (ReadsAll opened bytes) quiet steps s = absurd quiet
@@ -301,7 +303,7 @@ module _ (stamp_of : ℕ → Stamp) (path : List ℕ) (file : ℕ) where
   stood_rights which None text a b (found, followed, one, takes) here = stood_quiet (Follows text found) a followed tt one (stood_text_rights which found followed b takes here)
 
   stood_synced : (which : ℕ) (log later : Option ℕ) (a b : History) → SyncsDated which log later a b → Here b → Here a
-  stood_synced which log later a b syncs here = over_synced At quiet_names which log later a b syncs here
+  stood_synced which log later a b syncs here = over_synced At quiet_names (λ other of at steps s. s) which log later a b syncs here
 
   -- it is shown to stand for a file that is which
   is_shown : (which : ℕ) (a b : History) → AreApart stamp_of → StandsFor which path a b → Here b → file ≡ which
@@ -669,13 +671,13 @@ module _ (stamp_of : ℕ → Stamp) (path name log : List ℕ) (off_path : log �
       held_elsewhere next file found a b puts (λ stood. is_another stamp_of log file next path name is_there seen a off_path makes stood) stands has
 
   -- one that is not the log's does
-  held_over : (over : ℕ) (bytes found : List ℕ) (own : Option Stamp) (a b : History) → WritesInPlace over name bytes own a b → (Stands stamp_of log over b → ⊥)
+  held_over : (over : ℕ) (dated : Option ℕ) (bytes found : List ℕ) (own : Option Stamp) (a b : History) → WritesInPlace over dated name bytes own a b → (Stands stamp_of log over b → ⊥)
       → Holds stamp_of log found b → Holds stamp_of log found a
-  held_over over bytes found own a b (inl idle) not_over holds = held_early stamp_of path log found a b off_path not_kept (at_idle path a b idle) holds
-  held_over over bytes found own a b (inr (spared, spares, inl is)) not_over holds =
+  held_over over dated bytes found own a b (inl idle) not_over holds = held_early stamp_of path log found a b off_path not_kept (at_idle path a b idle) holds
+  held_over over dated bytes found own a b (inr (spared, spares, inl is)) not_over holds =
       held_early stamp_of name log found a spared off_name not_kept (at_spared name own bytes a spared spares) (subst (Holds stamp_of log found) is holds)
-  held_over over bytes found own a b (inr (spared, spares, inr (emptied, is, front))) not_over (file, stands, has) =
-      let puts = puts_chain over path name spared emptied b (puts_one over path name spared emptied (Overwrites over name) is (refl, refl)) (puts_front over path name bytes emptied b front) in
+  held_over over dated bytes found own a b (inr (spared, spares, inr (emptied, is, adds))) not_over (file, stands, has) =
+      let puts = puts_chain over path name spared emptied b (puts_one over path name spared emptied (Overwrites over name) is (refl, refl)) (puts_in_place over path name dated bytes emptied b adds) in
       let other : file ≢ over = λ same. not_over (subst (λ f. Stands stamp_of log f b) same stands) in
       held_early stamp_of name log found a spared off_name not_kept (at_spared name own bytes a spared spares) (held_elsewhere over file found spared b puts (λ _. other) stands has)
 
@@ -693,7 +695,7 @@ module _ (stamp_of : ℕ → Stamp) (path name log : List ℕ) (off_path : log �
   pub held_tried : (over : ℕ) (dated : Option ℕ) (bytes found : List ℕ) (own : Option Stamp) (a b : History) → TriesText over dated path name bytes own a b → (Stands stamp_of log over b → ⊥)
       → Holds stamp_of log found b → Holds stamp_of log found a
   held_tried over dated bytes found own a b (made, put, known, makes, beside, in_place) not_over holds =
-      held_new found a made makes (held_beside dated bytes found own made put beside (held_over over bytes found known put b in_place not_over holds))
+      held_new found a made makes (held_beside dated bytes found own made put beside (held_over over dated bytes found known put b in_place not_over holds))
 
 -- a text that could not be put beside is the old one, or has all of the bytes
 pub text_left : (stamp_of : ℕ → Stamp) (apart : AreApart stamp_of) (file : ℕ) (log : Option ℕ) (path name bytes found : List ℕ) (own : Option Stamp) (is_there : Bool) (seen made b : History)

@@ -153,8 +153,8 @@ tried_beside o next file_of log path name bytes own is_there seen made put there
 
 -- or it was tried to write it where it stands
 pub tried_in_place : (log : Option ℕ) (path name spelled bytes : List ℕ) (own known : Option Stamp) (before made put now : History) → spelled ≡ name → MakesFileAt path before made
-    → WritesBeside log path name bytes own made put → (over : ℕ) × WritesInPlace over spelled bytes known put now → (over : ℕ) × TriesText over log path name bytes own before now
-tried_in_place log path name spelled bytes own known before made put now same makes beside (over, writes) = (over, (made, put, known, makes, beside, subst (λ n. WritesInPlace over n bytes known put now) same writes))
+    → WritesBeside log path name bytes own made put → (over : ℕ) × WritesInPlace over log spelled bytes known put now → (over : ℕ) × TriesText over log path name bytes own before now
+tried_in_place log path name spelled bytes own known before made put now same makes beside (over, writes) = (over, (made, put, known, makes, beside, subst (λ n. WritesInPlace over log n bytes known put now) same writes))
 
 -- beside the log of the note
 pub tried_beside_log : (log known : Option ℕ) (path name bytes : List ℕ) (own : Option Stamp) (before now : History) → log ≡ known → (over : ℕ) × TriesText over log path name bytes own before now

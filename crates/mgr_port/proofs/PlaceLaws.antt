@@ -7,8 +7,8 @@ use Rattle.mgr_port.specs.Growth.{AddsFront, IsAdded}
 use Rattle.mgr_port.specs.Locks.{MakesBeside}
 use Rattle.mgr_port.specs.Notes.{Leaves, MayRemoveIf}
 use Rattle.mgr_port.specs.Spares.{ChangesOnlyAt, GivesFreeName, IsKept, IsOfFile, IsOneOfMore, IsRightsStep, IsShown, IsSpare, IsNamingStep, IsStepAt, IsStepBeside, IsWaitingStep, FitsAt, FitsTaken, MakesFileAt, MakesWay, MayRemove, PutsOnlyAt, PutsOnlyBeside, SetsRights, SparesText, WaitsBeside}
-use Rattle.mgr_port.specs.Staging.{Does, DoesAll, KeepsOld, StopsBefore, SyncsDated, TakesOld}
-use Rattle.mgr_port.specs.Texts.{TakesOwner}
+use Rattle.mgr_port.specs.Staging.{Does, DoesAll, KeepsOld, MayDate, StopsBefore, SyncsDated, TakesOld}
+use Rattle.mgr_port.specs.Texts.{AddsDated, TakesOwner}
 use Rattle.mgr_port.specs.declared.spare.Owner.{Owner}
 use Rattle.mgr_port.specs.declared.staged.Named.{Named}
 use Rattle.mgr_port.specs.declared.staged.Old.{Old}
@@ -28,16 +28,6 @@ all_of (step ∷ steps) f (one, all) = (f step one, all_of steps f all)
 
 only_of : {P Q : FolderStep → Type 0} (a b : History) → ((step : FolderStep) → P step → Q step) → Only P a b → Only Q a b
 only_of a b f i = record { seen = i.seen; all = all_of i.seen f i.all; is = i.is }
-
-pub quiet_idle : (a b : History) → IsIdle a b → IsQuiet a b
-quiet_idle a b idle = only_of a b idle_is_quiet idle
-
--- a file has a date, if it may, and is on the device
-pub quiet_synced : (file : ℕ) (log later : Option ℕ) (a b : History) → SyncsDated file log later a b → IsQuiet a b
-quiet_synced file log None a b (dated, may, is) = only_more a dated b (Syncs file) (only_none a dated may) is tt
-quiet_synced file log (Some later) a b (dated, inl may, is) = only_more a dated b (Syncs file) (only_none a dated may) is tt
-quiet_synced file log (Some later) a b (dated, inr (of, known, date), is) =
-    only_more a dated b (Syncs file) (only_more a a dated (Dates file of later) (only_none a a refl) date tt) is tt
 
 pub at_idle : (path : List ℕ) (a b : History) → IsIdle a b → ChangesOnlyAt path a b
 at_idle path a b idle = only_of a b (λ step is. inl (idle_is_quiet step is)) idle
@@ -226,6 +216,15 @@ module _ (file : ℕ) (path name : List ℕ) where
   pub waits_one : (a b : History) (step : FolderStep) → b ≡ after step a → IsWaitingStep file name step → WaitsBeside file path name a b
   waits_one a b step is waiting = only_more a a b step (waits_none a a refl) is (inr (inr (inr waiting)))
 
+  -- it may have got its date, and may be on the device
+  waits_date : (log later : Option ℕ) (a b : History) → MayDate file log later a b → WaitsBeside file path name a b
+  waits_date log None a b is = waits_none a b is
+  waits_date log (Some later) a b (inl is) = waits_none a b is
+  waits_date log (Some later) a b (inr (of, known, is)) = waits_one a b (Dates file of later) is refl
+
+  waits_synced : (log later : Option ℕ) (a b : History) → SyncsDated file log later a b → WaitsBeside file path name a b
+  waits_synced log later a b (dated, may, is) = waits_look a dated b (Syncs file) (waits_date log later a dated may) is tt
+
   -- a beginning of bytes may have been written
   pub waits_begun : (bytes : List ℕ) (a b : History) → (b ≡ a) ⊎ ((front : List ℕ) × (rest : List ℕ) × (bytes ≡ front ++ rest) × (b ≡ after (Adds file front) a))
       → WaitsBeside file path name a b
@@ -273,7 +272,7 @@ module _ (file : ℕ) (log : Option ℕ) (s : Staged) where
   waits_does : (step : DiskStep) (a b : History) → IsUnnamed step → Does file log s step a b → WaitsBeside file s.path.now s.name.now a b
   waits_does disk.Empties a b is does = waits_one file s.path.now s.name.now a b (Empties file) does refl
   waits_does (disk.Writes bytes) a b is does = waits_one file s.path.now s.name.now a b (Adds file bytes) does refl
-  waits_does disk.Syncs a b is does = waits_quiet file s.path.now s.name.now a b (quiet_synced file log s.later a b does)
+  waits_does disk.Syncs a b is does = waits_synced file s.path.now s.name.now log s.later a b does
   waits_does disk.Keeps a b is does = waits_old file s.path.now s.name.now log s.old a b does
   waits_does disk.TakesName a b is does = absurd is
   waits_does disk.SyncsFolder a b is does = absurd is
@@ -285,13 +284,17 @@ module _ (file : ℕ) (log : Option ℕ) (s : Staged) where
   waits_all (step ∷ next ∷ later) a b (one, all) (done, does, rest) =
       waits_chain file s.path.now s.name.now a done b (waits_does step a done one does) (waits_all (next ∷ later) done b all rest)
 
+  waits_end : (wanted : List DiskStep) (a b : History) (t : StopsBefore file log s wanted a b) → WaitsBeside file s.path.now s.name.now t.done b
+  waits_end wanted a b t =
+      waits_chain file s.path.now s.name.now t.done t.dated b (waits_date file s.path.now s.name.now log s.later t.done t.dated t.may) (waits_idle file s.path.now s.name.now t.dated b t.idle)
+
   -- its rights were set, and then it was put in part
   pub waits_stopped : {A E : Type 0} (r : Result A E) (path name : List ℕ) (wanted : List DiskStep) (a b c : History) → AreUnnamed wanted → s.path.now ≡ path → s.name.now ≡ name
       → SetsRights file a b → OnErr r (StopsBefore file log s wanted b c) → OnErr r (WaitsBeside file path name a c)
   waits_stopped (Ok x) path name wanted a b c unnamed is named rights stops = tt
   waits_stopped (Err e) path name wanted a b c unnamed is named rights t =
       let all = begun_unnamed wanted t.made unnamed t.begins in
-      let put = waits_chain file s.path.now s.name.now b t.done c (waits_all t.made b t.done all t.does) (waits_idle file s.path.now s.name.now t.done c t.idle) in
+      let put = waits_chain file s.path.now s.name.now b t.done c (waits_all t.made b t.done all t.does) (waits_end wanted b c t) in
       waits_chain file path name a b c (waits_rights file path name a b rights)
       (subst (λ n. WaitsBeside file path n b c) named (subst (λ p. WaitsBeside file p s.name.now b c) is put))
 
@@ -307,9 +310,6 @@ module _ (file : ℕ) (path name : List ℕ) where
 
   pub puts_at : (a b : History) → ChangesOnlyAt path a b → PutsOnlyAt file path name a b
   puts_at a b only = puts_waits a b (waits_at file path name a b only)
-
-  puts_idle : (a b : History) → IsIdle a b → PutsOnlyAt file path name a b
-  puts_idle a b idle = puts_waits a b (waits_idle file path name a b idle)
 
   pub puts_quiet : (a b : History) → IsQuiet a b → PutsOnlyAt file path name a b
   puts_quiet a b quiet = puts_waits a b (waits_quiet file path name a b quiet)
@@ -351,6 +351,13 @@ module _ (file : ℕ) (path name : List ℕ) where
   puts_front lines a b (inr (front, rest, shown, added, parts, first, is, last)) =
       puts_chain a added b (puts_step a shown added (Adds file front) (puts_quiet a shown first) is refl) (puts_quiet added b last)
 
+  -- and of bytes, or all
+  pub puts_in_place : (log : Option ℕ) (bytes : List ℕ) (a b : History) → AddsFront file bytes a b ⊎ AddsDated file log bytes a b → PutsOnlyAt file path name a b
+  puts_in_place log bytes a b (inl front) = puts_front bytes a b front
+  puts_in_place log bytes a b (inr (written, dated, is, may, quiet)) =
+      let added = puts_step a a written (Adds file bytes) (puts_none a a refl) is refl in
+      puts_chain a dated b (puts_chain a written dated added (puts_waits written dated (waits_date file path name log (Some 100) written dated may))) (puts_quiet dated b quiet)
+
   -- all of them were, or a beginning
   pub puts_added : {A E : Type 0} (r : Result A E) (log lines : List ℕ) (left longer : LeftLog) (a b : History) → OnOk r (IsAdded file log left lines longer a b)
       → OnErr r (AddsFront file lines a b) → PutsOnlyAt file path name a b
@@ -391,7 +398,7 @@ module _ (file : ℕ) (log : Option ℕ) (s : Staged) where
   puts_all (step ∷ next ∷ later) a b (done, does, rest) = puts_chain file s.path.now s.name.now a done b (puts_does step a done does) (puts_all (next ∷ later) done b rest)
 
   puts_some : (wanted : List DiskStep) (a b : History) → StopsBefore file log s wanted a b → PutsOnlyAt file s.path.now s.name.now a b
-  puts_some wanted a b t = puts_chain file s.path.now s.name.now a t.done b (puts_all t.made a t.done t.does) (puts_idle file s.path.now s.name.now t.done b t.idle)
+  puts_some wanted a b t = puts_chain file s.path.now s.name.now a t.done b (puts_all t.made a t.done t.does) (puts_waits file s.path.now s.name.now t.done b (waits_end file log s wanted a b t))
 
   pub puts_whole : {E : Type 0} (r : Result Named E) (steps : Named → List DiskStep) (wanted : List DiskStep) (a b : History) → IfOk r (λ n. DoesAll file log s (steps n) a b)
       → OnErr r (StopsBefore file log s wanted a b) → PutsOnlyAt file s.path.now s.name.now a b

@@ -1,5 +1,5 @@
 -- A file beside, as far as it came.
-use Rattle.std.proofs.Common.{◌≡◌, ◌⊎◌, inl, inr, ◌∙◌, ℕ, List, [], ◌∷◌, ◌++◌, Option, Some, Result, Ok, Err, OnOk, OnErr, refl, sym, ap, subst}
+use Rattle.std.proofs.Common.{◌≡◌, ◌⊎◌, inl, inr, ◌∙◌, ℕ, List, [], ◌∷◌, ◌++◌, Option, Some, None, Result, Ok, Err, OnOk, OnErr, refl, sym, ap, subst}
 use Rattle.std.proofs.lemmas.Result.{on_err_weaker}
 use Rattle.mgr_port.specs.Disk.{DiskStep, BeginsSteps, Syncs, Keeps, TakesName, unnamed_steps}
 use Rattle.mgr_port.specs.Disk as disk
@@ -7,7 +7,7 @@ use Rattle.mgr_port.specs.Folder.{History, FolderStep, IsIdle, Adds, Renames, St
 use Rattle.mgr_port.specs.Folder as folder
 use Rattle.mgr_port.specs.Locks.{StandsAsRead}
 use Rattle.mgr_port.specs.Spares.{GivesFreeName}
-use Rattle.mgr_port.specs.Staging.{Does, DoesAll, KeepsOld, StopsBefore, TakesOld}
+use Rattle.mgr_port.specs.Staging.{Does, DoesAll, KeepsOld, MayDate, StopsBefore, TakesOld}
 use Rattle.mgr_port.specs.declared.staged.Old.{Old}
 use Rattle.mgr_port.specs.declared.staged.Old.TheVariants as old
 use Rattle.mgr_port.specs.declared.staged.Staged.{Staged}
@@ -29,9 +29,17 @@ takes (old.Text own bytes) path name b c has is = is
 takes (old.Read size) path name b c has is = is
 
 module _ (file : ℕ) (log : Option ℕ) where
+  undated : (later : Option ℕ) (a : History) → MayDate file log later a a
+  undated None a = refl
+  undated (Some later) a = inl refl
+
   -- the step that comes next failed
   pub stops_here : (s : Staged) (a b : History) (wanted : List DiskStep) → IsIdle a b → StopsBefore file log s wanted a b
-  stops_here s a b wanted i = record { made = []; done = a; begins = begins_none wanted; does = refl; idle = i }
+  stops_here s a b wanted i = record { made = []; done = a; begins = begins_none wanted; does = refl; dated = a; may = undated s.later a; idle = i }
+
+  -- the same once it has its date
+  pub stops_dated : (s : Staged) (a b : History) (wanted : List DiskStep) → MayDate file log s.later a b → StopsBefore file log s wanted a b
+  stops_dated s a b wanted may = record { made = []; done = a; begins = begins_none wanted; does = refl; dated = b; may = may; idle = only_none b b refl }
 
   does_more : (s : Staged) (a b c : History) (step : DiskStep) (made : List DiskStep) → Does file log s step a b → DoesAll file log s made b c → DoesAll file log s (step ∷ made) a c
   does_more s a b c step [] one is = subst (λ h. Does file log s step a h) (sym is) one
@@ -44,6 +52,8 @@ module _ (file : ℕ) (log : Option ℕ) where
     done = t.done;
     begins = inr (inr (t.made, refl, t.begins));
     does = does_more s a b t.done step t.made one t.does;
+    dated = t.dated;
+    may = t.may;
     idle = t.idle;
   }
 
@@ -56,6 +66,8 @@ module _ (file : ℕ) (log : Option ℕ) where
     done = b;
     begins = inr (inl (front, rest, ap (λ (l : List ℕ). disk.Writes l) parts, refl));
     does = is;
+    dated = b;
+    may = undated s.later b;
     idle = only_none b b refl;
   }
 

@@ -70,13 +70,12 @@ pub record Only (P : FolderStep → Type 0) (old now : History) : Type 0 where
   pub all : AreAll P seen
   pub is : now ≡ option_map (λ steps. seen ++ steps) old
 
--- looks, a date, and the bytes of a path
+-- looks, and the bytes of a path
 abbrev pub IsIdleStep : FolderStep → Type 0
 IsIdleStep (Looks path found) = Unit {0}
 IsIdleStep (Follows path found) = Unit {0}
 IsIdleStep (Resolves path target) = Unit {0}
 IsIdleStep (LooksAt file look) = Unit {0}
-IsIdleStep (Dates file log later) = Unit {0}
 IsIdleStep (Reads path bytes) = Unit {0}
 IsIdleStep other = ⊥
 

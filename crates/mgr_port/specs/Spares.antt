@@ -1,7 +1,7 @@
 -- Why nothing is lost of what stands under a path if that goes.
 use Rattle.std.specs.Prelude.{◌≡◌, ◌⊎◌, ◌<◌, ℕ, List, ◌++◌, ◌∷◌, [], false, Option, Some, None, string_bytes}
 use Rattle.mgr_port.specs.Folder.{History, FolderStep, IsIdle, IsQuietStep, Only, Looks, Follows, LooksAt, Opens, Reads, ReadsAll, Links, Makes, Removes, Renames, after}
-use Rattle.mgr_port.specs.Folder.{Adds, Empties, GivesTo, Overwrites, SetsMode, SyncsFolder}
+use Rattle.mgr_port.specs.Folder.{Adds, Dates, Empties, GivesTo, Overwrites, SetsMode, SyncsFolder}
 use Rattle.mgr_port.specs.Verdicts.{AreOfOneFile}
 use Rattle.mgr_port.specs.declared.folder.Opening.TheVariants as opening
 use Rattle.mgr_port.specs.declared.names.Paths.{Paths}
@@ -160,10 +160,11 @@ MakesFileAt path old now =
     ⊎ ((file : ℕ) × (mode : ℕ) × (cleared : History) × (made : History) × ChangesOnlyAt path old cleared
     × (made ≡ after (Opens file path (opening.New mode)) cleared) × FitsAt file path made now)
 
--- This file gets bytes. What stands under the name gets another one.
+-- This file gets bytes, and a date. What stands under the name gets another one.
 abbrev pub IsWaitingStep : ℕ → List ℕ → FolderStep → Type 0
 IsWaitingStep file name (Adds other bytes) = other ≡ file
 IsWaitingStep file name (Empties other) = other ≡ file
+IsWaitingStep file name (Dates other of later) = other ≡ file
 IsWaitingStep file name (Links other new) = (other ≡ name) × EndsInTilde new
 IsWaitingStep file name other = ⊥
 

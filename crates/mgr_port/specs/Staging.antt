@@ -59,10 +59,13 @@ module _ (file : ℕ) (log : Option ℕ) where
   DoesAll s (step ∷ []) before now = Does s step before now
   DoesAll s (step ∷ next ∷ later) before now = (done : History) × Does s step before done × DoesAll s (next ∷ later) done now
 
-  -- The first of these steps were done, and of the next one, if it is a write, perhaps a part. Then nothing changed.
+  -- The first of these steps were done, and of the next one, if it is a write, perhaps a part. Then the file may have got its
+  -- date, and nothing else changed.
   pub record StopsBefore (s : Staged) (wanted : List DiskStep) (before now : History) : Type 0 where
     pub made : List DiskStep
     pub done : History
     pub begins : BeginsSteps made wanted
     pub does : DoesAll s made before done
-    pub idle : IsIdle done now
+    pub dated : History
+    pub may : MayDate file log s.later done dated
+    pub idle : IsIdle dated now

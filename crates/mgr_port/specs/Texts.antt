@@ -5,7 +5,7 @@ use Rattle.mgr_port.specs.Folder.{History, Adds, Follows, GivesTo, IsIdle, IsQui
 use Rattle.mgr_port.specs.Growth.{AddsFront}
 use Rattle.mgr_port.specs.Locks.{MakesBeside, OpensLocked}
 use Rattle.mgr_port.specs.Spares.{MakesFileAt, PutsOnlyAt, SparesText, WaitsBeside}
-use Rattle.mgr_port.specs.Staging.{DoesAll, SyncsDated}
+use Rattle.mgr_port.specs.Staging.{DoesAll, MayDate, SyncsDated}
 use Rattle.mgr_port.specs.Verdicts.{IsDatedBy, mode_like}
 use Rattle.mgr_port.specs.declared.folder.Lock.{Lock}
 use Rattle.mgr_port.specs.declared.folder.Lock.TheVariants as lock
@@ -112,18 +112,24 @@ WritesBeside log path name bytes own before now =
     (now ≡ before) ⊎ ((file : ℕ) × (is_there : Bool) × (seen : History) × MakesNextText file path name is_there seen before
     × PutsOnlyAt file path name before now × LeavesNextText file log path name bytes own before now)
 
+-- all of the bytes are put behind a file, which may have got its date then
+abbrev pub AddsDated : ℕ → Option ℕ → List ℕ → History → History → Type 0
+AddsDated file log bytes before now =
+    (written : History) × (dated : History) × (written ≡ after (Adds file bytes) before) × MayDate file log (Some 100) written dated × IsQuiet dated now
+
 -- Nothing changes; or nothing of the text is lost, and it stays, or this file, which the name stands for, is written over:
--- then it has a beginning of the bytes.
-abbrev pub WritesInPlace : ℕ → List ℕ → List ℕ → Option Stamp → History → History → Type 0
-WritesInPlace file name bytes own before now =
+-- then it has a beginning of the bytes, or all of them, and perhaps its date.
+abbrev pub WritesInPlace : ℕ → Option ℕ → List ℕ → List ℕ → Option Stamp → History → History → Type 0
+WritesInPlace file log name bytes own before now =
     IsIdle before now ⊎ ((spared : History) × SparesText name own bytes before spared
-    × ((now ≡ spared) ⊎ ((emptied : History) × (emptied ≡ after (Overwrites file name) spared) × AddsFront file bytes emptied now)))
+    × ((now ≡ spared) ⊎ ((emptied : History) × (emptied ≡ after (Overwrites file name) spared)
+    × (AddsFront file bytes emptied now ⊎ AddsDated file log bytes emptied now))))
 
 -- A new file may be made, and be written; then this one may be written in place.
 abbrev pub TriesText : ℕ → Option ℕ → List ℕ → List ℕ → List ℕ → Option Stamp → History → History → Type 0
 TriesText over log path name bytes own before now =
     (made : History) × (put : History) × (known : Option Stamp) × MakesFileAt path before made
-    × WritesBeside log path name bytes own made put × WritesInPlace over name bytes known put now
+    × WritesBeside log path name bytes own made put × WritesInPlace over log name bytes known put now
 
 -- a text beside a log is this port's own if it is dated by that log; or what it was stays
 abbrev pub IsOwnBeside : {A : Type 0} → Option ℕ → List ℕ → Stamp → Option Stamp → Option Stamp → History → A → Type 0

@@ -141,7 +141,9 @@ pub(crate) fn sync_dated<F: Folder>(
     ensures synced { OnOk result (SyncsDated (F.file_of file.now)
         (option_map (λ l. F.file_of l.now) log.entry)
         later (F.steps folder.old) (F.steps folder.new)) }
-    ensures idle { OnErr result (IsIdle (F.steps folder.old) (F.steps folder.new)) }
+    ensures dated { OnErr result (MayDate (F.file_of file.now)
+        (option_map (λ l. F.file_of l.now) log.entry)
+        later (F.steps folder.old) (F.steps folder.new)) }
 {
     give_date(folder, file, log, later);
     folder.sync(file)

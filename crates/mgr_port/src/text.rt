@@ -194,7 +194,8 @@ impl<T: Drop> Text<T> {
         ensures put { OnOk result (PutsInPlace (option_map (λ l. F.file_of l.now) log.entry)
             path.now bytes.now self.old.own self.new.own
             (F.steps folder.old) (F.steps folder.new)) }
-        ensures only { (over : ℕ) × WritesInPlace over path.now bytes.now self.old.own
+        ensures only { (over : ℕ) × WritesInPlace over
+            (option_map (λ l. F.file_of l.now) log.entry) path.now bytes.now self.old.own
             (F.steps folder.old) (F.steps folder.new) }
     {
         let spare = spare_text(folder, path, self.own, bytes, Keeping::ByCopy)?;

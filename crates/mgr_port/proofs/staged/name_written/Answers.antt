@@ -1,5 +1,5 @@
 use Rattle.mgr_port.proofs.FolderLaws.{on_err}
-use Rattle.mgr_port.proofs.StagingLaws.{stops_behind}
+use Rattle.mgr_port.proofs.StagingLaws.{stops_behind, stops_dated}
 use Rattle.mgr_port.proofs.staged.name_written.Goals as goal
 
 pub returns-in-Ok-clause-named : goal.returns-in-Ok-clause-named
@@ -15,3 +15,6 @@ returns-in-Err-clause-named g c =
 pub returns-in_err-give_name-clause-unnamed : goal.returns-in_err-give_name-clause-unnamed
 returns-in_err-give_name-clause-unnamed g c =
     on_err _ (stops_behind _ _ c.args.staged _ _ _ _ _ c.in_ok-sync_dated.ensures.synced (c.in_err-give_name.ensures.unnamed _))
+
+pub returns-in_err-sync_dated-clause-unnamed : goal.returns-in_err-sync_dated-clause-unnamed
+returns-in_err-sync_dated-clause-unnamed g c = on_err _ (stops_dated _ _ c.args.staged _ _ _ c.in_err-sync_dated.ensures.dated)
