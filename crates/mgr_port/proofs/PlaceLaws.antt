@@ -1,12 +1,12 @@
 -- Steps that change something at one path alone, one after another.
-use Rattle.std.proofs.Common.{◌≡◌, ◌⊎◌, inl, inr, ℕ, Bool, true, false, List, [], ◌∷◌, Option, Some, None, Result, Ok, Err, IfOk, OnErr, OnOk, ◌++◌, refl, sym, subst}
+use Rattle.std.proofs.Common.{◌≡◌, ◌⊎◌, inl, inr, ◌∙◌, ℕ, Bool, true, false, List, [], ◌∷◌, Option, Some, None, Result, Ok, Err, IfOk, OnErr, OnOk, ◌++◌, refl, sym, subst}
 use Rattle.mgr_port.specs.Disk.{DiskStep, BeginsSteps}
 use Rattle.mgr_port.specs.Disk as disk
 use Rattle.mgr_port.specs.Folder.{History, FolderStep, Adds, Dates, Empties, Follows, GivesTo, Links, Looks, LooksAt, Makes, Reads, Removes, Renames, Syncs, SyncsFolder, AreAll, IsIdle, IsQuiet, IsQuietStep, Only, Steps, Writes, after}
 use Rattle.mgr_port.specs.Growth.{AddsFront, IsAdded}
 use Rattle.mgr_port.specs.Locks.{MakesBeside}
 use Rattle.mgr_port.specs.Notes.{Leaves, MayRemoveIf}
-use Rattle.mgr_port.specs.Spares.{ChangesOnlyAt, GivesFreeName, IsKept, IsOfFile, IsOneOfMore, IsRightsStep, IsShown, IsSpare, IsNamingStep, IsStepAt, IsStepBeside, IsWaitingStep, FitsAt, FitsTaken, MakesFileAt, MakesWay, MayRemove, PutsOnlyAt, PutsOnlyBeside, SetsRights, SparesText, WaitsBeside}
+use Rattle.mgr_port.specs.Spares.{ChangesOnlyAt, GivesFreeName, IsKept, IsNoFile, IsNothing, IsOfFile, IsOneOfMore, IsRightsStep, IsShown, IsSpare, IsNamingStep, IsStepAt, IsStepBeside, IsWaitingStep, FitsAt, FitsTaken, MakesFileAt, MakesWay, MayBeGiven, MayGo, MayRemove, PutsOnlyAt, PutsOnlyBeside, SetsRights, SparesText, WaitsBeside}
 use Rattle.mgr_port.specs.Staging.{Does, DoesAll, KeepsOld, MayDate, StopsBefore, SyncsDated, TakesOld}
 use Rattle.mgr_port.specs.Texts.{AddsDated, TakesOwner}
 use Rattle.mgr_port.specs.declared.spare.Owner.{Owner}
@@ -110,6 +110,39 @@ at_spared path own bytes a b (why, inr kept) = at_kept why path a b kept
 pub at_failed : {A E : Type 0} (r : Result A E) (path : List ℕ) (a b c : History) (step : A → FolderStep) → ChangesOnlyAt path a b → Steps r step b c → OnErr r (ChangesOnlyAt path a c)
 at_failed (Ok x) path a b c step before is = tt
 at_failed (Err e) path a b c step before is = at_chain path a b c before (at_none path b c is)
+
+-- ---- a path that may go, or be given
+
+no_file_is_nothing : (found : Option Look) → IsNoFile found → IsNothing found
+no_file_is_nothing None none = absurd none
+no_file_is_nothing (Some look) other = inl other
+
+pub go_no_file : (path spelled p : List ℕ) (found : Option Look) (a b : History) → path ≡ spelled → spelled ≡ p → b ≡ after (Looks p found) a → IsNoFile found → MayGo path b
+unfolding IsSpare
+go_no_file path spelled p found a b same is step none = subst (λ q. MayGo q b) (sym (same ∙ is)) (a, inl (inl (found, no_file_is_nothing found none, step)))
+
+pub go_linked : (path p name : List ℕ) (a b : History) → path ≡ p → b ≡ after (Links p name) a → MayGo path b
+go_linked path p name a b is step = subst (λ q. MayGo q b) (sym is) (a, inr (inl (name, step)))
+
+pub go_open : (path spelled p : List ℕ) (file : ℕ) (opened : Look) (found : Option Look) (a b c : History) → path ≡ spelled → spelled ≡ p → b ≡ after (LooksAt file opened) a
+    → c ≡ after (Follows p found) b → IsOfFile opened.stamp found → MayGo path c
+go_open path spelled p file opened found a b c same is one two of = subst (λ q. MayGo q c) (sym (same ∙ is)) (a, inr (inr (file, opened, found, b, one, of, two)))
+
+pub one_of_more : (stamp : Stamp) (found : Option Look) → IsOneOfMore stamp found → IsOfFile stamp found
+one_of_more stamp None of = absurd of
+one_of_more stamp (Some look) of = of.1
+
+pub given_free : (path p : List ℕ) (found : Option Look) (a b : History) → path ≡ p → found ≡ None → b ≡ after (Looks p found) a → MayBeGiven path b
+unfolding IsSpare
+given_free path p found a b is none step = subst (λ q. MayBeGiven q b) (sym is) (a, inl (inl (found, subst IsNothing (sym none) tt, step)))
+
+pub given_kept : (why : Reason) (path p : List ℕ) (a b : History) → path ≡ p → IsKept why p a b → MayBeGiven path b
+unfolding IsSpare
+given_kept why path p a b is kept = subst (λ q. MayBeGiven q b) (sym is) (a, inl (inr (why, kept)))
+
+pub given_text : (path p bytes : List ℕ) (own : Option Stamp) (a b : History) → path ≡ p → SparesText p own bytes a b → MayBeGiven path b
+given_text path p bytes own a b is (why, inl shown) = subst (λ q. MayBeGiven q b) (sym is) (a, inr (own, bytes, why, shown))
+given_text path p bytes own a b is (why, inr kept) = given_kept why path p a b is kept
 
 -- ---- rights
 

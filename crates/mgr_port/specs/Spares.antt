@@ -89,6 +89,19 @@ unfoldable pub IsSpare : List ℕ → History → History → Type 0
 IsSpare path old now =
     ((found : Option Look) × IsNothing found × (now ≡ after (Looks path found) old)) ⊎ ((why : Reason) × IsKept why path old now)
 
+-- The last steps show that the path may go: nothing is lost of it; or what stands there has got another name; or it is a file
+-- that is open.
+abbrev pub MayGo : List ℕ → History → Type 0
+MayGo path now =
+    (old : History) × (IsSpare path old now ⊎ ((name : List ℕ) × (now ≡ after (Links path name) old))
+    ⊎ ((file : ℕ) × (opened : Look) × (found : Option Look) × (looked : History) × (looked ≡ after (LooksAt file opened) old)
+    × IsOfFile opened.stamp found × (now ≡ after (Follows path found) looked)))
+
+-- They show that it may be given to another file: nothing is lost of it, or was seen to be.
+abbrev pub MayBeGiven : List ℕ → History → Type 0
+MayBeGiven path now =
+    (old : History) × (IsSpare path old now ⊎ ((own : Option Stamp) × (bytes : List ℕ) × (why : Reason) × IsShown why path own bytes old now))
+
 -- nothing stood there; or the path is given, and nothing is lost of it
 abbrev pub IsVacated : List ℕ → History → History → Option Spare → Type 0
 IsVacated path old now None = now ≡ after (Looks path None) old

@@ -4,7 +4,7 @@ ghost use Rattle.mgr_port.specs.Folder.{History, Looks, Follows, Resolves, Looks
 ghost use Rattle.mgr_port.specs.Folder.{Empties, SetsMode, GivesTo, Dates, Syncs, SyncsFolder, ReadsAll, Reads, Links};
 ghost use Rattle.mgr_port.specs.Folder.{Makes, Removes, Renames, Overwrites, Steps, Writes};
 ghost use Rattle.mgr_port.specs.Growth.{MayAdd};
-ghost use Rattle.mgr_port.specs.Spares.{MayBeOverwritten, path_of};
+ghost use Rattle.mgr_port.specs.Spares.{MayBeGiven, MayBeOverwritten, MayGo, path_of};
 
 use crate::log::{End, LeftLog};
 use crate::spare::{Look, Owner, Spare, Standing};
@@ -170,17 +170,20 @@ pub trait Folder {
 
     /// Removes a path.
     fn remove(&mut self, spare: Spare<'_>) -> io::Result<()>
+        requires { MayGo (path_of spare) (steps self.old) }
         ensures step { Steps result (λ _. Removes (path_of spare.entry))
             (steps self.old) (steps self.new) };
 
     /// Gives a path to the file of another path, which has that no more.
     fn rename(&mut self, path: &str, spare: Spare<'_>) -> io::Result<()>
+        requires { MayBeGiven (path_of spare) (steps self.old) }
         ensures step { Steps result (λ _. Renames path.now (path_of spare.entry))
             (steps self.old) (steps self.new) };
 
     /// Opens the file that a path leads to, with nothing in it.
     fn overwrite(&mut self, spare: Spare<'_>) -> io::Result<Self::File>
-        requires { MayBeOverwritten spare }
+        requires outlasts { MayBeOverwritten spare }
+        requires given { MayBeGiven (path_of spare) (steps self.old) }
         ensures step { Steps result (λ file. Overwrites (file_of file) (path_of spare.entry))
             (steps self.old) (steps self.new) };
 }

@@ -1,6 +1,6 @@
 use Rattle.std.proofs.Common.{◌∙◌, refl}
 use Rattle.mgr_port.specs.Spares.{ChangesOnlyAt}
-use Rattle.mgr_port.proofs.PlaceLaws.{at_chain, at_look, at_none, then_may, then_step}
+use Rattle.mgr_port.proofs.PlaceLaws.{at_chain, at_look, at_none, go_no_file, then_may, then_step}
 use Rattle.mgr_port.proofs.locking.open_beside.Goals as goal
 use Rattle.mgr_port.proofs.locking.open_beside.Goals.{in-Some+in_ok-remove, in_default}
 
@@ -15,3 +15,6 @@ returns-clause-only g c =
       | in_default w ↦ rw w.folder-is (at_look _ _ _ _ c.in_ok-look.ensures.step tt)
     ] in
     then_may _ _ _ _ _ _ before c.open.ensures.step (λ _. refl)
+
+pub remove-requires : goal.remove-requires
+remove-requires g c = go_no_file _ _ _ _ _ _ c.in-Some.ensures.path.is_path c.in_ok-look.ensures.path c.in_ok-look.ensures.step (c.in-Some.ensures.exact.0 refl)

@@ -1,3 +1,4 @@
+use Rattle.mgr_port.proofs.PlaceLaws.{given_kept, given_text}
 use Rattle.mgr_port.proofs.StagingLaws.{named_free, named_kept, unnamed_kept, unkept_read}
 use Rattle.mgr_port.proofs.staged.give_name.Goals as goal
 
@@ -28,3 +29,12 @@ returns-in_ok-spare-in-Read-clause-unnamed g c = λ _.
 
 pub returns-in_err-spare-in-Read-clause-unnamed : goal.returns-in_err-spare-in-Read-clause-unnamed
 returns-in_err-spare-in-Read-clause-unnamed g c = λ _. unkept_read _ _ _ c.args.staged _ _ _ _ _ c.in_ok-check_as_read-in-Read.ensures.shown c.in_err-spare-in-Read.ensures.idle
+
+pub rename-requires : goal.rename-requires
+rename-requires g c = given_kept _ _ _ _ _ c.in_ok-spare-in-Log.ensures.path c.in_ok-spare-in-Log.ensures.kept
+
+pub rename-requires-in-Text : goal.rename-requires-in-Text
+rename-requires-in-Text g c = given_text _ _ _ _ _ _ c.in_ok-spare-in-Text.ensures.path c.in_ok-spare-in-Text.ensures.kept
+
+pub rename-requires-in-Read : goal.rename-requires-in-Read
+rename-requires-in-Read g c = given_kept _ _ _ _ _ c.in_ok-spare-in-Read.ensures.path c.in_ok-spare-in-Read.ensures.kept

@@ -1,6 +1,7 @@
 use Rattle.std.proofs.Common.{inl, inr, refl}
 use Rattle.mgr_port.proofs.FolderLaws.{only_chain, only_none}
 use Rattle.mgr_port.proofs.GrowthLaws.{adds_front, quiet_sync, quiet_sync_look_at}
+use Rattle.mgr_port.proofs.PlaceLaws.{given_text}
 use Rattle.mgr_port.proofs.text.Text.put_in_place.Goals as goal
 
 pub returns-clause-put : goal.returns-clause-put
@@ -37,3 +38,6 @@ returns-clause-only g c =
     let (dated, may, is) = c.in_ok-sync_dated.ensures.synced in
     let later = quiet_sync_look_at _ _ _ _ _ is c.in_ok-look_at.ensures.step in
     (_, inr (_, c.in_ok-spare.ensures.kept, inr (_, over, inr (_, dated, c.in_ok-write.ensures.step, may, later))))
+
+pub overwrite-requires-clause-given : goal.overwrite-requires-clause-given
+overwrite-requires-clause-given g c = given_text _ _ _ _ _ _ c.in_ok-spare.ensures.path c.in_ok-spare.ensures.kept
