@@ -39,7 +39,8 @@ pub enum Lock {
 }
 
 /// A folder, whose files other programs change too. It may tell what it was asked and what it
-/// answered. A path goes, or is given to another file, only as a `Spare`, of which nothing is lost.
+/// answered. A path goes, or is given to another file, only as a `Spare`, and once the last steps show
+/// that nothing of it is lost.
 pub trait Folder {
     /// A file that is open.
     type File: Drop;

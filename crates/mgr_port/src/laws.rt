@@ -41,7 +41,8 @@ pub fn a_file_is_whole_whenever_the_machine_stops()
 
 /// What a path stood for when it goes, was nothing, or stood under another name before, if other
 /// programs leave the path and its file alone from the look on, the second name, or the reading. They
-/// may do anything else, to that name too. `keep`, `make_way` and `give_free_name` take these steps.
+/// may do anything else, to that name too. `Folder::remove` asks for these steps, unless the path stands
+/// for a file that is open.
 pub fn a_path_that_goes_loses_nothing()
     ensures nothing { (path : List ℕ) (found : Option Look) (a b : World) → IsNothing found
         → Shows a path found → IsLeftAlone path a b → IsBare b path }

@@ -8,10 +8,11 @@
 //!
 //! What may be destroyed is decided over a `Folder`, a trait of steps, each a call of the system or
 //! two. A path goes, or is given to another file, only as a `Spare`, which a look, a second name or a
-//! copy makes; lines are put behind a log only after it was looked at; a new file (`Staged`) has its
-//! mode, its bytes and its date on the device before it gets its name. That is proved for every folder,
-//! whatever other programs do in it; the machine's (`System`) tells nothing, and is short. By these
-//! steps files are whole whenever the machine stops (`laws`), which is tried with the built program.
+//! copy makes, and only right behind these steps; lines are put behind a log only after it was looked
+//! at; a new file (`Staged`) has its mode, its bytes and its date on the device before it gets its name.
+//! That is proved for every folder, whatever other programs do in it; the machine's (`System`) tells
+//! nothing, and is short. By these steps files are whole whenever the machine stops (`laws`), which is
+//! tried with the built program.
 #![tactic(auto)]
 
 mod files;
