@@ -6,7 +6,7 @@ use Rattle.mgr_port.specs.Folder.{History, FolderStep, Adds, Dates, Empties, Fol
 use Rattle.mgr_port.specs.Growth.{AddsFront, IsAdded}
 use Rattle.mgr_port.specs.Locks.{MakesBeside}
 use Rattle.mgr_port.specs.Notes.{Leaves, MayRemoveIf}
-use Rattle.mgr_port.specs.Spares.{ChangesOnlyAt, GivesFreeName, IsKept, IsNoFile, IsNothing, IsOfFile, IsOneOfMore, IsRightsStep, IsShown, IsSpare, IsNamingStep, IsStepAt, IsStepBeside, IsWaitingStep, FitsAt, FitsTaken, MakesFileAt, MakesWay, MayBeGiven, MayGo, MayRemove, PutsOnlyAt, PutsOnlyBeside, SetsRights, SparesText, WaitsBeside}
+use Rattle.mgr_port.specs.Spares.{ChangesOnlyAt, GivesFreeName, IsKept, IsNoFile, IsNothing, IsOfFile, IsOneOfMore, IsRightsStep, IsShown, IsSpare, IsNamingStep, IsStepAt, IsStepBeside, IsWaitingStep, FitsAt, FitsTaken, MakesFileAt, MakesWay, MayBeGiven, MayBeKept, MayGo, MayRemove, PutsOnlyAt, PutsOnlyBeside, SetsRights, SparesText, WaitsBeside}
 use Rattle.mgr_port.specs.Staging.{Does, DoesAll, KeepsOld, MayDate, StopsBefore, SyncsDated, TakesOld}
 use Rattle.mgr_port.specs.Texts.{AddsDated, TakesOwner}
 use Rattle.mgr_port.specs.declared.spare.Owner.{Owner}
@@ -87,11 +87,24 @@ pub at_leaving : (next log : Option ℕ) (path : List ℕ) (a b : History) → L
 at_leaving next log path a b (gone, one, two) = at_chain path a gone b (at_removal_if IsOfFile next path a gone one) (at_removal_if IsOneOfMore log path gone b two)
 
 -- what stood there has let go of it
-pub at_way : (path : List ℕ) (a b : History) → MakesWay path a b → ChangesOnlyAt path a b
+at_spare : (path : List ℕ) (a b : History) → IsSpare path a b → ChangesOnlyAt path a b
 unfolding IsSpare
+at_spare path a b (inl (found, bare, is)) = at_look path a b (Looks path found) is tt
+at_spare path a b (inr (why, kept)) = at_kept why path a b kept
+
+pub at_way : (path : List ℕ) (a b : History) → MakesWay path a b → ChangesOnlyAt path a b
 at_way path a b (inl is) = at_look path a b (Looks path None) is tt
-at_way path a b (inr (spare, inl (found, bare, one), is)) = then_step path a spare b (Removes path) (at_look path a spare (Looks path found) one tt) is refl
-at_way path a b (inr (spare, inr (why, kept), is)) = then_step path a spare b (Removes path) (at_kept why path a spare kept) is refl
+at_way path a b (inr (spare, spared, is)) = then_step path a spare b (Removes path) (at_spare path a spare spared) is refl
+
+-- or it may be kept
+pub at_left : (path : List ℕ) (a b : History) → MayBeKept path a b → ChangesOnlyAt path a b
+at_left path a b (inl idle) = at_idle path a b idle
+at_left path a b (inr spared) = at_spare path a b spared
+
+-- it could not be removed
+pub left_spare : {A E : Type 0} (r : Result A E) (path : List ℕ) (a b c : History) (step : A → FolderStep) → IsSpare path a b → Steps r step b c → OnErr r (MayBeKept path a c)
+left_spare (Ok x) path a b c step spared is = tt
+left_spare (Err e) path a b c step spared is = inr (subst (λ h. IsSpare path a h) (sym is) spared)
 
 -- nothing is lost of what takes part
 shown_idle : (why : Reason) (path : List ℕ) (own : Option Stamp) (bytes : List ℕ) (a b : History) → IsShown why path own bytes a b → IsIdle a b

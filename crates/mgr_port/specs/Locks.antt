@@ -1,7 +1,7 @@
 -- When a file counts as this port's own.
 use Rattle.std.specs.Prelude.{◌≡◌, ◌≢◌, ◌⊎◌, ℕ, List, Bool, true, false, Option, Some, None, IfSome, string_bytes}
-use Rattle.mgr_port.specs.Folder.{History, Follows, Locks, Looks, LooksAt, Opens, Reads, Removes, after}
-use Rattle.mgr_port.specs.Spares.{IsNoFile, MakesWay}
+use Rattle.mgr_port.specs.Folder.{History, Follows, IsQuiet, Locks, Looks, LooksAt, Opens, Reads, Removes, after}
+use Rattle.mgr_port.specs.Spares.{IsNoFile, MakesWay, MayBeKept}
 use Rattle.mgr_port.specs.Verdicts.{AreOfOneFile}
 use Rattle.mgr_port.specs.declared.folder.Lock.{Lock}
 use Rattle.mgr_port.specs.declared.folder.Lock.TheVariants as lock
@@ -61,6 +61,11 @@ OpensLocked file path now = (opened : History) × OpensPlain file path opened ×
 -- It is held, and empty.
 unfoldable pub HoldsEmpty : ℕ → List ℕ → History → History → Type 0
 HoldsEmpty file path old now = (look : Look) × (held : History) × Holds file path old held × (now ≡ after (LooksAt file look) held) × (look.stamp.length ≡ 0)
+
+-- Nothing changed; or what stands there was held, and then made way, or may be kept.
+abbrev pub ClearsHeld : List ℕ → History → History → Type 0
+ClearsHeld path old now =
+    IsQuiet old now ⊎ ((held : History) × IsQuiet old held × (MakesWay path held now ⊎ MayBeKept path held now))
 
 -- What stood there was a plain file or nothing, or is gone: so nothing is written through a link.
 abbrev pub OpensBeside : ℕ → List ℕ → History → History → Type 0

@@ -111,6 +111,10 @@ IsVacated path old now (Some spare) = (path_of spare ≡ path) × IsSpare path o
 abbrev pub MakesWay : List ℕ → History → History → Type 0
 MakesWay path old now = (now ≡ after (Looks path None) old) ⊎ ((spare : History) × IsSpare path old spare × (now ≡ after (Removes path) spare))
 
+-- It did not go: nothing changed, or nothing is lost of it.
+abbrev pub MayBeKept : List ℕ → History → History → Type 0
+MayBeKept path old now = IsIdle old now ⊎ IsSpare path old now
+
 -- The path is gone, if it stood for such a file that is open; and else it stays.
 abbrev pub RemovesIf : (Stamp → Option Look → Type 0) → ℕ → List ℕ → History → History → Type 0
 RemovesIf P file path old now =

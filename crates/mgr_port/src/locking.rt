@@ -1,8 +1,8 @@
 //! Files that are opened and locked.
-ghost use Rattle.std.specs.Prelude.{◌≢◌, IfOk, IfSome, OnOk};
+ghost use Rattle.std.specs.Prelude.{◌≢◌, IfOk, IfSome, OnErr, OnOk};
 ghost use Rattle.mgr_port.specs.declared.folder.Lock.TheVariants as Lock;
 ghost use Rattle.mgr_port.specs.Folder.{IsQuiet};
-ghost use Rattle.mgr_port.specs.Locks.{Holds, HoldsEmpty, IsHeldEmpty, IsOpened};
+ghost use Rattle.mgr_port.specs.Locks.{ClearsHeld, Holds, HoldsEmpty, IsHeldEmpty, IsOpened};
 ghost use Rattle.mgr_port.specs.Locks.{OpensBeside, OpensLocked, OpensPlain, ShowsStanding};
 ghost use Rattle.mgr_port.specs.Spares.{ChangesOnlyAt};
 
@@ -150,6 +150,8 @@ pub(crate) fn open_beside<F: Folder>(folder: &mut F, path: &str) -> io::Result<F
 pub(crate) fn hold_empty<F: Folder>(folder: &mut F, path: &str, next: &F::File) -> io::Result<()>
     ensures held { OnOk result
         (HoldsEmpty (F.file_of next.now) path.now (F.steps folder.old) (F.steps folder.new)) }
+    ensures cleared { OnErr result
+        (ClearsHeld path.now (F.steps folder.old) (F.steps folder.new)) }
     ensures only { ChangesOnlyAt path.now (F.steps folder.old) (F.steps folder.new) }
 {
     hold(folder, path, next)?;

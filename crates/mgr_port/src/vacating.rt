@@ -3,7 +3,7 @@ ghost use Rattle.std.specs.Prelude.{IfOk, OnErr, OnOk};
 ghost use Rattle.mgr_port.specs.Folder.{IsIdle};
 ghost use Rattle.mgr_port.specs.Locks.{MakesBeside};
 ghost use Rattle.mgr_port.specs.Spares.{ChangesOnlyAt, GivesFreeName, IsOfFile, IsOneOfMore, IsVacated, MakesWay};
-ghost use Rattle.mgr_port.specs.Spares.{MayRemove, RemovesIf};
+ghost use Rattle.mgr_port.specs.Spares.{MayBeKept, MayRemove, RemovesIf};
 
 use crate::folder::{Folder, Opening};
 use crate::keeping::{Keeping, keep};
@@ -13,11 +13,11 @@ use std::io::ErrorKind;
 
 /// The path, once nothing is lost of what stands there itself: bytes of a plain file are kept. None
 /// if nothing stands there.
-#[tactic(auto, unfolding(crate::specs::Spares::IsSpare))]
+#[tactic(auto, unfolding(crate::specs::Spares::IsSpare), using(crate::proofs::FolderLaws::only_none))]
 fn spare_name<'p, F: Folder>(folder: &mut F, path: &'p str) -> io::Result<Option<Spare<'p>>>
     ensures vacated { IfOk result
         (IsVacated path.now (F.steps folder.old) (F.steps folder.new)) }
-    ensures only { ChangesOnlyAt path.now (F.steps folder.old) (F.steps folder.new) }
+    ensures idle { OnErr result (IsIdle (F.steps folder.old) (F.steps folder.new)) }
 {
     let standing = folder.look(path)?;
     if standing.found.is_none() {
@@ -32,7 +32,7 @@ fn spare_name<'p, F: Folder>(folder: &mut F, path: &'p str) -> io::Result<Option
 /// Has what stands under a path let go of it. Bytes of a plain file are kept.
 pub fn make_way<F: Folder>(folder: &mut F, path: &str) -> io::Result<()>
     ensures made { OnOk result (MakesWay path.now (F.steps folder.old) (F.steps folder.new)) }
-    ensures only { ChangesOnlyAt path.now (F.steps folder.old) (F.steps folder.new) }
+    ensures kept { OnErr result (MayBeKept path.now (F.steps folder.old) (F.steps folder.new)) }
 {
     match spare_name(folder, path)? {
         Some(spare) => folder.remove(spare),
