@@ -470,7 +470,7 @@ module _ (stamp_of : ℕ → Stamp) (apart : AreApart stamp_of) where
       → Holds stamp_of name found b → found ≡ bytes
   text_holds log text path name bytes found own now_own a b free (inl (file, is_there, seen, made, there, makes, puts, is)) holds =
       text_beside log file path name bytes found own now_own is_there seen made b free makes puts holds
-  text_holds log text path name bytes found own now_own a b free (inr (known, seen, puts)) holds = text_in_place log name bytes found known now_own seen b puts holds
+  text_holds log text path name bytes found own now_own a b free (inr (seen, puts)) holds = text_in_place log name bytes found own now_own seen b puts holds
 
 -- ---- what stands elsewhere
 
@@ -694,8 +694,8 @@ module _ (stamp_of : ℕ → Stamp) (path name log : List ℕ) (off_path : log �
 
   pub held_tried : (over : ℕ) (dated : Option ℕ) (bytes found : List ℕ) (own : Option Stamp) (a b : History) → TriesText over dated path name bytes own a b → (Stands stamp_of log over b → ⊥)
       → Holds stamp_of log found b → Holds stamp_of log found a
-  held_tried over dated bytes found own a b (made, put, known, makes, beside, in_place) not_over holds =
-      held_new found a made makes (held_beside dated bytes found own made put beside (held_over over dated bytes found known put b in_place not_over holds))
+  held_tried over dated bytes found own a b (made, put, makes, beside, in_place) not_over holds =
+      held_new found a made makes (held_beside dated bytes found own made put beside (held_over over dated bytes found own put b in_place not_over holds))
 
 -- a text that could not be put beside is the old one, or has all of the bytes
 pub text_left : (stamp_of : ℕ → Stamp) (apart : AreApart stamp_of) (file : ℕ) (log : Option ℕ) (path name bytes found : List ℕ) (own : Option Stamp) (is_there : Bool) (seen made b : History)

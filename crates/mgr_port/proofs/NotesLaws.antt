@@ -138,11 +138,11 @@ put_beside (Ok x) named.Settled file log path name bytes own before put now look
 put_beside (Ok x) (named.Unsettled error) file log path name bytes own before put now look settled named step = absurd settled
 
 -- it was written where it stands
-pub put_in_place : {A E : Type 0} (r : Result A E) (log text : Option ℕ) (path name spelled bytes : List ℕ) (known own now_own : Option Stamp) (before seen now : History) → spelled ≡ name
-    → OnOk r (PutsInPlace log spelled bytes known now_own seen now) → OnOk r (PutsText log text path name bytes own now_own before now)
-put_in_place (Err e) log text path name spelled bytes known own now_own before seen now same puts = tt
-put_in_place (Ok x) log text path name spelled bytes known own now_own before seen now same puts =
-    inr (known, seen, subst (λ p. PutsInPlace log p bytes known now_own seen now) same puts)
+pub put_in_place : {A E : Type 0} (r : Result A E) (log text : Option ℕ) (path name spelled bytes : List ℕ) (own now_own : Option Stamp) (before seen now : History) → spelled ≡ name
+    → OnOk r (PutsInPlace log spelled bytes own now_own seen now) → OnOk r (PutsText log text path name bytes own now_own before now)
+put_in_place (Err e) log text path name spelled bytes own now_own before seen now same puts = tt
+put_in_place (Ok x) log text path name spelled bytes own now_own before seen now same puts =
+    inr (seen, subst (λ p. PutsInPlace log p bytes own now_own seen now) same puts)
 
 -- a new file was made for it, and written
 pub tried_beside : {A : Type 0} (o : Option A) (next : A) (file_of : A → ℕ) (log : Option ℕ) (path name bytes : List ℕ) (own : Option Stamp) (is_there : Bool) (seen made put : History) → o ≡ Some next
@@ -152,9 +152,9 @@ tried_beside o next file_of log path name bytes own is_there seen made put there
     inr (file_of next, is_there, seen, subst (λ p. IfSome p (λ file. MakesNextText (file_of file) path name is_there seen made)) there makes, puts, leaves)
 
 -- or it was tried to write it where it stands
-pub tried_in_place : (log : Option ℕ) (path name spelled bytes : List ℕ) (own known : Option Stamp) (before made put now : History) → spelled ≡ name → MakesFileAt path before made
-    → WritesBeside log path name bytes own made put → (over : ℕ) × WritesInPlace over log spelled bytes known put now → (over : ℕ) × TriesText over log path name bytes own before now
-tried_in_place log path name spelled bytes own known before made put now same makes beside (over, writes) = (over, (made, put, known, makes, beside, subst (λ n. WritesInPlace over log n bytes known put now) same writes))
+pub tried_in_place : (log : Option ℕ) (path name spelled bytes : List ℕ) (own : Option Stamp) (before made put now : History) → spelled ≡ name → MakesFileAt path before made
+    → WritesBeside log path name bytes own made put → (over : ℕ) × WritesInPlace over log spelled bytes own put now → (over : ℕ) × TriesText over log path name bytes own before now
+tried_in_place log path name spelled bytes own before made put now same makes beside (over, writes) = (over, (made, put, makes, beside, subst (λ n. WritesInPlace over log n bytes own put now) same writes))
 
 -- beside the log of the note
 pub tried_beside_log : (log known : Option ℕ) (path name bytes : List ℕ) (own : Option Stamp) (before now : History) → log ≡ known → (over : ℕ) × TriesText over log path name bytes own before now

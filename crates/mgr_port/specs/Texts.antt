@@ -96,7 +96,7 @@ abbrev pub PutsText : Option ℕ → Option ℕ → List ℕ → List ℕ → Li
 PutsText log text path name bytes own now_own before now =
     ((file : ℕ) × (is_there : Bool) × (seen : History) × (made : History) × IsThere name before seen is_there
     × MakesNextText file path name is_there seen made × PutsBeside file log path name bytes own now_own made now × (text ≡ Some file))
-    ⊎ ((known : Option Stamp) × (seen : History) × PutsInPlace log name bytes known now_own seen now)
+    ⊎ ((seen : History) × PutsInPlace log name bytes own now_own seen now)
 
 -- ---- what a call that puts a text did, whatever it answers
 
@@ -128,8 +128,8 @@ WritesInPlace file log name bytes own before now =
 -- A new file may be made, and be written; then this one may be written in place.
 abbrev pub TriesText : ℕ → Option ℕ → List ℕ → List ℕ → List ℕ → Option Stamp → History → History → Type 0
 TriesText over log path name bytes own before now =
-    (made : History) × (put : History) × (known : Option Stamp) × MakesFileAt path before made
-    × WritesBeside log path name bytes own made put × WritesInPlace over log name bytes known put now
+    (made : History) × (put : History) × MakesFileAt path before made × WritesBeside log path name bytes own made put
+    × WritesInPlace over log name bytes own put now
 
 -- a text beside a log is this port's own if it is dated by that log; or what it was stays
 abbrev pub IsOwnBeside : {A : Type 0} → Option ℕ → List ℕ → Stamp → Option Stamp → Option Stamp → History → A → Type 0

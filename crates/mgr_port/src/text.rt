@@ -132,6 +132,7 @@ impl<T: Drop> Text<T> {
             bytes.now self.old.own (F.steps folder.old) (F.steps folder.new) }
     {
         self.replaced = None;
+        let own = self.own;
         let path = paths.text.as_str();
         let is_there = is_there(folder, path)?;
         let next = make_next(folder, paths, is_there)?;
@@ -141,6 +142,7 @@ impl<T: Drop> Text<T> {
         match self.put_beside(folder, paths, next, bytes, log) {
             // A file that is mounted by itself does not give up its name.
             Err(error) if error.kind() == ErrorKind::ResourceBusy => {
+                self.own = own;
                 self.put_in_place(folder, path, bytes, log)
             }
             answer => answer,
