@@ -9,7 +9,7 @@ use Rattle.mgr_port.specs.Locks.{IsTaken, OpensLocked}
 use Rattle.mgr_port.specs.Notes.{IsLeftAt, LeavesLog, LoadsLog, MakesLog, MakesRoom, MakesRoomIf, NamesLog, PutsLog, ReadsLog, TakesRights, old_for}
 use Rattle.mgr_port.specs.Spares.{ChangesOnlyAt, MakesFileAt, PutsOnlyAt, WaitsBeside}
 use Rattle.mgr_port.specs.Staging.{DoesAll, IsSettled}
-use Rattle.mgr_port.specs.Texts.{LeavesNextText, MakesNextText, NamesText, PutsBeside, PutsInPlace, PutsText, TriesText, WritesBeside, WritesInPlace}
+use Rattle.mgr_port.specs.Texts.{IsOwnBeside, LeavesNextText, MakesNextText, NamesText, PutsBeside, PutsInPlace, PutsText, TriesText, WritesBeside, WritesInPlace}
 use Rattle.mgr_port.specs.declared.log.LeftLog.{LeftLog}
 use Rattle.mgr_port.specs.declared.names.Paths.{Paths}
 use Rattle.mgr_port.specs.declared.spare.Look.{Look}
@@ -126,6 +126,14 @@ pub loaded_there : {B : Type 0} (o : Option (List ℕ)) (l : Option B) (file_of 
     → IfSome o (λ bytes. IsSomeAnd l (λ log. LoadsLog (file_of log) (string_bytes q.log) (string_bytes q.next_log) bytes (left_of log) now))
 loaded_there o l file_of left_of p q now is read =
     subst (λ (r : Paths). IfSome o (λ bytes. IsSomeAnd l (λ log. LoadsLog (file_of log) (string_bytes r.log) (string_bytes r.next_log) bytes (left_of log) now))) is read
+
+-- and the text beside it is this port's own by the same
+pub owned_there : {B : Type 0} (o : Option (List ℕ)) (l : Option B) (left_of : B → LeftLog) (file : Option ℕ) (p q : Paths) (own known now_own : Option Stamp) (now : History) → p ≡ q → own ≡ known
+    → IfSome o (λ bytes. IsSomeAnd l (λ log. IsOwnBeside file (string_bytes p.text) (left_of log).stamp own now_own now bytes))
+    → IfSome o (λ bytes. IsSomeAnd l (λ log. IsOwnBeside file (string_bytes q.text) (left_of log).stamp known now_own now bytes))
+owned_there o l left_of file p q own known now_own now is same owned =
+    subst (λ (r : Paths). IfSome o (λ bytes. IsSomeAnd l (λ log. IsOwnBeside file (string_bytes r.text) (left_of log).stamp known now_own now bytes))) is
+    (subst (λ (k : Option Stamp). IfSome o (λ bytes. IsSomeAnd l (λ log. IsOwnBeside file (string_bytes p.text) (left_of log).stamp k now_own now bytes))) same owned)
 
 -- ---- a text
 

@@ -3,7 +3,7 @@ use Rattle.std.specs.Prelude.{◌≡◌, ◌≢◌, ◌⊎◌, ℕ, List, Bool, 
 use Rattle.mgr_port.specs.Disk.{steps_to, whole_steps}
 use Rattle.mgr_port.specs.Folder.{History, Adds, Follows, GivesTo, IsIdle, IsQuiet, Locks, Looks, LooksAt, Opens, Overwrites, SetsMode, after}
 use Rattle.mgr_port.specs.Growth.{AddsFront}
-use Rattle.mgr_port.specs.Locks.{MakesBeside, OpensLocked}
+use Rattle.mgr_port.specs.Locks.{IsOwnRead, MakesBeside, OpensLocked}
 use Rattle.mgr_port.specs.Spares.{MakesFileAt, PutsOnlyAt, SparesText, WaitsBeside}
 use Rattle.mgr_port.specs.Staging.{DoesAll, MayDate, SyncsDated}
 use Rattle.mgr_port.specs.Verdicts.{IsDatedBy, mode_like}
@@ -130,6 +130,11 @@ abbrev pub TriesText : ℕ → Option ℕ → List ℕ → List ℕ → List ℕ
 TriesText over log path name bytes own before now =
     (made : History) × (put : History) × MakesFileAt path before made × WritesBeside log path name bytes own made put
     × WritesInPlace over log name bytes own put now
+
+-- a text without a log is this port's own if its bytes were read
+abbrev pub IsOwnAlone : Option ℕ → Option Stamp → List ℕ → Option (List ℕ) → History → Type 0
+IsOwnAlone text own path None now = own ≡ None
+IsOwnAlone text own path (Some bytes) now = IsOwnRead text own path bytes now
 
 -- a text beside a log is this port's own if it is dated by that log; or what it was stays
 abbrev pub IsOwnBeside : {A : Type 0} → Option ℕ → List ℕ → Stamp → Option Stamp → Option Stamp → History → A → Type 0

@@ -8,7 +8,7 @@ ghost use Rattle.mgr_port.specs.Locks.{HoldsInItsPlace, IsTaken, LocksNote};
 ghost use Rattle.mgr_port.specs.Notes.{KeepsPlace, Leaves, LeavesLog, LoadsLog, MakesLog, MakesRoomIf, MayRemoveIf, NamesLog};
 ghost use Rattle.mgr_port.specs.Notes.{ReadsLog, TakesRights, closed, old_for};
 ghost use Rattle.mgr_port.specs.Spares.{ChangesOnlyAt, IsOfFile, PutsLogOnly, PutsOnlyAt, SetsRights, WaitsBeside};
-ghost use Rattle.mgr_port.specs.Texts.{PutsText, TriesText};
+ghost use Rattle.mgr_port.specs.Texts.{IsOwnAlone, IsOwnBeside, PutsText, TriesText};
 ghost use Rattle.mgr_port.specs.declared.spare.Look.{Look};
 
 use crate::files::{OWN, take_mode};
@@ -62,8 +62,16 @@ impl<T: Drop> Note<T> {
             (string_bytes self.old.paths.log) (F.steps folder.new))) }
         ensures only { ChangesOnlyAt (string_bytes self.old.paths.next_log)
             (F.steps folder.old) (F.steps folder.new) }
+        ensures beside { IfOk result (λ found. IfSome found.log (λ bytes. IsSomeAnd self.new.log
+            (λ log. IsOwnBeside (option_map F.file_of self.new.text.file)
+            (string_bytes self.old.paths.text) log.left.stamp None self.new.text.own
+            (F.steps folder.new) bytes))) }
+        ensures alone { IfOk result (λ found. found.log ≡ None
+            → IsOwnAlone (option_map F.file_of self.new.text.file) self.new.text.own
+            (string_bytes self.old.paths.text) found.text (F.steps folder.new)) }
         ensures log { OnErr result (self.new.log ≡ None) }
         ensures next { OnErr result (self.new.next ≡ None) }
+        ensures own { OnErr result (self.new.text.own ≡ None) }
     {
         self.close();
         match self.try_load(folder) {
@@ -100,6 +108,13 @@ impl<T: Drop> Note<T> {
             (string_bytes self.old.paths.log) (F.steps folder.new))) }
         ensures only { ChangesOnlyAt (string_bytes self.old.paths.next_log)
             (F.steps folder.old) (F.steps folder.new) }
+        ensures beside { IfOk result (λ found. IfSome found.log (λ bytes. IsSomeAnd self.new.log
+            (λ log. IsOwnBeside (option_map F.file_of self.new.text.file)
+            (string_bytes self.old.paths.text) log.left.stamp self.old.text.own
+            self.new.text.own (F.steps folder.new) bytes))) }
+        ensures alone { IfOk result (λ found. found.log ≡ None
+            → IsOwnAlone (option_map F.file_of self.new.text.file) self.new.text.own
+            (string_bytes self.old.paths.text) found.text (F.steps folder.new)) }
         ensures paths { self.new.paths ≡ self.old.paths }
     {
         let (log, next) = lock_log(folder, &self.paths)?;

@@ -2,9 +2,8 @@
 ghost use Rattle.std.specs.Option.{option_map};
 ghost use Rattle.std.specs.Prelude.{◌≡◌, ◌≤◌, ℕ, None, Some, IfOk, IfSome, OnErr, OnOk, string_bytes};
 ghost use Rattle.mgr_port.specs.Folder.{IsQuiet};
-ghost use Rattle.mgr_port.specs.Locks.{IsOwnRead};
 ghost use Rattle.mgr_port.specs.Spares.{MakesFileAt, PutsOnlyAt, WaitsBeside};
-ghost use Rattle.mgr_port.specs.Texts.{IsOwnBeside, IsThere, LeavesNextText, MakesLike, MakesNextText, NamesText};
+ghost use Rattle.mgr_port.specs.Texts.{IsOwnAlone, IsOwnBeside, IsThere, LeavesNextText, MakesLike, MakesNextText, NamesText};
 ghost use Rattle.mgr_port.specs.Texts.{PutsBeside, PutsInPlace, PutsText, TriesText, WritesInPlace};
 
 use crate::files::{plain_if_there, take_owner};
@@ -55,9 +54,8 @@ impl<T: Drop> Text<T> {
         folder: &mut F,
         path: &str,
     ) -> io::Result<Option<Vec<u8>>>
-        ensures read { IfOk result (λ o. IfSome o (λ bytes.
-            IsOwnRead (option_map F.file_of self.new.file) self.new.own path.now bytes.items
-            (F.steps folder.new))) }
+        ensures read { IfOk result (λ o. IsOwnAlone (option_map F.file_of self.new.file)
+            self.new.own path.now (option_map (λ bytes. bytes.items) o) (F.steps folder.new)) }
         ensures quiet { IsQuiet (F.steps folder.old) (F.steps folder.new) }
     {
         self.file = open_again(folder, path, false)?;

@@ -21,3 +21,6 @@ returns-in_err-text-2-clause-only g c =
 pub returns-clause-only : goal.returns-clause-only
 returns-clause-only g c =
     at_chain _ _ _ _ (at_chain _ _ _ _ c.in_ok-log.ensures.only (at_path _ _ _ _ c.as_str-2.ensures.value c.in_ok-log-2.ensures.only)) (at_quiet _ _ _ c.take_beside.ensures.quiet)
+
+pub returns-clause-beside : goal.returns-clause-beside
+returns-clause-beside g c = rw c.as_str-3.ensures.value at c.in_ok-text-2.ensures.own
