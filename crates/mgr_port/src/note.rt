@@ -72,6 +72,7 @@ impl<T: Drop> Note<T> {
         ensures log { OnErr result (self.new.log ≡ None) }
         ensures next { OnErr result (self.new.next ≡ None) }
         ensures own { OnErr result (self.new.text.own ≡ None) }
+        ensures paths { self.new.paths ≡ self.old.paths }
     {
         self.close();
         match self.try_load(folder) {
@@ -159,6 +160,9 @@ impl<T: Drop> Note<T> {
             (after (Follows (string_bytes self.old.paths.log) None) (F.steps folder.old))
             (F.steps folder.new)) }
         ensures only { PutsLogOnly self.old.paths (F.steps folder.old) (F.steps folder.new) }
+        ensures same { IfSome self.old.log (λ _. OnErr result (self.new.log ≡ self.old.log)) }
+        ensures paths { self.new.paths ≡ self.old.paths }
+        ensures text { self.new.text ≡ self.old.text }
     {
         let path = self.paths.log.as_str();
         if let Some(log) = &mut self.log {
@@ -190,6 +194,8 @@ impl<T: Drop> Note<T> {
             (after (Follows (string_bytes self.old.paths.log) standing) (F.steps folder.old))
             (F.steps folder.new))) }
         ensures only { PutsLogOnly self.old.paths (F.steps folder.old) (F.steps folder.new) }
+        ensures paths { self.new.paths ≡ self.old.paths }
+        ensures text { self.new.text ≡ self.old.text }
     {
         let standing = folder.follow(self.paths.log.as_str())?.found;
         self.make_log(folder, lines, standing)
@@ -214,6 +220,8 @@ impl<T: Drop> Note<T> {
             (string_bytes self.old.paths.log) (string_bytes self.old.paths.text) standing
             lines.now (F.steps folder.old) (F.steps folder.new)) }
         ensures only { PutsLogOnly self.old.paths (F.steps folder.old) (F.steps folder.new) }
+        ensures paths { self.new.paths ≡ self.old.paths }
+        ensures text { self.new.text ≡ self.old.text }
     {
         self.make_room(folder)?;
         let path = self.paths.next_log.as_str();
@@ -261,6 +269,9 @@ impl<T: Drop> Note<T> {
             (option_map (λ log. F.file_of log.file) self.old.log)
             (string_bytes self.old.paths.next_text) (string_bytes self.old.paths.text)
             bytes.now self.old.text.own (F.steps folder.old) (F.steps folder.new) }
+        ensures log { self.new.log ≡ self.old.log }
+        ensures next { self.new.next ≡ self.old.next }
+        ensures paths { self.new.paths ≡ self.old.paths }
     {
         self.text
             .put(folder, &self.paths, bytes, file_of(&self.log))

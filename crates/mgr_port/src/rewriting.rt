@@ -82,6 +82,7 @@ impl<T: Drop> OpenLog<T> {
     ) -> io::Result<()>
         ensures refused { self.new.refused ≡ true }
         ensures file { self.new.file ≡ self.old.file }
+        ensures read { self.new.read ≡ self.old.read }
         ensures kept { OnOk result (KeepsRefused (F.file_of self.old.file) path.now bytes.now
             (F.steps folder.old) (F.steps folder.new)) }
         ensures only { (file : ℕ)
