@@ -9,7 +9,7 @@ use Rattle.mgr_port.specs.Locks.{IsTaken, OpensLocked}
 use Rattle.mgr_port.specs.Notes.{IsLeftAt, LeavesLog, LoadsLog, MakesLog, MakesRoom, MakesRoomIf, NamesLog, PutsLog, ReadsLog, TakesRights, old_for}
 use Rattle.mgr_port.specs.Spares.{ChangesOnlyAt, MakesFileAt, PutsOnlyAt, WaitsBeside}
 use Rattle.mgr_port.specs.Staging.{DoesAll, IsSettled}
-use Rattle.mgr_port.specs.Texts.{IsOwnBeside, LeavesNextText, MakesNextText, NamesText, PutsBeside, PutsInPlace, PutsText, TriesText, WritesBeside, WritesInPlace}
+use Rattle.mgr_port.specs.Texts.{IsOwnBeside, KeepsOwn, LeavesNextText, MakesNextText, NamesText, PutsBeside, PutsInPlace, PutsText, TriesText, WritesBeside, WritesInPlace}
 use Rattle.mgr_port.specs.declared.log.LeftLog.{LeftLog}
 use Rattle.mgr_port.specs.declared.names.Paths.{Paths}
 use Rattle.mgr_port.specs.declared.spare.Look.{Look}
@@ -168,3 +168,8 @@ tried_in_place log path name spelled bytes own before made put now same makes be
 pub tried_beside_log : (log known : Option ℕ) (path name bytes : List ℕ) (own : Option Stamp) (before now : History) → log ≡ known → (over : ℕ) × TriesText over log path name bytes own before now
     → (over : ℕ) × TriesText over known path name bytes own before now
 tried_beside_log log known path name bytes own before now is (over, tries) = (over, subst (λ l. TriesText over l path name bytes own before now) is tries)
+
+pub kept_beside_log : {A E : Type 0} (r : Result A E) (log known : Option ℕ) (path name bytes : List ℕ) (own now_own : Option Stamp) (now : History) → log ≡ known
+    → OnErr r ((file : ℕ) × KeepsOwn file log path name bytes own now_own now) → OnErr r ((file : ℕ) × KeepsOwn file known path name bytes own now_own now)
+kept_beside_log (Ok x) log known path name bytes own now_own now is kept = tt
+kept_beside_log (Err e) log known path name bytes own now_own now is (file, kept) = (file, subst (λ l. KeepsOwn file l path name bytes own now_own now) is kept)

@@ -131,6 +131,12 @@ TriesText over log path name bytes own before now =
     (made : History) × (put : History) × MakesFileAt path before made × WritesBeside log path name bytes own made put
     × WritesInPlace over log name bytes own put now
 
+-- What is this port's own stays so; or it is the new file, which has the name with all of its bytes.
+abbrev pub KeepsOwn : ℕ → Option ℕ → List ℕ → List ℕ → List ℕ → Option Stamp → Option Stamp → History → Type 0
+KeepsOwn file log path name bytes own now_own now =
+    (now_own ≡ own) ⊎ ((named : Named) × (before : History) × (put : History) × (look : Look)
+    × NamesText file log path name bytes own before put named × (now ≡ after (LooksAt file look) put) × (now_own ≡ Some look.stamp))
+
 -- a text without a log is this port's own if its bytes were read
 abbrev pub IsOwnAlone : Option ℕ → Option Stamp → List ℕ → Option (List ℕ) → History → Type 0
 IsOwnAlone text own path None now = own ≡ None

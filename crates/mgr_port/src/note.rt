@@ -8,7 +8,7 @@ ghost use Rattle.mgr_port.specs.Locks.{HoldsInItsPlace, IsTaken, LocksNote};
 ghost use Rattle.mgr_port.specs.Notes.{KeepsPlace, Leaves, LeavesLog, LoadsLog, MakesLog, MakesRoomIf, MayRemoveIf, NamesLog};
 ghost use Rattle.mgr_port.specs.Notes.{ReadsLog, TakesRights, closed, old_for};
 ghost use Rattle.mgr_port.specs.Spares.{ChangesOnlyAt, IsOfFile, PutsLogOnly, PutsOnlyAt, SetsRights, WaitsBeside};
-ghost use Rattle.mgr_port.specs.Texts.{IsOwnAlone, IsOwnBeside, PutsText, TriesText};
+ghost use Rattle.mgr_port.specs.Texts.{IsOwnAlone, IsOwnBeside, KeepsOwn, PutsText, TriesText};
 ghost use Rattle.mgr_port.specs.declared.spare.Look.{Look};
 
 use crate::files::{OWN, take_mode};
@@ -269,6 +269,10 @@ impl<T: Drop> Note<T> {
             (option_map (λ log. F.file_of log.file) self.old.log)
             (string_bytes self.old.paths.next_text) (string_bytes self.old.paths.text)
             bytes.now self.old.text.own (F.steps folder.old) (F.steps folder.new) }
+        ensures own { OnErr result ((file : ℕ) × KeepsOwn file
+            (option_map (λ log. F.file_of log.file) self.old.log)
+            (string_bytes self.old.paths.next_text) (string_bytes self.old.paths.text)
+            bytes.now self.old.text.own self.new.text.own (F.steps folder.new)) }
         ensures log { self.new.log ≡ self.old.log }
         ensures next { self.new.next ≡ self.old.next }
         ensures paths { self.new.paths ≡ self.old.paths }

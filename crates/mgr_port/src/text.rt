@@ -3,7 +3,7 @@ ghost use Rattle.std.specs.Option.{option_map};
 ghost use Rattle.std.specs.Prelude.{◌≡◌, ◌≤◌, ℕ, None, Some, IfOk, IfSome, OnErr, OnOk, string_bytes};
 ghost use Rattle.mgr_port.specs.Folder.{IsQuiet};
 ghost use Rattle.mgr_port.specs.Spares.{MakesFileAt, PutsOnlyAt, WaitsBeside};
-ghost use Rattle.mgr_port.specs.Texts.{IsOwnAlone, IsOwnBeside, IsThere, LeavesNextText, MakesLike, MakesNextText, NamesText};
+ghost use Rattle.mgr_port.specs.Texts.{IsOwnAlone, IsOwnBeside, IsThere, KeepsOwn, LeavesNextText, MakesLike, MakesNextText, NamesText};
 ghost use Rattle.mgr_port.specs.Texts.{PutsBeside, PutsInPlace, PutsText, TriesText, WritesInPlace};
 
 use crate::files::{plain_if_there, take_owner};
@@ -128,6 +128,10 @@ impl<T: Drop> Text<T> {
             (option_map (λ l. F.file_of l.now) log.entry)
             (string_bytes paths.now.next_text) (string_bytes paths.now.text)
             bytes.now self.old.own (F.steps folder.old) (F.steps folder.new) }
+        ensures own { OnErr result ((file : ℕ) × KeepsOwn file
+            (option_map (λ l. F.file_of l.now) log.entry)
+            (string_bytes paths.now.next_text) (string_bytes paths.now.text)
+            bytes.now self.old.own self.new.own (F.steps folder.new)) }
     {
         self.replaced = None;
         let own = self.own;
@@ -168,6 +172,10 @@ impl<T: Drop> Text<T> {
             (F.steps folder.old) (F.steps folder.new) }
         ensures only { PutsOnlyAt (F.file_of next) (string_bytes paths.now.next_text)
             (string_bytes paths.now.text) (F.steps folder.old) (F.steps folder.new) }
+        ensures own { OnErr result (KeepsOwn (F.file_of next)
+            (option_map (λ l. F.file_of l.now) log.entry) (string_bytes paths.now.next_text)
+            (string_bytes paths.now.text) bytes.now self.old.own self.new.own
+            (F.steps folder.new)) }
     {
         let answer = name_next(folder, paths, &next, self.own, bytes, log);
         let named = match answer {
@@ -197,6 +205,7 @@ impl<T: Drop> Text<T> {
         ensures only { (over : ℕ) × WritesInPlace over
             (option_map (λ l. F.file_of l.now) log.entry) path.now bytes.now self.old.own
             (F.steps folder.old) (F.steps folder.new) }
+        ensures own { OnErr result (self.new.own ≡ self.old.own) }
     {
         let spare = spare_text(folder, path, self.own, bytes, Keeping::ByCopy)?;
         let file = folder.overwrite(spare)?;

@@ -58,3 +58,6 @@ returns-in_default-put_beside-2-clause-only g c = (
     inl (only_none _ _ refl),
   ),
 )
+
+pub returns-in_default-put_beside-clause-own : goal.returns-in_default-put_beside-clause-own
+returns-in_default-put_beside-clause-own g c = (_, c.in-Err.ensures.own)
