@@ -4,5 +4,6 @@ pub mod OneSummary
 pub mod TellingLaws
 pub mod LineLaws
 pub mod HearingLaws
+pub mod CountLaws
 pub mod HeardLaws
 pub mod ReceivedLaws

@@ -1,5 +1,5 @@
 -- What a claim says and how it is spelled, and a summary that is heard as it was told.
-use Rattle.rga_brief.proofs.Prelude.{◌≡◌, ℕ, ◌+◌, ◌*◌, ◌/◌, ◌%◌, ◌^◌, ◌<◌, ◌≤◌, cond, lt-ltb, List, [], ◌∷◌, length, refl, ap, ◌∙◌, arith, lit<, ◌≢◌, Bool, true, false, not, ◌&&◌, ◌==◌, ◌++◌, codes, decimal, sym, true≢false, map, subst, append_assoc, append-nil, lit≤, Option, Some, None, Result, Ok, Err, IfOk, OnOk, Vec, option_and_then, depth, Data, max_depth, read, of_json, Block, Claim, digest_of, with_digests, claim_with, claim_of, claim_data, IsInRange, IsDigest, pair_text, part_text, claim_in, digest_data, pair_data, All, list_all, AllByRecursion, AllPass-from_list_all, has_float, compact_text, outline, IsUtf8, is_utf8, eq-eqb, length-append, All-nil, All-cons, IsUtf8-append, is_utf8-from_IsUtf8, Content, Calls, Writes, WritesFront, HasNoNewline, lines_of, rest_of, MAX_LINE, IsUtf8-decimal, read_tokens, end_back, cut_again, ReceiveFault, Summary, IsSummary, claims_of, summary_from, claim_line_at, end_said, IsTold, TellsSummary, claim_lines, summary_text, after_claim_line, lines_heard, summary_heard, One, Last}
+use Rattle.rga_brief.proofs.Prelude.{◌≡◌, ℕ, ◌+◌, ◌*◌, ◌/◌, ◌%◌, ◌^◌, ◌<◌, ◌≤◌, cond, lt-ltb, List, [], ◌∷◌, length, refl, ap, ◌∙◌, arith, lit<, ◌≢◌, Bool, true, false, not, ◌&&◌, ◌==◌, ◌++◌, codes, decimal, sym, true≢false, map, subst, append_assoc, append-nil, lit≤, Option, Some, None, Result, Ok, Err, IfOk, OnOk, Vec, option_and_then, depth, Data, max_depth, read, of_json, Block, Claim, digest_of, with_digests, claim_with, claim_of, claim_data, IsInRange, IsDigest, pair_text, part_text, claim_in, digest_data, pair_data, All, list_all, AllByRecursion, AllPass-from_list_all, has_float, compact_text, outline, IsUtf8, is_utf8, eq-eqb, length-append, All-nil, All-cons, IsUtf8-append, is_utf8-from_IsUtf8, Content, Calls, Writes, WritesFront, HasNoNewline, lines_of, rest_of, MAX_LINE, IsUtf8-decimal, read_tokens, end_back, cut_again, ReceiveFault, Summary, IsSummary, claims_of, summary_from, claim_line_at, end_said, IsTold, TellsSummary, claim_lines, summary_text, after_claim_line, lines_heard, summary_heard, One, Last, known_count}
 use Rattle.std.proofs.Math.Nat.{div-lt_iff_lt-mul, div-le_self, mod-le}
 use Rattle.rga_brief.specs.Claims.{block_of, claim_line}
 use Rattle.std.proofs.lemmas.Bool.Decides.{nat_tests}
@@ -16,7 +16,10 @@ use Rattle.serde_json.proofs.Texts.{print-outline}
 use Rattle.rga_lines.specs.Spelling.{end_line}
 use Rattle.rga_lines.proofs.NewlineLemmas.{end_has_none}
 use Rattle.rga_lines.proofs.SpellingLemmas.{end_data, compact_end}
-use Rattle.rga_exchange.specs.declared.fault.ReceiveFault.TheVariants.{Count}
+use Rattle.rga_exchange.specs.declared.fault.ReceiveFault.TheVariants.{Count, Refused}
+use Rattle.rga_ops.specs.declared.refusal.Refusal.TheVariants.{Full}
+use Rattle.rga_brief.proofs.CountLaws.{few_claims}
+use Rattle.std.proofs.Math.Nat.{le_trans}
 use Rattle.rga_brief.proofs.OneSummary.{one_summary, comes_back}
 use Rattle.rga_brief.proofs.LineLaws.{said}
 use Rattle.json.specs.Tree as tree
@@ -236,25 +239,34 @@ end_at n h =
 
 -- ---- all that is told
 
-claims_heard : (before claims : List Claim) (lines : List (List ℕ)) (rest : List ℕ) → AllByRecursion IsInRange claims → lines_heard before (map claim_line claims ++ lines) rest ≡ lines_heard (before ++ claims) lines rest
-claims_heard before [] lines rest h = ap (λ (cs : List Claim). lines_heard cs lines rest) (sym (append-nil before))
-claims_heard before (claim ∷ claims) lines rest h =
+abbrev failed : ReceiveFault → Result Summary ReceiveFault
+failed e = Err e
+
+-- a further claim has room
+pub has_room : (most : ℕ) (before : List Claim) (claim : Claim) (claims : List Claim) → length (before ++ claim ∷ claims) ≤ most → length before < most
+has_room most before claim claims h = omega (arith, length-append before (claim ∷ claims), h)
+
+claims_heard : (before claims : List Claim) (lines : List (List ℕ)) (rest : List ℕ) → AllByRecursion IsInRange claims → length (before ++ claims) ≤ 1000000 → lines_heard before (map claim_line claims ++ lines) rest ≡ lines_heard (before ++ claims) lines rest
+claims_heard before [] lines rest h few = ap (λ (cs : List Claim). lines_heard cs lines rest) (sym (append-nil before))
+claims_heard before (claim ∷ claims) lines rest h few =
     ap (λ r. after_claim_line before r (λ more. lines_heard more (map claim_line claims ++ lines) rest)) (claim_at claim h.0)
-    ∙ claims_heard (before ++ claim ∷ []) claims lines rest h.1
+    ∙ ap (λ b. cond b (lines_heard (before ++ claim ∷ []) (map claim_line claims ++ lines) rest) (failed (Refused (length before + 1) Full))) (lt-ltb (length before) 1000000 (has_room 1000000 before claim claims few))
+    ∙ claims_heard (before ++ claim ∷ []) claims lines rest h.1 (subst (λ (cs : List Claim). length cs ≤ 1000000) (sym (append_assoc before (claim ∷ []) claims)) few)
     ∙ ap (λ (cs : List Claim). lines_heard cs lines rest) (append_assoc before (claim ∷ []) claims)
 
 no_newline : (claims : List Claim) (n : ℕ) → AllByRecursion IsInRange claims → n < 2 ^ 64 → All HasNoNewline (map claim_line claims ++ end_line n ∷ [])
 no_newline [] n h few = All-cons HasNoNewline (end_line n) [] (end_has_none n few) (All-nil HasNoNewline)
 no_newline (claim ∷ claims) n h few = All-cons HasNoNewline (claim_line claim) (map claim_line claims ++ end_line n ∷ []) (one_line claim h.0) (no_newline claims n h.1 few)
 
-abbrev failed : ReceiveFault → Result Summary ReceiveFault
-failed e = Err e
+-- so many are numbers of the types
+within_types : (n : ℕ) → n ≤ 1000000 → n < 2 ^ 64
+within_types n h = omega (arith, h)
 
-pub told_is_heard : (c : Content) (s : Summary) → IsSummary c s → AllByRecursion IsInRange (claims_of s) → length (claims_of s) < 2 ^ 64 → summary_heard (summary_text s) ≡ Ok s
-told_is_heard c s is range few =
+pub told_is_heard : (c : Content) (s : Summary) → IsSummary c s → AllByRecursion IsInRange (claims_of s) → known_count c ≤ 1000000 → summary_heard (summary_text s) ≡ Ok s
+told_is_heard c s is range known =
     (λ k. lines_heard [] (sym cut.0 k) (sym cut.1 k))
-    ∙ claims_heard [] claims (end_line n ∷ []) [] range
-    ∙ ap (λ r. after_claim_line claims r (λ more. lines_heard more [] [])) (end_at n few)
+    ∙ claims_heard [] claims (end_line n ∷ []) [] range few
+    ∙ ap (λ r. after_claim_line claims r (λ more. lines_heard more [] [])) (end_at n (within_types n few))
     ∙ ap (λ b. cond b (Ok (summary_from claims)) (failed Count)) (eq-eqb n n refl)
     ∙ ap Ok (comes_back c s is)
   where
@@ -264,14 +276,17 @@ told_is_heard c s is range few =
     n : ℕ
     n = length (claims_of s)
 
+    few : length (claims_of s) ≤ 1000000
+    few = le_trans (few_claims c s is) known
+
     cut : (claim_lines (claims_of s) ≡ lines_of (summary_text s)) × ([] ≡ rest_of (summary_text s))
-    cut = cut_again (claim_lines (claims_of s)) (no_newline (claims_of s) (length (claims_of s)) range few)
+    cut = cut_again (claim_lines (claims_of s)) (no_newline (claims_of s) (length (claims_of s)) range (within_types (length (claims_of s)) few))
 
 -- ---- what is written of them
 
-pub lines_told : {A E : Type 0} (r : Result (Vec ℕ A) E) (c : Content) (s : Summary) → IsSummary c s → IfOk r (λ lines. lines.items ≡ summary_text s) → OnOk r (AllByRecursion IsInRange (claims_of s)) → OnOk r (length (claims_of s) < 2 ^ 64) → IfOk r (λ lines. IsTold lines.items c)
-lines_told (Err e) c s is same range few = tt
-lines_told (Ok lines) c s is same range few = record { own = s; is = is; text = same; heard = told_is_heard c s is range few }
+pub lines_told : {A E : Type 0} (r : Result (Vec ℕ A) E) (c : Content) (s : Summary) → IsSummary c s → IfOk r (λ lines. lines.items ≡ summary_text s) → OnOk r (AllByRecursion IsInRange (claims_of s)) → known_count c ≤ 1000000 → IfOk r (λ lines. IsTold lines.items c)
+lines_told (Err e) c s is same range known = tt
+lines_told (Ok lines) c s is same range known = record { own = s; is = is; text = same; heard = told_is_heard c s is range known }
 
 module _ {W : Type 0} (contents : W → Option (List ℕ)) (a b : Calls W) (text : List ℕ) (c : Content) (told : IsTold text c) where
   -- a beginning of what is told of the one summary of a content

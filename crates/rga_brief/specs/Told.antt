@@ -9,6 +9,7 @@ use Rattle.rga_lines.specs.declared.fault.LineFault.{LineFault}
 use Rattle.rga_lines.specs.declared.fault.LineFault.TheVariants as line_fault
 use Rattle.rga_exchange.specs.declared.fault.ReceiveFault.{ReceiveFault}
 use Rattle.rga_exchange.specs.declared.fault.ReceiveFault.TheVariants as fault
+use Rattle.rga_ops.specs.declared.refusal.Refusal.TheVariants.{Full}
 use Rattle.rga_brief.specs.Summary.{Summary, IsSummary}
 use Rattle.rga_brief.specs.Claims.{claim_line}
 use Rattle.rga_brief.specs.Summaries.{claims_of, summary_from}
@@ -33,9 +34,11 @@ summary_text s = bytes_of_lines (claim_lines (claims_of s))
 abbrev pub ended : List Claim → ℕ → Result Summary ReceiveFault
 ended claims number = if number == length claims then Ok (summary_from claims) else Err fault.Count
 
--- behind these claims, what comes of a line, and then of the lines behind it
+-- Behind these claims, what comes of a line, and then of the lines behind it. A content knows at most 1,000,000 identifiers,
+-- and has something in no more blocks: one claim more is refused.
 abbrev pub after_claim_line : List Claim → Result ClaimLine LineFault → (List Claim → Result Summary ReceiveFault) → Result Summary ReceiveFault
-after_claim_line claims (Ok (One claim)) behind = behind (claims ++ claim ∷ [])
+after_claim_line claims (Ok (One claim)) behind =
+    if nat_lt (length claims) 1000000 then behind (claims ++ claim ∷ []) else Err (fault.Refused (length claims + 1) Full)
 after_claim_line claims (Ok (Last number)) behind = ended claims number
 after_claim_line claims (Err e) behind = Err (fault.Line (length claims + 1) e)
 
@@ -64,22 +67,25 @@ SayClaims lines claims = map claim_line_at lines ≡ map (λ claim. Ok (One clai
 
 -- What is answered where these claims were read, and these lines and this rest stand behind them: a summary by an end line
 -- that counts the claims; `Count` by one that does not; `Line` with the fault of a line that is neither a claim nor the end,
--- or of a rest that is too long; and `Cut` where nothing else stands.
+-- or of a rest that is too long; `Full` by a further claim behind 1,000,000; and `Cut` where nothing else stands.
 abbrev pub StopsAs : List Claim → List (List ℕ) → List ℕ → Result Summary ReceiveFault → Type 0
 StopsAs claims (line ∷ later) rest (Ok s) = (claim_line_at line ≡ Ok (Last (length claims))) × (s ≡ summary_from claims)
 StopsAs claims (line ∷ later) rest (Err fault.Count) = (number : ℕ) × (claim_line_at line ≡ Ok (Last number)) × (number ≢ length claims)
 StopsAs claims (line ∷ later) rest (Err (fault.Line n e)) = (claim_line_at line ≡ Err e) × (n ≡ length claims + 1)
+StopsAs claims (line ∷ later) rest (Err (fault.Refused n Full)) =
+    (claim : Claim) × (claim_line_at line ≡ Ok (One claim)) × (1000000 ≤ length claims) × (n ≡ length claims + 1)
 StopsAs claims [] rest (Err (fault.Line n e)) = (MAX_LINE < length rest) × (e ≡ line_fault.Long) × (n ≡ length claims + 1)
 StopsAs claims [] rest (Err fault.Cut) = length rest ≤ MAX_LINE
 StopsAs claims lines rest answer = ⊥
 
--- The first lines say claims, and behind them the reading stops so. Behind an end line nothing counts.
+-- The first lines say claims, at most 1,000,000, and behind them the reading stops so. Behind an end line nothing counts.
 pub record IsHeardAs (bytes : List ℕ) (answer : Result Summary ReceiveFault) : Type 0 where
   pub front : List (List ℕ)
   pub later : List (List ℕ)
   pub claims : List Claim
   pub lines : lines_of bytes ≡ front ++ later
   pub say : SayClaims front claims
+  pub few : length claims ≤ 1000000
   pub stops : StopsAs claims later (rest_of bytes) answer
 
 -- ---- what is told of a content

@@ -1,15 +1,16 @@
 //! What a peer knows, heard of it.
-ghost use Rattle.std.specs.Prelude.{◌≡◌, ◌≢◌, ◌+◌, ◌≤◌, ◌++◌, ◌∷◌, ℕ, List, [], length, false, Ok, Err, Some, None, OnOk, IfErr};
+ghost use Rattle.std.specs.Prelude.{◌≡◌, ◌≢◌, ◌<◌, ◌≤◌, ◌++◌, ◌∷◌, ℕ, List, [], length, false, Result, Ok, Err, Some, None, OnOk, IfErr};
 ghost use Rattle.rga_exchange.specs.Counting.{CountsAs, OnBytes};
 ghost use Rattle.rga_lines.specs.Stream.{lines_of};
-ghost use Rattle.rga_lines.specs.declared.fault.LineFault.{LineFault as FaultOfLine};
 ghost use Rattle.rga_lines.specs.declared.line.TheConstants.{MAX_LINE};
-ghost use Rattle.rga_exchange.specs.declared.fault.ReceiveFault.TheVariants.{Read as ReadFailed, Line as FaultyLine};
+ghost use Rattle.rga_exchange.specs.declared.fault.ReceiveFault.{ReceiveFault as Fault};
+ghost use Rattle.rga_exchange.specs.declared.fault.ReceiveFault.TheVariants.{Read as ReadFailed};
 ghost use Rattle.rga_exchange.specs.Memory.{ReceiveMemory as Memory};
 ghost use Rattle.rga_brief.specs.declared.claim.Claim.{Claim as ClaimName};
 ghost use Rattle.rga_brief.specs.Heard.{ReadsToBlock};
 ghost use Rattle.rga_brief.specs.Lines.{claim_line_at};
-ghost use Rattle.rga_brief.specs.Told.{bytes_heard, ended, summary_heard};
+ghost use Rattle.rga_brief.specs.Summary.{Summary as Heard};
+ghost use Rattle.rga_brief.specs.Told.{after_claim_line, bytes_heard, ended, summary_heard};
 ghost use Rattle.rga_brief.specs.declared.claim_line.ClaimLine.TheVariants.{One, Last};
 ghost use Rattle.rga_exchange.specs.Memory.{ReceiveMemory};
 
@@ -19,6 +20,8 @@ use crate::claims::summary_from;
 use crate::summary::Summary;
 use rga_exchange::{BLOCK, Counted, ReceiveFault};
 use rga_lines::{LineFault, Splitter};
+use rga_ops::Refusal;
+use rga_store::MAX_LIMIT;
 use std::alloc::Global;
 use std::io::Read;
 
@@ -26,9 +29,10 @@ use std::io::Read;
 /// follows the one that brought that line, and what stands behind it in that read is dropped.
 ///
 /// Faults, of which the first in the order of the lines is answered, a rest of more than 65536
-/// bytes counting as one: `Line`, if a line is neither a claim nor the end; `Count`, if the end names
+/// bytes counting as one: `Line`, if a line is neither a claim nor the end; `Refused` with `Full`, at
+/// the claim after 1,000,000, which are as many as a content may have; `Count`, if the end names
 /// another number. Then `Cut`, if there is no end. `Read` and `Memory` come where the device fails
-/// and where a growth is refused.
+/// and where a growth is refused. So at most 1,000,001 lines are heard.
 pub fn hear_summary<R: Read>(
     alloc: Global,
     reader: &mut Counted<R>,
@@ -98,23 +102,28 @@ fn take_claim(
     claims: &mut Vec<Claim>,
 ) -> Result<Option<u64>, ReceiveFault>
     ensures claim { result ≡ Ok None → (claim : ClaimName) × (claim_line_at line.now ≡ Ok (One claim))
+        × (length claims.old.items < 1000000)
         × (claims.new.items ≡ claims.old.items ++ claim ∷ []) }
     ensures end { (number : ℕ) → result ≡ Ok (Some number) →
         claim_line_at line.now ≡ Ok (Last number) }
     ensures same { result ≢ Ok None → claims.new.items ≡ claims.old.items }
-    ensures fault { IfErr result (λ e. e ≢ Memory → (fault : FaultOfLine) ×
-        (claim_line_at line.now ≡ Err fault)
-        × (e ≡ FaultyLine (length claims.old.items + 1) fault)) }
+    // Whatever stands behind the line.
+    ensures fault { IfErr result (λ e. e ≢ Memory → (behind : List ClaimName → Result Heard Fault) →
+        after_claim_line claims.old.items (claim_line_at line.now) behind ≡ Err e) }
     ensures device { IfErr result (λ e. e ≢ ReadFailed) }
 {
+    let number = claims.len() as u64 + 1;
     match read_claim_line(alloc, line) {
         Ok(ClaimLine::One(claim)) => {
+            if claims.len() >= MAX_LIMIT {
+                return Err(ReceiveFault::Refused(number, Refusal::Full));
+            }
             claims.push(claim)?;
             Ok(None)
         }
         Ok(ClaimLine::Last(number)) => Ok(Some(number)),
         Err(LineFault::Memory(memory)) => Err(ReceiveFault::Memory(memory)),
-        Err(fault) => Err(ReceiveFault::Line(claims.len() as u64 + 1, fault)),
+        Err(fault) => Err(ReceiveFault::Line(number, fault)),
     }
 }
 

@@ -1,9 +1,9 @@
 //! Theorems about summaries, about claims, about what is told, and about what is sent by it.
 //!
 //! The functions do nothing: their contracts are theorems that the check proves.
-ghost use Rattle.std.specs.Prelude.{◌≡◌, ◌↔◌, ℕ, ◌<◌, ◌^◌, List, Contains, length, Result, Ok};
+ghost use Rattle.std.specs.Prelude.{◌≡◌, ◌↔◌, ℕ, ◌<◌, ◌≤◌, ◌^◌, List, Contains, length, Result, Ok};
 ghost use Rattle.std.specs.List.{AllByRecursion};
-ghost use Rattle.rga_ops.specs.Content.{Content, Agree, Holds, IsWithin, IsSound, join, content_of};
+ghost use Rattle.rga_ops.specs.Content.{Content, Agree, Holds, IsWithin, IsSound, join, content_of, known_count};
 ghost use Rattle.rga_ops.specs.Operations.{operations};
 ghost use Rattle.rga_ops.specs.declared.op.Op.{Op as Operation};
 ghost use Rattle.rga_exchange.specs.Receiving.{exchange_outcome};
@@ -73,11 +73,16 @@ pub fn a_summary_comes_back_from_its_claims()
     ensures { (c : Content) (s : Summary) → IsSummary c s → summary_from (claims_of s) ≡ s }
 {}
 
-/// The summary of a content is heard of what is told of it, if its numbers are those of the types:
-/// it has at most 2^64 - 1 blocks.
+/// The summary of a content is heard of what is told of it, if its numbers are those of the types,
+/// and the content knows no more identifiers than a store may.
 pub fn a_summary_is_heard_as_it_was_told()
     ensures { (c : Content) (s : Summary) → IsSummary c s → AllByRecursion IsInRange (claims_of s)
-        → length (claims_of s) < 2 ^ 64 → summary_heard (summary_text s) ≡ Ok s }
+        → known_count c ≤ 1000000 → summary_heard (summary_text s) ≡ Ok s }
+{}
+
+/// A content's summary has at most as many claims as the content knows identifiers.
+pub fn a_summary_has_few_claims()
+    ensures { (c : Content) (s : Summary) → IsSummary c s → length (claims_of s) ≤ known_count c }
 {}
 
 /// If the summary is that of a replica, and digests tell its blocks and the sender's apart, an

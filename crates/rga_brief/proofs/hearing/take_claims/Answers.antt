@@ -1,4 +1,5 @@
-use Rattle.rga_brief.proofs.Prelude.{◌≡◌, ◌∙◌, ◌+◌, ◌++◌, ℕ, List, Option, Some, None, Result, Ok, Err, drop, refl, sym, ap, Splitting, lines_of, rest_of, splitting_with, GivesLine, passes_line, gives_up, ReceiveFault, Summary, Claim, ended, bytes_heard, One, Last}
+use Rattle.rga_brief.proofs.Prelude.{◌≡◌, ◌∙◌, ◌+◌, ◌++◌, ℕ, List, Option, Some, None, Result, Ok, Err, drop, refl, sym, ap, Splitting, lines_of, rest_of, splitting_with, GivesLine, passes_line, gives_up, ReceiveFault, Summary, Claim, ended, bytes_heard, One, Last, claim_line_at, after_claim_line, ◌<◌, [], ◌∷◌, length, cond, lt-ltb}
+use Rattle.rga_ops.specs.declared.refusal.Refusal.TheVariants.{Full}
 use Rattle.std.proofs.lemmas.Result.{err_from_is_err_and}
 use Rattle.rga_lines.specs.declared.fault.LineFault.TheVariants as line_fault
 use Rattle.rga_exchange.specs.declared.fault.ReceiveFault.TheVariants as fault
@@ -23,10 +24,13 @@ returns-in_err-number-clause-fault c =
     let behind : Splitting = splitting_with (drop (c.in-Ok-Some.end + 1) c.find_line.new.self.waiting) in
     let given : GivesLine c.lines.splitter behind c.line.result.now = passes_line c.lines.splitter c.find_line.new.self behind c.line.result.now c.in-Ok-Some.end c.lines.invariant.whole found.0 found.1 c.line.ensures refl in
     rw (p.1, p.2) (λ not_memory more.
-    let f = c.in_err-number.ensures.fault not_memory in
     c.lines.invariant.same more
-    ∙ next_heard c.lines.splitter behind c.line.result.now c.lines.claims.items (Err f.0) given f.1 more
-    ∙ ap failed (sym f.2))
+    ∙ next_heard c.lines.splitter behind c.line.result.now c.lines.claims.items (claim_line_at c.line.result.now) given refl more
+    ∙ c.in_err-number.ensures.fault not_memory (λ cs. bytes_heard cs (behind.waiting ++ more)))
+
+-- a further claim is heard while there are fewer than may be
+with_room : (claims : List Claim) (claim : Claim) → length claims < 1000000 → (behind : List Claim → Result Summary ReceiveFault) → after_claim_line claims (Ok (One claim)) behind ≡ behind (claims ++ claim ∷ [])
+with_room claims claim few behind = ap (λ b. cond b (behind (claims ++ claim ∷ [])) (failed (fault.Refused (length claims + 1) Full))) (lt-ltb (length claims) 1000000 few)
 
 abbrev at_end : ℕ → Result (Option ℕ) ReceiveFault
 at_end number = Ok (Some number)
@@ -57,5 +61,6 @@ lines-preserved c =
       same = λ more.
           c.lines.invariant.same more
           ∙ next_heard c.lines.splitter c.pass_line.new.self c.line.result.now c.lines.claims.items (Ok (One q.0)) given q.1 more
-          ∙ ap (λ (cs : List Claim). bytes_heard cs (c.pass_line.new.self.waiting ++ more)) (sym q.2);
+          ∙ with_room c.lines.claims.items q.0 q.2 (λ cs. bytes_heard cs (c.pass_line.new.self.waiting ++ more))
+          ∙ ap (λ (cs : List Claim). bytes_heard cs (c.pass_line.new.self.waiting ++ more)) (sym q.3);
     }
