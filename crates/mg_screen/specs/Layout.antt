@@ -82,13 +82,21 @@ shared room (h ∷ g ∷ hs) =
     let n = min h (room - 2 * (length hs + 1) - 1) in
     n ∷ shared (room - (n + 1)) (g ∷ hs)
 
--- the windows that stay on a screen of so many rows: from the top on, as many as have two rows each above the echo line
-abbrev pub staying : {T : Type 0} → ℕ → List (Window T) → List (Window T)
-staying rows ws = take ((rows - 1) / 2) ws
+-- how many windows fit on a screen of so many rows: each has two rows above the echo line
+abbrev pub fitting : ℕ → ℕ
+fitting rows = (rows - 1) / 2
 
--- they share all rows above the echo line
-abbrev pub resized : {T : Type 0} → ℕ → List (Window T) → List (Window T)
-resized rows ws = windows_of (shared (rows - 1) (heights (staying rows ws))) (all_shown (staying rows ws))
+-- how many go from the top, so that the one at an index is among those that fit
+abbrev pub gone_above : ℕ → ℕ → ℕ
+gone_above rows i = i + 1 - fitting rows
+
+-- the windows that stay on a screen of so many rows: as many as fit, the topmost ones, or those down to the one at an index
+abbrev pub staying : {T : Type 0} → ℕ → ℕ → List (Window T) → List (Window T)
+staying rows i ws = take (fitting rows) (drop (gone_above rows i) ws)
+
+-- windows share all rows above the echo line
+abbrev pub sharing : {T : Type 0} → ℕ → List (Window T) → List (Window T)
+sharing rows ws = windows_of (shared (rows - 1) (heights ws)) (all_shown ws)
 
 -- the text rows of the current window
 abbrev pub current_height : {T : Type 0} → Layout T → ℕ
@@ -124,9 +132,9 @@ other_layout l = layout l.windows (if nat_lt (l.current + 1) (length l.windows) 
 abbrev pub shown_layout : {T : Type 0} → ℕ → T → Layout T → Layout T
 shown_layout i s l = layout (shows_at i s l.windows) l.current
 
--- on so many rows: the current window stays current, or else the lowest that stays is
+-- on so many rows: the current window stays, and is current
 abbrev pub resized_layout : {T : Type 0} → ℕ → Layout T → Layout T
-resized_layout rows l = layout (resized rows l.windows) (min l.current (length (staying rows l.windows) - 1))
+resized_layout rows l = layout (sharing rows (staying rows l.current l.windows)) (l.current - gone_above rows l.current)
 
 -- each window has some text rows, one is current, and with the echo line the windows fill so many rows
 pub record FillsRows {T : Type 0} (rows : ℕ) (l : Layout T) : Type 0 where

@@ -1,5 +1,5 @@
 //! Heights of windows, and beside these what the windows show.
-ghost use Rattle.std.specs.Prelude.{◌≡◌, ◌*◌, ◌<◌, ◌≤◌, OnOk, OnErr, length, insert};
+ghost use Rattle.std.specs.Prelude.{◌≡◌, ◌*◌, ◌<◌, ◌≤◌, OnOk, OnErr, length, insert, take, drop};
 ghost use Rattle.mg_screen.specs.Layout as spec;
 
 use std::alloc::AllocError;
@@ -25,6 +25,18 @@ pub(crate) fn insert_both<T: Copy>(
         Ok(()) => Ok(()),
         Err(_) => unreachable!(),
     }
+}
+
+/// So many items stay from an index on, or all from there on.
+#[tactic(auto, using(crate::proofs::ResizeLaws::kept_run))]
+pub(crate) fn keep<T: Copy>(items: &mut Vec<T>, from: usize, most: usize)
+    requires { from ≤ length items.old.items }
+    ensures { items.new.items ≡ take most (drop from items.old.items) }
+{
+    let left = items.as_slice().len() - from;
+    items.rotate_left(from);
+    items.truncate(left);
+    items.truncate(most);
 }
 
 /// Shares so many rows among the windows, of which there is one.

@@ -1,5 +1,5 @@
 //! How the rows of the screen are shared among windows.
-ghost use Rattle.std.specs.Prelude.{◌≡◌, ◌-◌, ◌<◌, ◌≤◌, [], ◌∷◌, Err, length};
+ghost use Rattle.std.specs.Prelude.{◌≡◌, ◌-◌, ◌<◌, ◌≤◌, [], ◌∷◌, Err, length, slice_get};
 ghost use Rattle.std.specs.Prelude.{OnOk, OnErr, IfOk, IfErr, IsOk};
 ghost use Rattle.mg_screen.specs.Size.{least_rows, most_rows};
 ghost use Rattle.mg_screen.specs.Size.{least_split_height};
@@ -7,7 +7,7 @@ ghost use Rattle.mg_screen.specs.declared.windows.WindowFault.TheVariants.{TooSm
 ghost use Rattle.mg_screen.specs.Memory.{WindowMemory as Memory};
 ghost use Rattle.mg_screen.specs.Layout as spec;
 
-use crate::heights::{insert_both, share};
+use crate::heights::{insert_both, keep, share};
 use crate::size::MIN_SPLIT_HEIGHT;
 use rga_ops::OutOfMemory;
 use std::alloc::{AllocError, Global};
@@ -202,21 +202,24 @@ impl<T: Copy> Windows<T> {
         self.shown[index] = shown;
     }
 
-    /// On a screen of so many rows. As many windows stay, from the top on, as have two rows each;
-    /// a window above others keeps its text rows as far as one row is left for each of those, and
-    /// the lowest has what is left. The current window stays current; where it goes, the lowest is.
+    /// On a screen of so many rows. As many windows stay as have two rows each: the topmost ones, or
+    /// those down to the current one, which always stays and is current. A window above others keeps
+    /// its text rows as far as one row is left for each of those, and the lowest has what is left.
     /// Takes no memory.
     pub fn resize(&mut self, rows: usize)
         requires rows_from { least_rows ≤ rows }
         requires rows_to { rows ≤ most_rows }
         ensures exact { self.new ≡ spec.resized_layout rows self.old }
         ensures filled { spec.FillsRows rows self.new }
+        ensures stays { slice_get (spec.all_shown self.new.windows) self.new.current
+            ≡ slice_get (spec.all_shown self.old.windows) self.old.current }
     {
         let most = (rows - 1) / 2;
-        self.heights.truncate(most);
-        self.shown.truncate(most);
+        let gone = (self.current + 1).saturating_sub(most);
+        keep(&mut self.heights, gone, most);
+        keep(&mut self.shown, gone, most);
         share(&mut self.heights, rows - 1);
-        self.current = self.current.min(self.heights.as_slice().len() - 1);
+        self.current -= gone;
         self.rows = rows;
     }
 }

@@ -1,11 +1,11 @@
 -- What is known of windows by what they show.
 use Rattle.std.proofs.Common.{◌≡◌, ℕ, zero, suc, ◌+◌, ◌-◌, ◌/◌, ◌<◌, List, [], ◌∷◌, ◌++◌, length, map, take, drop, get_or, Some, slice_get, slice_set, is_some, Result, Ok, Err, OnOk, OnErr, true≢false, refl, sym, ap, subst, ◌∙◌, arith}
 use Rattle.std.specs.List.{AllByRecursion, remove}
-use Rattle.std.specs.Option.{option_map}
+use Rattle.std.specs.Option.{option_map, unwrap_or}
 use Rattle.std.proofs.lemmas.List.{length-map, length-set}
-use Rattle.std.proofs.lemmas.Option.{same_Some, get_or_from_slice_get, slice_get-get_or, slice_get-map, slice_get_within}
+use Rattle.std.proofs.lemmas.Option.{same_Some, get_or_from_slice_get, unwrap_or-slice_get, slice_get-get_or, slice_get-map, slice_get_within}
 use Rattle.std.proofs.lemmas.List.Edits.{length-remove, map_over_more}
-use Rattle.mg_screen.specs.Layout.{Window, window, Layout, layout, heights, all_shown, shows_at, shown_layout, split_at, remove_at, windows_of, shared, staying, resized_layout}
+use Rattle.mg_screen.specs.Layout.{Window, window, Layout, layout, heights, all_shown, shows_at, shown_layout, split_at, remove_at, windows_of, shared, fitting, gone_above, staying, resized_layout}
 use Rattle.mg_workspace.specs.Buffers.{Buffers, without_buffer}
 use Rattle.mg_workspace.specs.Names.{moved}
 use Rattle.mg_workspace.proofs.Moves.{moved_first, moved_within}
@@ -75,10 +75,17 @@ show_as_tall n [] ws all = tt
 show_as_tall n (h ∷ hs) [] all = tt
 show_as_tall n (h ∷ hs) (w ∷ ws) all = (all.0, show_as_tall n hs ws all.1)
 
-pub show_resized : (n rows : ℕ) (old new : Layout Viewport) → new ≡ resized_layout rows old → ShowThese n old.windows → ShowThese n new.windows
+show_drop : (n k : ℕ) (ws : List (Window Viewport)) → ShowThese n ws → ShowThese n (drop k ws)
+show_drop n zero ws all = all
+show_drop n (suc k) [] all = tt
+show_drop n (suc k) (w ∷ ws) all = show_drop n k ws all.1
+
+show_resized : (n rows : ℕ) (old new : Layout Viewport) → new ≡ resized_layout rows old → ShowThese n old.windows → ShowThese n new.windows
 show_resized n rows old new is all =
+    let stay = staying rows old.current old.windows in
     subst (λ (l : Layout Viewport). ShowThese n l.windows) (sym is)
-    (show_as_tall n (shared (rows - 1) (heights (staying rows old.windows))) (staying rows old.windows) (show_take n ((rows - 1) / 2) old.windows all))
+    (show_as_tall n (shared (rows - 1) (heights stay)) stay
+    (show_take n (fitting rows) (drop (gone_above rows old.current) old.windows) (show_drop n (gone_above rows old.current) old.windows all)))
 
 pub show_at : (n i : ℕ) (x : Viewport) (ws : List (Window Viewport)) → x.buffer < n → ShowThese n ws → ShowThese n (shows_at i x ws)
 show_at n i x [] here all = tt
@@ -125,6 +132,18 @@ left_on gone l v new i s x inside at is was shows =
     ∙ ap (λ ws. layout ws l.current) (changed_on (window_without gone) l.windows v.windows i w x inside here becomes (ap (λ (u : Layout Viewport). u.windows) was))
 
 -- ---- the windows of a workspace show its buffers
+
+pub resized_shown : (bs : Buffers) (rows : ℕ) (old new : Layout Viewport) → AreShown bs old → new ≡ resized_layout rows old
+    → slice_get (all_shown new.windows) new.current ≡ slice_get (all_shown old.windows) old.current → AreShown bs new
+resized_shown bs rows old new shown is stays =
+    let none = viewport 0 0 in
+    let same : current_viewport new ≡ current_viewport old =
+        sym (unwrap_or-slice_get (all_shown new.windows) new.current none) ∙ ap (λ o. unwrap_or o none) stays ∙ unwrap_or-slice_get (all_shown old.windows) old.current none in
+    record {
+      few = shown.few;
+      each = show_resized (length bs.all) rows old new is shown.each;
+      current = ap (λ (v : Viewport). v.buffer) same ∙ shown.current;
+    }
 
 pub removed_shown : (bs : Buffers) (l : Layout Viewport) (gone : ℕ) → AreShown bs l → gone < length bs.all → 1 < length bs.all → AreShown (without_buffer gone bs) (layout_without gone l)
 removed_shown bs l gone shown inside others =

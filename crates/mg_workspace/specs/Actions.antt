@@ -95,9 +95,9 @@ arrange_outcome a w =
     let windows = window_outcome a (workspace_buffer w) w.windows in
     (with_windows windows.0 (idled_work w), windows.1)
 
--- on a screen of so many rows and columns
+-- on a screen of so many rows and columns: the windows change, and no buffer, nor which one is current
 abbrev pub resized_work : ℕ → ℕ → Workspace → Workspace
-resized_work rows columns w = record (with_windows (resized_layout rows w.windows) w) { columns = columns }
+resized_work rows columns w = record w { windows = resized_layout rows w.windows; columns = columns }
 
 -- ---- of the buffers by their names
 

@@ -113,8 +113,9 @@ impl<S: TextStore> Workspace<S> {
         answer
     }
 
-    /// A screen of so many rows and columns: the windows take the rows as `Windows::resize` does,
-    /// and the buffer of the current window is current. A run of commands goes on. Takes no memory.
+    /// A screen of so many rows and columns: the windows take the rows as `Windows::resize` does. The
+    /// current window shows what it showed, so the current buffer stays current. A run of commands
+    /// goes on. Takes no memory.
     pub fn resize(&mut self, rows: usize, columns: usize)
         requires rows_from { least_rows ≤ rows }
         requires rows_to { rows ≤ most_rows }
@@ -125,6 +126,5 @@ impl<S: TextStore> Workspace<S> {
     {
         self.windows.resize(rows);
         self.columns = columns;
-        follow(&mut self.buffers, &self.windows);
     }
 }

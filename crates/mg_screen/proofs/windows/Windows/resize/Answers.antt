@@ -1,29 +1,27 @@
-use Rattle.std.proofs.Common.{◌∙◌, ◌-◌, ap, arith, refl, min, length}
+use Rattle.std.proofs.Common.{◌∙◌, ◌-◌, ap, arith}
 use Rattle.mg_screen.specs.Layout.{shared, resized_layout}
 use Rattle.mg_screen.proofs.HeightLaws.{fills}
-use Rattle.mg_screen.proofs.ResizeLaws.{resized_made, resized_kept}
+use Rattle.mg_screen.proofs.ResizeLaws.{current_resized, resized_made, resized_kept}
 use Rattle.mg_screen.proofs.windows.Windows.resize.Goals as goal
 
 pub invariant_of-self : goal.invariant_of-self
 invariant_of-self g c =
-    let made = c.share.ensures.exact ∙ ap (shared (c.args.rows - 1)) c.truncate.ensures.items in
-    let at = c.min-self-inside.ensures ∙ ap (λ n. min c.self.inside.current (n - 1)) (ap length c.as_slice.ensures.value) in
-    resized_kept c.self.inside.heights.items c.share.new.heights.items c.self.inside.shown.items c.truncate-2.new.self.items c.self.inside.current c.min-self-inside.result _ c.self.inside.rows c.args.rows
-    c.self.invariant c.requires.rows_from c.requires.rows_to refl made c.truncate-2.ensures.items at
+    let w = c.self.inside in
+    let made = c.share.ensures.exact ∙ ap (shared (c.args.rows - 1)) c.keep.ensures in
+    resized_kept w.heights.items c.share.new.heights.items w.shown.items c.keep-2.new.items.items w.current c.saturating_sub-gone.result w.rows c.args.rows
+    c.self.invariant c.requires.rows_from c.requires.rows_to c.saturating_sub-gone.ensures made c.keep-2.ensures
 
 pub returns-clause-exact : goal.returns-clause-exact
 returns-clause-exact g c =
-    let made = c.share.ensures.exact ∙ ap (shared (c.args.rows - 1)) c.truncate.ensures.items in
-    let at = c.min-self-inside.ensures ∙ ap (λ n. min c.self.inside.current (n - 1)) (ap length c.as_slice.ensures.value) in
-    resized_made c.self.inside.heights.items c.share.new.heights.items c.self.inside.shown.items c.truncate-2.new.self.items c.self.inside.current c.min-self-inside.result _ c.args.rows
-    c.self.invariant.paired refl made c.truncate-2.ensures.items at
+    let w = c.self.inside in
+    let made = c.share.ensures.exact ∙ ap (shared (c.args.rows - 1)) c.keep.ensures in
+    resized_made w.heights.items c.share.new.heights.items w.shown.items c.keep-2.new.items.items w.current c.saturating_sub-gone.result c.args.rows
+    c.self.invariant.paired c.saturating_sub-gone.ensures made c.keep-2.ensures
     ∙ ap (resized_layout c.args.rows) c.self.view_is
 
 pub returns-clause-filled : goal.returns-clause-filled
-returns-clause-filled g c = fills c.share.new.heights.items c.truncate-2.new.self.items c.min-self-inside.result c.args.rows (invariant_of-self g c)
+returns-clause-filled g c =
+    fills c.share.new.heights.items c.keep-2.new.items.items (c.self.inside.current - c.saturating_sub-gone.result) c.args.rows (invariant_of-self g c)
 
-pub overflow_sub-most : goal.overflow_sub-most
-overflow_sub-most g c = omega arith
-
-pub overflow_sub-rows : goal.overflow_sub-rows
-overflow_sub-rows g c = omega arith
+pub returns-clause-stays : goal.returns-clause-stays
+returns-clause-stays g c = current_resized c.args.rows c.args.self.now _ c.requires.rows_from (returns-clause-exact g c)
