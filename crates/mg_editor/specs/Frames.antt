@@ -9,9 +9,13 @@ use Rattle.mg_editor.specs.Editors.{Editor}
 use Rattle.mg_workspace.specs.Showing.{placed_work, work_panes}
 use Rattle.mg_workspace.specs.Workspaces.{workspace_buffer}
 
+-- what the echo line says: a message that names a buffer has the name of the current one
+abbrev pub said_in : Editor → List ℕ
+said_in e = echo_text e.talk (workspace_buffer e.work).buffer.name
+
 -- the screen of an editor: its windows, each over its buffer, and the echo line
 abbrev pub screen_of : Editor → Screen
-screen_of e = record { panes = work_panes e.work; echo = echo_text e.talk (workspace_buffer e.work).buffer.name }
+screen_of e = record { panes = work_panes e.work; echo = said_in e }
 
 -- the rows of its frame, from the top on
 abbrev pub editor_frame : Editor → List (List ℕ)

@@ -4,6 +4,7 @@ ghost use Rattle.mg_keys.specs.Begun.{HasBegun};
 ghost use Rattle.mg_screen.specs.Layout.{FillsRows};
 ghost use Rattle.mg_screen.specs.Size.{least_rows, most_rows, least_columns, most_columns};
 ghost use Rattle.mg_workspace.specs.Actions.{resized_work};
+ghost use Rattle.mg_editor.specs.Frames.{said_in};
 
 use mg_minibuffer::{Dialogue, Message};
 use mg_workspace::Workspace;
@@ -50,8 +51,9 @@ impl<S: TextStore> Editor<S> {
         self.talk.is_amid_keys()
     }
 
-    /// A screen of so many rows and columns, as `Workspace::resize` has it. What is talked stays: a
-    /// prompt, a message, a key sequence that is not whole yet. Takes no memory.
+    /// A screen of so many rows and columns, as `Workspace::resize` has it. No buffer changes, nor
+    /// which one is current. What is talked stays: a prompt, a message, a key sequence that is not
+    /// whole yet; so a message goes on naming the buffer that it was said of. Takes no memory.
     pub fn resize(&mut self, rows: usize, columns: usize)
         requires rows_from { least_rows ≤ rows }
         requires rows_to { rows ≤ most_rows }
@@ -60,6 +62,7 @@ impl<S: TextStore> Editor<S> {
         ensures exact { self.new ≡
             record self.old { work = resized_work rows columns self.old.work } }
         ensures filled { FillsRows rows self.new.work.windows }
+        ensures said { said_in self.new ≡ said_in self.old }
     {
         self.work.resize(rows, columns);
     }
