@@ -1,5 +1,7 @@
--- Places of a text that changed, by the elements that stood before them.
-use Rattle.std.specs.Prelude.{ℕ, List, Option, Some, None, if◌then◌else◌}
+-- Places of a text that changed, by the elements that stood before them; and matches, by their own first elements.
+use Rattle.std.specs.Prelude.{ℕ, ◌-◌, List, Option, Some, None, slice_get, if◌then◌else◌}
+use Rattle.std.specs.FinSet as finite_set
+use Rattle.std.specs.Option.{option_and_then}
 use Rattle.rga_ops.specs.Identifier.{Identifier}
 use Rattle.rga_ops.specs.Content.{Content}
 use Rattle.rga_ops.specs.Order.{text}
@@ -16,10 +18,14 @@ element_before c place = left_of (visible c) place
 abbrev pub carried : Content → Content → ℕ → ℕ
 carried old new place = place_of new (element_before old place)
 
+-- the place of an element's character; of a deleted one, where it stood
+abbrev pub character_place : Content → Identifier → ℕ
+character_place c id = if finite_set.contains c.deleted id then place_of c id else place_of c id - 1
+
 -- a place, if the pattern stands there
 abbrev pub match_at_place : List ℕ → Content → ℕ → Option ℕ
 match_at_place pattern c place = if stands_at pattern (text c) place then Some place else None
 
--- the match of a pattern, once the text changed: where its begin goes, if the pattern stands there still
+-- the match of a pattern, once the text changed: where its first element is, if the pattern stands there still
 abbrev pub carried_match : List ℕ → Content → Content → ℕ → Option ℕ
-carried_match pattern old new place = match_at_place pattern new (carried old new place)
+carried_match pattern old new place = option_and_then (λ id. match_at_place pattern new (character_place new id)) (slice_get (visible old) place)

@@ -3,8 +3,8 @@
 ghost use Rattle.std.specs.Prelude.{◌≡◌};
 ghost use Rattle.std.specs.List.{slice_get};
 ghost use Rattle.mg_plain.specs.Matches.{stands_at};
-ghost use Rattle.rga_ops.specs.Prelude.{place, text};
-ghost use Rattle.mg_buffer.specs.Carried.{element_before};
+ghost use Rattle.rga_ops.specs.Prelude.{place, text, visible};
+ghost use Rattle.mg_buffer.specs.Carried.{character_place, element_before};
 
 use crate::buffer::Buffer;
 use mg_plain::alike;
@@ -60,6 +60,26 @@ impl<S: TextStore> Buffer<S> {
         ensures { result ≡ place self.now.content element }
     {
         self.doc.store().place_of(element)
+    }
+
+    /// The element whose character is at a place; `None` past the end. Takes no memory.
+    pub fn element_at(&self, place: usize) -> Option<Id>
+        ensures { result ≡ slice_get (visible self.now.content) place }
+    {
+        self.doc.store().element_at(place)
+    }
+
+    /// The place of an element's character; of a deleted one, where it stood. Takes no memory.
+    pub fn character_place(&self, element: Id) -> usize
+        ensures { result ≡ character_place self.now.content element }
+    {
+        let store = self.doc.store();
+        let behind = store.place_of(element).unwrap_or(0);
+        if store.is_deleted(element) {
+            behind
+        } else {
+            behind.saturating_sub(1)
+        }
     }
 
     /// Whether a pattern stands at a place of the text. ASCII case makes no difference; an empty

@@ -1,11 +1,14 @@
 //! Theorems about buffers.
 //!
 //! Each function does nothing: its contract is a theorem that the check proves.
-ghost use Rattle.std.specs.Prelude.{◌≡◌, ◌≢◌, List, []};
-ghost use Rattle.rga_ops.specs.Content.{IsAgreed, HasSameOperations};
+ghost use Rattle.std.specs.Prelude.{◌≡◌, ◌≢◌, ℕ, List, [], Some, slice_get};
+ghost use Rattle.rga_ops.specs.Content.{Content, IsAgreed, HasSameOperations};
+ghost use Rattle.rga_ops.specs.Identifier.{Identifier};
 ghost use Rattle.rga_ops.specs.Order.{order, text};
+ghost use Rattle.rga_ops.specs.Places.{visible};
 ghost use Rattle.rga_ops.specs.Took.{Took};
 ghost use Rattle.rga_ops.specs.declared.op.Op.{Op as Operation};
+ghost use Rattle.mg_buffer.specs.Carried.{character_place};
 ghost use Rattle.mg_buffer.specs.Ran.{Ran, operations_of_splices};
 ghost use Rattle.mg_buffer.specs.Sight.{CommandCall, Notes};
 ghost use Rattle.mg_buffer.specs.State.{State};
@@ -21,6 +24,12 @@ pub fn undoing_a_command_gives_the_text_before()
         (first second third : Notes) (ran : Ran call before first between second) →
         operations_of_splices before ran.plan.splices ≢ [] → Undid between second after third →
         text after.content ≡ text before.content }
+{}
+
+/// The place of a character that the text shows is the index of its element.
+pub fn a_shown_character_is_at_its_place()
+    ensures { (c : Content) (id : Identifier) (i : ℕ) →
+        slice_get (visible c) i ≡ Some id → character_place c id ≡ i }
 {}
 
 /// Two buffers that took the same operations, in any order and with any repeats, own ones and

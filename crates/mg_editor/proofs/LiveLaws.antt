@@ -1,11 +1,12 @@
 -- An open search that was put behind its elements went where the text went; and what operations leave of the buffer at an index.
 use Rattle.std.proofs.Common.{◌≡◌, ◌∙◌, ℕ, ◌<◌, Bool, true, List, length, Option, Some, None, refl, sym, ap, subst}
-use Rattle.std.specs.Prelude.{nat_eq, if◌then◌else◌}
+use Rattle.std.specs.Prelude.{nat_eq, slice_get, if◌then◌else◌}
 use Rattle.std.specs.Option.{option_and_then, option_map}
 use Rattle.std.proofs.lemmas.List.{length-set}
 use Rattle.rga_ops.specs.Content.{Content}
+use Rattle.rga_ops.specs.Places.{visible}
 use Rattle.rga_ops.specs.declared.op.Op.{Op}
-use Rattle.mg_buffer.specs.Carried.{carried, carried_match, element_before}
+use Rattle.mg_buffer.specs.Carried.{carried, carried_match}
 use Rattle.mg_buffer.specs.Following.{with_operations}
 use Rattle.mg_minibuffer.specs.Dialogues.{Dialogue, search_of}
 use Rattle.mg_minibuffer.specs.declared.prompt.Prompt.{Prompt}
@@ -15,12 +16,12 @@ use Rattle.mg_workspace.specs.Buffers.{buffer_at}
 use Rattle.mg_workspace.specs.Workspaces.{Workspace}
 use Rattle.mg_editor.specs.Editors.{Editor}
 use Rattle.mg_editor.specs.declared.live_taking.Anchors.{Anchors}
-use Rattle.mg_editor.specs.LiveTaking.{anchors_at, anchors_of, anchored_talk, carried_prompt, carried_talk, match_behind, taking, with_changed}
+use Rattle.mg_editor.specs.LiveTaking.{anchors_at, anchors_of, anchored_talk, carried_prompt, carried_talk, match_at, taking, with_changed}
 
 -- ---- the search
 
 carried_found : (pattern : List ℕ) (old new : Content) (found : Option ℕ)
-    → option_and_then (match_behind pattern new) (option_map (element_before old) found) ≡ option_and_then (carried_match pattern old new) found
+    → option_and_then (match_at pattern new) (option_and_then (slice_get (visible old)) found) ≡ option_and_then (carried_match pattern old new) found
 carried_found pattern old new None = refl
 carried_found pattern old new (Some i) = refl
 

@@ -1,13 +1,14 @@
 -- What the editor is once a buffer took something from elsewhere: an open search goes where the text went.
-use Rattle.std.specs.Prelude.{ℕ, List, Option, Some, None, nat_eq, if◌then◌else◌}
+use Rattle.std.specs.Prelude.{ℕ, List, Option, Some, None, nat_eq, slice_get, if◌then◌else◌}
 use Rattle.std.specs.Option.{option_and_then, option_map, option_map_or}
 use Rattle.rga_ops.specs.Identifier.{Identifier}
 use Rattle.rga_ops.specs.Content.{Content}
+use Rattle.rga_ops.specs.Places.{visible}
 use Rattle.rga_ops.specs.declared.op.Op.{Op}
 use Rattle.mg_minibuffer.specs.declared.prompt.Prompt.{Prompt}
 use Rattle.mg_minibuffer.specs.declared.prompt.Prompt.TheVariants.{Searching}
 use Rattle.mg_minibuffer.specs.declared.prompt.Search.{Search}
-use Rattle.mg_buffer.specs.Carried.{carried, carried_match, element_before, match_at_place}
+use Rattle.mg_buffer.specs.Carried.{carried, carried_match, character_place, element_before, match_at_place}
 use Rattle.mg_buffer.specs.Sight.{place_of}
 use Rattle.mg_minibuffer.specs.Dialogues.{Dialogue, search_of, with_places}
 use Rattle.mg_workspace.specs.AtIndex.{state_at, with_operations_at}
@@ -15,8 +16,8 @@ use Rattle.mg_workspace.specs.Workspaces.{Workspace}
 use Rattle.mg_editor.specs.Editors.{Editor}
 use Rattle.mg_editor.specs.declared.live_taking.Anchors.{Anchors}
 
--- a search, once the text changed: its origin stands behind the element that it stood behind, and so does its match, if the
--- pattern stands there still
+-- a search, once the text changed: its origin stands behind the element that it stood behind, and its match at its own first
+-- element, if the pattern stands there still
 abbrev pub carried_search : Content → Content → Search → Search
 carried_search old new s = record s { origin = carried old new s.origin; found = option_and_then (carried_match s.pattern old new) s.found }
 
@@ -36,23 +37,23 @@ with_changed i work e = record { work = work; talk = carried_talk i e.work work 
 abbrev pub taking : ℕ → List Op → Editor → Editor
 taking i ops e = with_changed i (with_operations_at i ops e.work) e
 
--- ---- how a search is carried: by the elements that its places stand behind
+-- ---- how a search is carried: by the element that its origin stands behind, and by the first one of its match
 
 abbrev pub anchors_of : Content → Search → Anchors
-anchors_of c s = record { origin = element_before c s.origin; found = option_map (element_before c) s.found }
+anchors_of c s = record { origin = element_before c s.origin; found = option_and_then (slice_get (visible c)) s.found }
 
 -- those of the search that is open in the buffer at an index
 abbrev pub anchors_at : ℕ → Editor → Option Anchors
 anchors_at i e = if nat_eq i e.work.buffers.current then option_map (anchors_of (state_at i e.work).content) (search_of e.talk.prompt) else None
 
--- a match that begins behind an element, if the pattern stands there
-abbrev pub match_behind : List ℕ → Content → Identifier → Option ℕ
-match_behind pattern c id = match_at_place pattern c (place_of c id)
+-- a match that begins with an element, if the pattern stands there
+abbrev pub match_at : List ℕ → Content → Identifier → Option ℕ
+match_at pattern c id = match_at_place pattern c (character_place c id)
 
--- an open search whose places stand behind those elements
+-- an open search that has those elements
 abbrev pub anchored : Content → Anchors → Dialogue → Dialogue
 anchored c a d =
-    option_map_or (λ (s : Search). with_places (place_of c a.origin) (option_and_then (match_behind s.pattern c) a.found) d) (search_of d.prompt) d
+    option_map_or (λ (s : Search). with_places (place_of c a.origin) (option_and_then (match_at s.pattern c) a.found) d) (search_of d.prompt) d
 
 abbrev pub anchored_talk : Content → Option Anchors → Dialogue → Dialogue
 anchored_talk c anchors d = option_map_or (λ a. anchored c a d) anchors d

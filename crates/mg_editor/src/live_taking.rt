@@ -17,7 +17,7 @@ use mg_workspace::ActionFault;
 use rga_ops::{Id, Op, Refusal, Taken};
 use rga_store::TextStore;
 
-/// The elements that the places of a search stand behind.
+/// The element that the origin of a search stands behind, and the first one of its match.
 #[derive(Clone, Copy)]
 pub(crate) struct Anchors {
     pub(crate) origin: Id,
@@ -29,7 +29,7 @@ fn anchors_of<S: TextStore>(buffer: &Buffer<S>, search: &Search) -> Anchors
     ensures { result ≡ spec.anchors_of buffer.now.content search.now }
 {
     let found = match search.found {
-        Some(place) => Some(buffer.element_before(place)),
+        Some(place) => buffer.element_at(place),
         None => None,
     };
     Anchors {
@@ -45,16 +45,16 @@ fn place_behind<S: TextStore>(buffer: &Buffer<S>, element: Id) -> usize
     buffer.place_of(element).unwrap_or(0)
 }
 
-/// The match that begins behind an element, if the pattern stands there.
-fn match_behind<S: TextStore>(
+/// The match that begins with an element, if the pattern stands there.
+fn match_at<S: TextStore>(
     buffer: &Buffer<S>,
     pattern: &[char],
     element: Option<Id>,
 ) -> Option<usize>
     ensures { result
-        ≡ option_and_then (spec.match_behind pattern.now buffer.now.content) element }
+        ≡ option_and_then (spec.match_at pattern.now buffer.now.content) element }
 {
-    let place = place_behind(buffer, element?);
+    let place = buffer.character_place(element?);
     if buffer.stands(pattern, place) {
         Some(place)
     } else {
@@ -108,7 +108,7 @@ impl<S: TextStore> Editor<S> {
         }
     }
 
-    /// The open search has its places behind these elements, in the buffer at an index.
+    /// The open search goes to its elements, in the buffer at an index.
     fn put_search(&mut self, index: usize, anchors: Option<Anchors>)
         requires { index < length self.old.work.buffers.all }
         ensures { let content = (state_at index self.old.work).content in self.new ≡
@@ -121,14 +121,15 @@ impl<S: TextStore> Editor<S> {
             return;
         };
         let buffer = &self.work.at(index).buffer;
-        let found = match_behind(buffer, search.pattern.as_slice(), anchors.found);
+        let found = match_at(buffer, search.pattern.as_slice(), anchors.found);
         let origin = place_behind(buffer, anchors.origin);
         self.talk.move_search(origin, found);
     }
 
     /// The buffer at an index takes an operation from elsewhere, which is unsaved then if it is new.
-    /// Point and mark stay behind their elements, and so do the places of a search that is open in
-    /// that buffer; its match is none where the pattern no longer stands there. All else stays: the
+    /// Point and mark stay behind their elements, and so does the origin of a search that is open in
+    /// that buffer; its match stays at its own first character, and is none if the pattern no longer
+    /// stands there. All else stays: the
     /// undo groups, the runs of kills and of undos, prompt, message and keys, the other buffers and
     /// the windows.
     ///
