@@ -7,8 +7,8 @@ use Rattle.mg_minibuffer.specs.declared.prompt.Prompt.{Prompt}
 use Rattle.mg_minibuffer.specs.declared.prompt.Prompt.TheVariants.{Replacing, Quitting}
 use Rattle.mg_workspace.specs.Workspaces.{Workspace}
 use Rattle.mg_editor.specs.Editors.{Editor}
-use Rattle.mg_editor.specs.Pasting.{PasteAnswer, Pasted, PastedAt, Inserts, Types, first_line, running}
-use Rattle.mg_editor.proofs.ActionCases.{RunsOne, ended_so, quiet_runs}
+use Rattle.mg_editor.specs.Pasting.{PasteAnswer, Pasted, PastedAt, Inserts, Types, first_line}
+use Rattle.mg_editor.proofs.ActionCases.{RunsOne}
 use Rattle.mg_editor.proofs.TypingLaws.{typed_one}
 
 module _ (Leads : Workspace → Workspace → Type 0) (one : (w v : Workspace) → RunsOne w v → Leads w v) (both : (w u v : Workspace) → Leads w u → Leads u v → Leads w v) where
@@ -23,9 +23,7 @@ module _ (Leads : Workspace → Workspace → Type 0) (one : (w v : Workspace) �
   types (c ∷ cs) old new r ready (inr (refused, answer)) = nowhere old new (ap (λ (e : Editor). e.work) refused)
 
   inserts : (put : List ℕ) (old new : Editor) (r : PasteAnswer) → Inserts put old new r → Leads old.work new.work
-  inserts put old new (Ok u) it =
-      let did = ended_so (running (InsertText put)) old new Idle it in
-      one old.work new.work (quiet_runs (running (InsertText put)) old.work new.work did.0 (inr (InsertText put, refl)) did.1)
+  inserts put old new (Ok u) it = one old.work new.work (inr (InsertText put, Ok tt, it.0))
   inserts put old new (Err fault) it = nowhere old new (ap (λ (e : Editor). e.work) it.0)
 
   pastes_at : (p : Option Prompt) (put : List ℕ) (old new : Editor) (r : PasteAnswer) → old.talk.prompt ≡ p → PastedAt p put old new r → Leads old.work new.work

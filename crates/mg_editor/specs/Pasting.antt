@@ -1,23 +1,22 @@
 -- What a text leads to that is pasted.
 use Rattle.std.specs.Prelude.{◌≡◌, ◌⊎◌, ℕ, Bool, List, [], ◌∷◌, Option, Some, None, Result, Ok, Err, MatchResult, nat_eq}
 use Rattle.std.specs.List.{before_first}
-use Rattle.mg_plain.specs.declared.command.Command.{Command}
 use Rattle.mg_plain.specs.declared.command.Command.TheVariants.{InsertText}
 use Rattle.mg_keys.specs.Begun.{HasBegun}
 use Rattle.mg_keys.specs.declared.step.Step.TheVariants.{Text}
-use Rattle.mg_minibuffer.specs.declared.ending.Action.TheVariants.{Run}
-use Rattle.mg_minibuffer.specs.declared.ending.Ending.{Ending}
 use Rattle.mg_minibuffer.specs.declared.ending.Next.TheVariants.{Same}
 use Rattle.mg_minibuffer.specs.declared.ending.Request.TheVariants.{Idle}
 use Rattle.mg_minibuffer.specs.declared.message.Message.TheVariants as message
 use Rattle.mg_minibuffer.specs.declared.prompt.Prompt.{Prompt}
 use Rattle.mg_minibuffer.specs.declared.prompt.Prompt.TheVariants.{Replacing, Quitting}
-use Rattle.mg_minibuffer.specs.Endings.{ending_of}
+use Rattle.mg_minibuffer.specs.Dialogues.{shown}
+use Rattle.mg_workspace.specs.AtIndex.{RunsAt}
+use Rattle.mg_workspace.specs.declared.fault.ActionFault.{ActionFault}
 use Rattle.mg_editor.specs.Editors.{Editor}
-use Rattle.mg_editor.specs.Presses.{Ended, StepTaken}
+use Rattle.mg_editor.specs.Presses.{StepTaken}
 use Rattle.rga_ops.specs.Memory.{out_of_memory}
 use Rattle.mg_editor.specs.declared.pasting.PasteFault.{PasteFault}
-use Rattle.mg_editor.specs.declared.pasting.PasteFault.TheVariants.{Busy}
+use Rattle.mg_editor.specs.declared.pasting.PasteFault.TheVariants.{Action, Busy}
 use Rattle.mg_editor.specs.Memory.{PasteMemory as Memory}
 
 abbrev pub PasteAnswer : Type 0
@@ -27,15 +26,14 @@ PasteAnswer = Result (Unit {0}) PasteFault
 abbrev pub IsBusy : Editor → Editor → PasteAnswer → Type 0
 IsBusy old new r = (new ≡ old) × (r ≡ Err Busy)
 
--- a command is run with the argument 1, and nothing is said
-abbrev pub running : Command → Ending
-running command = ending_of (Run command 1) Same message.Nothing
-
--- One command inserts the text in the current buffer, as that of a key does: where the buffer refuses it, why is said. Want of
--- memory changes nothing.
+-- One command inserts the text in the current buffer, as that of a key does, and nothing is said. Where the buffer refuses it, or memory
+-- is wanting, that is answered, and nothing changes.
 abbrev pub Inserts : List ℕ → Editor → Editor → PasteAnswer → Type 0
 Inserts put old new r =
-    MatchResult r (λ _. Ended (running (InsertText put)) old new Idle) (λ f. (new ≡ old) × (f ≡ Memory))
+    let inserts = RunsAt old.work.buffers.current (InsertText put) 1 old.work in
+    MatchResult r
+    (λ _. inserts (new.work, Ok tt) × (new.talk ≡ shown Same message.Nothing old.talk))
+    (λ fault. (new ≡ old) × ((why : ActionFault) × (fault ≡ Action why) × inserts (new.work, Err why)))
 
 -- Each character is typed, one after the other. Want of memory at one of them leaves those before it typed.
 abbrev pub Types : List ℕ → Editor → Editor → PasteAnswer → Type 0

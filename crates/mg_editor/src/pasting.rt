@@ -1,6 +1,6 @@
 //! Texts that are pasted.
 ghost use Rattle.std.specs.Prelude.{◌≡◌, ◌<◌, true, false, Ok, Err, IfSome, OnOk, OnErr, length, position};
-ghost use Rattle.mg_minibuffer.specs.Dialogues.{forgotten, takes_text};
+ghost use Rattle.mg_minibuffer.specs.Dialogues.{takes_text};
 ghost use Rattle.rga_ops.specs.Memory.{out_of_memory};
 ghost use Rattle.mg_editor.specs.Memory.{PasteMemory};
 ghost use Rattle.mg_editor.specs.Pasting as spec;
@@ -8,26 +8,38 @@ ghost use Rattle.mg_editor.specs.Presses as presses;
 
 use crate::editor::Editor;
 use mg_keys::Step;
-use mg_minibuffer::{Action, Ending, Message, Next, Request};
+use mg_minibuffer::{Message, Next, Request};
 use mg_plain::{Chars, Command};
+use mg_workspace::ActionFault;
 use rga_ops::OutOfMemory;
 use rga_store::TextStore;
 use std::alloc::AllocError;
 
 /// Why a text was not pasted.
-#[derive(Clone, Copy, PartialEq, Eq)]
+#[derive(Clone, Copy)]
 pub enum PasteFault {
     /// A key sequence has begun, or a question is open that takes no text.
     Busy,
-    /// A growth of memory was refused.
-    Memory(OutOfMemory),
+    /// The current buffer refuses it, or a growth of memory was refused.
+    Action(ActionFault),
+}
+
+impl From<ActionFault> for PasteFault {
+    ghost use Rattle.std.specs.Prelude.{◌≡◌};
+    ghost use Rattle.mg_editor.specs.declared.pasting.PasteFault.TheVariants.{Action};
+
+    ghost from_gives = { λ e fault. fault ≡ Action e };
+
+    fn from(fault: ActionFault) -> PasteFault {
+        PasteFault::Action(fault)
+    }
 }
 
 impl From<OutOfMemory> for PasteFault {
     ghost from_gives = { λ _ fault. fault ≡ PasteMemory };
 
     fn from(memory: OutOfMemory) -> PasteFault {
-        PasteFault::Memory(memory)
+        PasteFault::Action(ActionFault::from(memory))
     }
 }
 
@@ -35,7 +47,7 @@ impl From<AllocError> for PasteFault {
     ghost from_gives = { λ _ fault. fault ≡ PasteMemory };
 
     fn from(refused: AllocError) -> PasteFault {
-        PasteFault::Memory(OutOfMemory::from(refused))
+        PasteFault::Action(ActionFault::from(refused))
     }
 }
 
@@ -58,26 +70,14 @@ fn first_line(put: &[char]) -> &[char]
     }
 }
 
-/// A command is run, and nothing is said.
-fn running(command: Command) -> Ending
-    ensures { result ≡ spec.running command }
-{
-    Ending {
-        action: Action::Run(command, 1),
-        next: Next::Same,
-        message: Message::Nothing,
-        request: Request::Idle,
-        refused: Next::Same,
-    }
-}
-
 impl<S: TextStore> Editor<S> {
     /// Pastes a text. Where no prompt is open one command inserts it in the current buffer: it is
-    /// one undo group, and a refusal of the buffer is told as that of a key's command. At a prompt
-    /// for a line, and at a search, the characters up to the first newline are typed.
+    /// one undo group. At a prompt for a line, and at a search, the characters up to the first newline
+    /// are typed.
     ///
-    /// Faults: `Busy` within a key sequence, in query-replace and where it is asked whether to quit,
-    /// and nothing changes; `Memory`: nothing changed, but that at a prompt a beginning was typed.
+    /// Faults: `Busy` within a key sequence, in query-replace and where it is asked whether to quit;
+    /// what the buffer refuses it for; `Memory`. Nothing changed then, nor what is said; but where
+    /// memory is wanting at a prompt, a beginning was typed.
     pub fn paste(&mut self, put: &[char]) -> Result<(), PasteFault>
         ensures { spec.Pasted put.now self.old self.new result }
     {
@@ -92,14 +92,13 @@ impl<S: TextStore> Editor<S> {
 
     /// The text is inserted where no prompt is open.
     fn insert(&mut self, put: &[char]) -> Result<(), PasteFault>
-        requires { forgotten self.old.talk ≡ self.old.talk }
         ensures { spec.Inserts put.now self.old self.new result }
     {
         let put = Chars::from_slice(self.alloc, put)?;
-        match self.end(running(Command::InsertText(put))) {
-            Ok(_) => Ok(()),
-            Err(memory) => Err(PasteFault::Memory(memory)),
-        }
+        let index = self.work.current_index();
+        self.work.run_at(index, &Command::InsertText(put), 1)?;
+        self.talk.show(Next::Same, Message::Nothing);
+        Ok(())
     }
 
     /// The text goes into an answer or a pattern, if the open prompt takes one.

@@ -9,10 +9,11 @@ use Rattle.mg_workspace.specs.AtIndex.{RunsAt}
 use Rattle.mg_editor.specs.Editors.{Editor}
 use Rattle.mg_editor.specs.LiveTaking.{with_changed}
 use Rattle.mg_live.specs.Changes.{change_count}
+use Rattle.mg_live.specs.FaultNames.{of_action}
 use Rattle.mg_live.specs.Made.{is_live, live_index, made_at, with_made}
 use Rattle.mg_live.specs.States.{Live}
 use Rattle.mg_live.specs.Gathering.{Gathered}
-use Rattle.mg_live.specs.Reports.{Verdict, Gathers, TakesPiece, Pastes, TakesPaste, Splices, TakesSplice, splice_fault}
+use Rattle.mg_live.specs.Reports.{Verdict, Gathers, TakesPiece, Pastes, TakesPaste, Splices, TakesSplice}
 use Rattle.mg_live.specs.declared.fault.ReportFault.TheVariants.{Closed, Line, Stale}
 use Rattle.mg_live.specs.declared.gathered.Piece.{Piece}
 use Rattle.mg_live.specs.declared.gathered.Piece.TheVariants.{Held, Whole, Dropped}
@@ -46,7 +47,7 @@ module _ (base lo hi : ℕ) (put : List ℕ) (e : Editor) (live : Live) (f : Edi
       ((r : ActionVerdict) × RunsAt i (ReplaceRange lo hi put) 1 e.work (f.work, r) × MatchResult r
       (λ _. (made : Result (Unit {0}) OutOfMemory) × (f ≡ with_changed i f.work e) × (◌≡◌ {A = Verdict} (Ok noted) (Ok made))
       × (next ≡ with_made true (is_ok made) (made_at i e f) live))
-      (λ fault. (f ≡ e) × (◌≡◌ {A = Verdict} (Ok noted) (Err (splice_fault fault))) × (next ≡ live)))
+      (λ fault. (f ≡ e) × (◌≡◌ {A = Verdict} (Ok noted) (Err (of_action fault))) × (next ≡ live)))
       ((◌≡◌ {A = Verdict} (Ok noted) (Err Stale)) × (f ≡ e) × (next ≡ live))
 
   abbrev MadeIf : Option ℕ → Type 0

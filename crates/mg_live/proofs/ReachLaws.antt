@@ -49,8 +49,9 @@ use Rattle.mg_editor.specs.Editors.{Editor}
 use Rattle.mg_editor.specs.LiveTaking.{taking, with_changed}
 use Rattle.mg_editor.proofs.ActionCases.{acted_at, takes_keep}
 use Rattle.mg_live.specs.Changes.{AreKept, Changes, change_count}
+use Rattle.mg_live.specs.FaultNames.{of_action}
 use Rattle.mg_live.specs.Made.{live_index, made_at, with_made}
-use Rattle.mg_live.specs.Reports.{Verdict, Follows, RefusesReport, Splices, Takes, TakesOperation, TakesOthers, TakesPiece, TakesReport, clock_at, is_far, splice_fault, with_taken}
+use Rattle.mg_live.specs.Reports.{Verdict, Follows, RefusesReport, Splices, Takes, TakesOperation, TakesOthers, TakesPiece, TakesReport, clock_at, is_far, with_taken}
 use Rattle.mg_live.specs.Gathering.{Gathered}
 use Rattle.mg_live.specs.States.{Live}
 use Rattle.mg_live.specs.Told.{IsTold, MayBeSpliced, MayHaveTaken, MayReach, WasTold, reach_of}
@@ -209,7 +210,7 @@ module _ {C : Type 0} (e : Editor) (live : Live) (f : Editor) (next : Live) (ver
     abbrev SplicedSo : ℕ → ActionVerdict → Type 0
     SplicedSo i r = MatchResult r
         (λ _. (noted : Result (Unit {0}) OutOfMemory) × (f ≡ with_changed i f.work e) × (verdict ≡ Ok noted) × (next ≡ with_made true (is_ok noted) (made_at i e f) live))
-        (λ fault. (f ≡ e) × (verdict ≡ Err (splice_fault fault)) × (next ≡ live))
+        (λ fault. (f ≡ e) × (verdict ≡ Err (of_action fault)) × (next ≡ live))
 
     abbrev SplicesAt : Option ℕ → Type 0
     SplicesAt None = (verdict ≡ Err Closed) × (f ≡ e) × (next ≡ live)

@@ -11,7 +11,6 @@ use Rattle.rga_ops.specs.declared.op.Op.TheVariants.{Insert, Delete}
 use Rattle.rga_ops.specs.declared.out_of_memory.OutOfMemory.{OutOfMemory}
 use Rattle.rga_ops.specs.declared.refusal.Refusal.{Refusal}
 use Rattle.rga_ops.specs.Memory.{Memory}
-use Rattle.rga_ops.specs.declared.refusal.Refusal.TheVariants as refusal
 use Rattle.rga_ops.specs.declared.refusal.Taken.{Taken}
 use Rattle.rga_ops.specs.declared.refusal.Taken.TheVariants.{New}
 use Rattle.rga_lines.specs.Runs.{stretch_operations, run_deletions}
@@ -32,16 +31,14 @@ use Rattle.mg_session.specs.Memory.{CourseMemory as NoMemory}
 use Rattle.mg_workspace.specs.Actions.{resized_work}
 use Rattle.mg_workspace.specs.AtIndex.{RunsAt, state_at}
 use Rattle.mg_workspace.specs.declared.fault.ActionFault.{ActionFault}
-use Rattle.mg_workspace.specs.declared.fault.ActionFault.TheVariants as action
-use Rattle.mg_workspace.specs.declared.fault.Cause.TheVariants as cause
 use Rattle.mg_live.specs.Changes.{change_count, noted}
-use Rattle.mg_live.specs.FaultNames.{of_paste}
+use Rattle.mg_live.specs.FaultNames.{of_action, of_paste}
 use Rattle.mg_live.specs.Gathering.{Gathered, gather, drop_text}
 use Rattle.mg_live.specs.Made.{live_index, is_live, made_at, with_made, if_memory}
 use Rattle.mg_live.specs.States.{Live}
 use Rattle.mg_live.specs.Tallies.{with_report, with_refusal}
 use Rattle.mg_live.specs.declared.fault.ReportFault.{ReportFault}
-use Rattle.mg_live.specs.declared.fault.ReportFault.TheVariants.{Line, Refused, Far, Closed, Stale, Range}
+use Rattle.mg_live.specs.declared.fault.ReportFault.TheVariants.{Line, Refused, Far, Closed, Stale}
 use Rattle.mg_live.specs.declared.gathered.Piece.{Piece}
 use Rattle.mg_live.specs.declared.gathered.Piece.TheVariants.{Held, Whole, Dropped}
 
@@ -107,12 +104,6 @@ Pastes put e live verdict f next =
     × (next ≡ with_made (is_live live.name i e) (is_ok noted) (made_at i e f) live))
     (λ fault. (verdict ≡ Err (of_paste fault)) × (next ≡ live))
 
-abbrev pub splice_fault : ActionFault → ReportFault
-splice_fault (action.Memory _) = Line LineMemory
-splice_fault (action.Refused cause.BufferFull) = Refused refusal.Full
-splice_fault (action.Refused cause.IdentifiersUsedUp) = Refused refusal.Clock
-splice_fault (action.Refused _) = Range
-
 -- The characters of the live buffer were replaced, if its text is the one that the splice was made by, and what it made is noted; or they
 -- were not, for that.
 abbrev pub Splices : ℕ → ℕ → ℕ → List ℕ → Editor → Live → Verdict → Editor → Live → Type 0
@@ -122,7 +113,7 @@ Splices base lo hi put e live verdict f next = elim (live_index live.name e) [
       ((r : Result (Unit {0}) ActionFault) × RunsAt i (ReplaceRange lo hi put) 1 e.work (f.work, r) × MatchResult r
       (λ _. (noted : Result (Unit {0}) OutOfMemory) × (f ≡ with_changed i f.work e) × (verdict ≡ Ok noted)
       × (next ≡ with_made true (is_ok noted) (made_at i e f) live))
-      (λ fault. (f ≡ e) × (verdict ≡ Err (splice_fault fault)) × (next ≡ live)))
+      (λ fault. (f ≡ e) × (verdict ≡ Err (of_action fault)) × (next ≡ live)))
       ((verdict ≡ Err Stale) × (f ≡ e) × (next ≡ live))
 ]
 

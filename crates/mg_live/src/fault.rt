@@ -3,6 +3,7 @@ ghost use Rattle.std.specs.Prelude.{◌≡◌};
 ghost use Rattle.mg_live.specs.FaultNames.{report_fault_name};
 
 use mg_editor::PasteFault;
+use mg_workspace::{ActionFault, Cause};
 use rga_lines::LineFault;
 use rga_ops::Refusal;
 
@@ -14,7 +15,7 @@ pub enum ReportFault {
     Line(LineFault),
     /// The keys ended within it, or before what goes on with it.
     Cut,
-    /// The text type refuses an operation.
+    /// The text type refuses an operation, a pasted text or a splice.
     Refused(Refusal),
     /// A counter is more than 2^32 above the greatest that is known.
     Far,
@@ -46,6 +47,24 @@ impl ReportFault {
     }
 }
 
+impl From<ActionFault> for ReportFault {
+    ghost use Rattle.std.specs.Prelude.{◌≡◌};
+    ghost use Rattle.mg_live.specs.FaultNames.{of_action};
+
+    ghost from_gives = { λ e fault. fault ≡ of_action e };
+
+    fn from(e: ActionFault) -> ReportFault {
+        match e {
+            ActionFault::Memory(memory) => ReportFault::Line(LineFault::Memory(memory)),
+            ActionFault::Refused(cause) => match cause {
+                Cause::BufferFull => ReportFault::Refused(Refusal::Full),
+                Cause::IdentifiersUsedUp => ReportFault::Refused(Refusal::Clock),
+                _ => ReportFault::Range,
+            },
+        }
+    }
+}
+
 impl From<PasteFault> for ReportFault {
     ghost use Rattle.std.specs.Prelude.{◌≡◌};
     ghost use Rattle.mg_live.specs.FaultNames.{of_paste};
@@ -55,7 +74,7 @@ impl From<PasteFault> for ReportFault {
     fn from(e: PasteFault) -> ReportFault {
         match e {
             PasteFault::Busy => ReportFault::Busy,
-            PasteFault::Memory(memory) => ReportFault::Line(LineFault::Memory(memory)),
+            PasteFault::Action(fault) => ReportFault::from(fault),
         }
     }
 }

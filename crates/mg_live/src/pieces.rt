@@ -8,9 +8,7 @@ use crate::gathered::Piece;
 use crate::live::Live;
 use crate::made::{mark_at, mark_current, note_made};
 use mg_editor::Editor;
-use mg_workspace::{ActionFault, Cause};
-use rga_lines::LineFault;
-use rga_ops::{OutOfMemory, Refusal};
+use rga_ops::OutOfMemory;
 use rga_store::TextStore;
 
 /// The whole of a pasted text. Answers whether there was memory to note what it made.
@@ -44,20 +42,6 @@ pub(crate) fn paste<S: TextStore>(
     }
 }
 
-/// What a splice is refused for, by what the buffer says.
-fn splice_fault(fault: ActionFault) -> ReportFault
-    ensures { result ≡ spec.splice_fault fault }
-{
-    match fault {
-        ActionFault::Memory(memory) => ReportFault::Line(LineFault::Memory(memory)),
-        ActionFault::Refused(cause) => match cause {
-            Cause::BufferFull => ReportFault::Refused(Refusal::Full),
-            Cause::IdentifiersUsedUp => ReportFault::Refused(Refusal::Clock),
-            _ => ReportFault::Range,
-        },
-    }
-}
-
 /// The whole of a splice. Answers whether there was memory to note what it made.
 fn splice_whole<S: TextStore>(
     live: &mut Live,
@@ -78,7 +62,7 @@ fn splice_whole<S: TextStore>(
     let mark = mark_at(live, editor, index);
     match editor.splice(index, lo as usize, hi as usize, put) {
         Ok(()) => Ok(note_made(live, editor, mark)),
-        Err(fault) => Err(splice_fault(fault)),
+        Err(fault) => Err(ReportFault::from(fault)),
     }
 }
 
