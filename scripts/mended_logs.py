@@ -9,11 +9,13 @@ operations, of each identifier one insertion, and of a run that has another one 
 to stand after what stood in note.ops.refused; the old log has to be note.ops~; and the text has to be that of the
 log. What stood under these names may not be lost, nor a text that mgr put before the damage, and modes stay. A
 second mend, and one of a log in order, leaves the log as it is. Then the same lines in another order, and with
-those compacted that can be, are mended to the same note: each takes the other's log, and has nothing new. `make
-hostile` calls it. It ends with an error where one is not so.
+those compacted that can be, are mended to the same note: each takes the other's log, and has nothing new. Logs of
+more than 1,000,000 identifiers are mended too: of these each line stays that a note has room for. `make hostile`
+calls it. It ends with an error where one is not so.
 """
 
 import collections
+import functools
 import json
 import os
 import pathlib
@@ -30,6 +32,8 @@ from notes import expect
 from play.programs import Unexpected
 
 LOGS = 720
+LARGE = 2
+ROOM = 1000000
 SECONDS = 60
 LONGEST, DEEPEST = 65536, 127
 UNTOUCHED = b"nothing to mend\n"
@@ -43,8 +47,8 @@ MEMBERS = {
     "dels": {"count", "id", "op"},
 }
 
-# One operation: the element that it inserts, if it does, and its line as it is written.
-Operation = collections.namedtuple("Operation", "inserted line")
+# One operation: its identifier, the element that it inserts, if it does, and its line as it is written.
+Operation = collections.namedtuple("Operation", "known inserted line")
 
 
 class NoOperation(Exception):
@@ -113,12 +117,12 @@ def inserted(value, signs):
     own = elements(identifier(value["id"]), len(signs))
     require(own[0][0] > parent[0])
     behind = [parent, *own]
-    return [Operation(it, insertion(it, at, sign).encode()) for it, at, sign in zip(own, behind, signs)]
+    return [Operation(it, it, insertion(it, at, sign).encode()) for it, at, sign in zip(own, behind, signs)]
 
 
 def deleted(value, count):
     require(type(count) is int)
-    return [Operation(None, deletion(it).encode()) for it in elements(identifier(value["id"]), count)]
+    return [Operation(it, None, deletion(it).encode()) for it in elements(identifier(value["id"]), count)]
 
 
 def operations_of(value):
@@ -136,6 +140,7 @@ def operations_of(value):
             return deleted(value, value["count"])
 
 
+@functools.lru_cache(4096)
 def operations(line):
     """Returns the operations of a line; none if it is no operation."""
     try:
@@ -156,12 +161,13 @@ class Mended:
         # What stands after the last newline is taken as a line is, if it is an operation.
         read = [(part, operations(part.removesuffix(b"\n"))) for part in [*(line + b"\n" for line in lines), rest]]
         self.stay = {}
-        for inserted, line in (it for _, own in read for it in own):
+        for _, inserted, line in (it for _, own in read for it in own):
             if inserted:
                 self.stay[inserted] = min(line, self.stay.get(inserted, line))
         self.log, self.refused = b"", b""
         for part, own in read:
             self._take(part, own)
+        self._fit()
 
     def _take(self, part, own):
         kept = [it.line for it in own if it.line == self.stay.get(it.inserted, it.line)]
@@ -170,6 +176,19 @@ class Mended:
         else:
             self.refused += part
             self.log += b"".join(kept)
+
+    def _fit(self):
+        """Leaves out each line for which there is no room, and ends the last one that stays."""
+        known, stay, excess = set(), b"", b""
+        for line in filter(None, self.log.split(b"\n")):
+            new = {it.known for it in operations(line)} - known
+            if len(known) + len(new) <= ROOM:
+                known |= new
+                stay += line + b"\n"
+            else:
+                excess += line + b"\n"
+        if self.refused or excess:
+            self.log, self.refused = stay, excess + self.refused
 
     def all_operations(self):
         return {it.line for line in self.log.splitlines() for it in operations(line)}
@@ -413,9 +432,33 @@ def play(mgr, seed):
     return wanted[0].log.count(b"\n"), len(wanted[0].refused)
 
 
-def tried(mgr, seed):
+def large_log(seed):
+    """Returns a log for which there is hardly room: runs, deletions, lines that are known, and perhaps no operation."""
+    chance, lines, count = random.Random(seed), [], 0
+    most = ROOM + (1, 20000)[seed % 2]
+    while count < most:
+        length = min(chance.choice((1, 7, 500, MOST, MOST)), most - count)
+        row = [((0, 0), "a"), *[(None, "b")] * (length - 1)]
+        chosen = chance.choice((compactions.run(row, (count + 1, 1)), compactions.deletions((count + 1, 1), length)))
+        lines.append(chosen.encode())
+        count += length
+    others = [deletion((at, 2)).encode() for at in range(1, chance.choice((2, 900)))]
+    others += [insertion((at, 3), (0, 0), "c").encode() for at in range(1, 4)] + chance.sample(lines, 3)
+    for line in others + [b"x\n"] * chance.randrange(2):
+        lines.insert(chance.randrange(len(lines) // 2, len(lines) + 1), line)
+    return b"".join(lines).removesuffix(chance.choice((b"", b"\n")))
+
+
+def play_large(mgr, seed):
+    """The same of a log of more identifiers than a note has room for."""
+    with tempfile.TemporaryDirectory() as name:
+        wanted = Note(mgr, pathlib.Path(name) / "one", large_log(seed)).mend()
+    return wanted.log.count(b"\n"), len(wanted.refused)
+
+
+def tried(mgr, seed, logs):
     try:
-        return play(mgr, seed)
+        return play(mgr, seed) if seed < logs else play_large(mgr, seed)
     except (Unexpected, OSError, subprocess.SubprocessError) as fault:
         raise Unexpected(f"log {seed}: {fault}") from fault
 
@@ -424,7 +467,7 @@ def main(mgr, logs=LOGS):
     mgr = str(pathlib.Path(mgr).resolve())
     with ThreadPoolExecutor(os.cpu_count()) as pool:
         try:
-            counts = list(pool.map(lambda seed: tried(mgr, seed), range(int(logs))))
+            counts = list(pool.map(lambda seed: tried(mgr, seed, int(logs)), range(int(logs) + LARGE)))
         except Unexpected as fault:
             sys.exit(str(fault))
     damaged = sum(bool(refused) for _, refused in counts)

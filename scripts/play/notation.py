@@ -22,7 +22,8 @@ OPERATION = re.compile(
     r"(?:(\\x[0-9a-f]{2}|\\u\{[0-9a-f]+\}|\\.|.)(\d+)\.(\d+)<(\d+)\.(\d+)|-(\d+)\.(\d+))(?:\*(\d+)\+(\d+))?$"
 )
 
-RUN = re.compile(r"run:(\d+)\.(\d+)<(\d+)\.(\d+):(.*)$")
+# How many runs, each after the one before, and the first one's identifier, parent and text.
+RUN = re.compile(r"run(?:\*(\d+))?:(\d+)\.(\d+)<(\d+)\.(\d+):(.*)$")
 
 DELETIONS = re.compile(r"-(\d+)\.(\d+)\*(\d+)$")
 
@@ -92,7 +93,7 @@ def _key(word):
 def lines_of(written):
     """Returns the bytes of lines: `a1.1<0.0` inserts, `-1.1` deletes, `run:1.1<0.0:ab` is a run.
 
-    `-1.1*3` is a run of three deletions, `head` begins an exchange, and `end:2` ends one. `a1.1<0.0*9+2` are nine
+    `run*3:1.1<0.0:ab` are three such runs, each after the one before. `-1.1*3` is a run of three deletions, `head` begins an exchange, and `end:2` ends one. `a1.1<0.0*9+2` are nine
     insertions of `a`, each with a counter 2 above the one before, and `-1.1*9+2` nine such deletions.
 
     A word in quotes stands for itself, and a point takes away the last byte, as the newline of a line.
@@ -113,8 +114,7 @@ def _line(word):
         return b'{"count":%d,"op":"end"}\n' % int(end[1])
     run = RUN.match(word)
     if run:
-        text = json.dumps(text_of(run[5]).decode(), ensure_ascii=False).encode()
-        return b'{"id":[%d,%d],"op":"run","parent":[%d,%d],"text":%s}\n' % (*map(int, run.groups()[:4]), text)
+        return _runs(int(run[1] or 1), *map(int, run.groups()[1:5]), text=text_of(run[6]).decode())
     deletions = DELETIONS.match(word)
     if deletions:
         counter, replica, count = map(int, deletions.groups())
@@ -123,6 +123,16 @@ def _line(word):
     if not operation:
         raise Unreadable(f"no line is written {word}")
     return _operations(*operation.groups())
+
+
+def _runs(times, counter, replica, *parent, text):
+    lines = b""
+    for _ in range(times):
+        said = json.dumps(text, ensure_ascii=False).encode()
+        lines += b'{"id":[%d,%d],"op":"run","parent":[%d,%d],"text":%s}\n' % (counter, replica, *parent, said)
+        counter += len(text)
+        parent = counter - 1, replica
+    return lines
 
 
 def _operations(sign, counter, replica, parent, of, deleted, by, count, step):

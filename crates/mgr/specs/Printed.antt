@@ -17,12 +17,15 @@ beaten_text n = if n == 0 then [] else (if n == 1 then codes "1 line conflicts w
 abbrev pub torn_text : Bool → List ℕ
 torn_text torn = if torn then codes "the last line was cut off\n" else []
 
+abbrev pub excess_text : ℕ → List ℕ
+excess_text n = if n == 0 then [] else (if n == 1 then codes "1 line would bring more than 1,000,000 identifiers\n" else (decimal n ++ codes " lines would bring more than 1,000,000 identifiers\n"))
+
 abbrev pub is_nothing : LeftOut → Bool
-is_nothing left = ((left.faulty == 0) && (left.beaten == 0)) && not left.torn
+is_nothing left = (((left.faulty == 0) && (left.beaten == 0)) && not left.torn) && (left.excess == 0)
 
 -- and where they are
 abbrev pub left_out_text : LeftOut → List ℕ
 left_out_text left =
     if is_nothing left then codes "nothing to mend\n"
-    else (faulty_text left.faulty ++ (beaten_text left.beaten ++ (torn_text left.torn
-    ++ codes "What was left out is in .ops.refused, beside the log; the old log is there too, with a ~.\nWhoever wrote what was left out goes on under another number.\n")))
+    else (faulty_text left.faulty ++ (beaten_text left.beaten ++ (torn_text left.torn ++ (excess_text left.excess
+    ++ codes "What was left out is in .ops.refused, beside the log; the old log is there too, with a ~.\nWhoever wrote what was left out goes on under another number.\n"))))

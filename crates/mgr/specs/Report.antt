@@ -184,7 +184,7 @@ merge_message name logs (merge.Load fault) = log_name name ++ (codes ": " ++ loa
 merge_message name logs (merge.Log index fault) = named_text (slice_get logs index) (show_message fault)
 merge_message name logs (merge.Apart index) = named_text (slice_get logs index) (codes "a log of another note, which --adopt takes")
 merge_message name logs (merge.Far index) = named_text (slice_get logs index) (codes "counter far above the note's")
-merge_message name logs merge.TextStays =
+merge_message name logs (merge.TextStays torn) =
     name ++ (codes ": " ++ codes "the text stays: it is not the log's, but another program's or an older one (remove it, and mgr merge puts it anew)")
 merge_message name logs merge.File = codes "device fault"
 merge_message name logs (merge.Memory _) = codes "out of memory"

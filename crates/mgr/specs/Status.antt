@@ -11,8 +11,8 @@ use Rattle.mgr_args.specs.declared.job.JobFault.{JobFault}
 use Rattle.mgr_args.specs.declared.job.JobFault.TheVariants.{Help, Version, Usage, Memory}
 use Rattle.mgr_show.specs.Log.{log_of}
 use Rattle.mgr.specs.Printed.{count_line, left_out_text}
-use Rattle.mgr.specs.Report.{answer_status, join_message, join_status, merge_message, merge_status, missing_message, missing_status, session_message, session_status, show_message, show_status, source_message}
-use Rattle.mgr.specs.Telling.{KnownTelling, TellsMore, answer_telling, line, text, torn_telling}
+use Rattle.mgr.specs.Report.{answer_status, join_message, join_status, merge_status, missing_message, missing_status, session_message, session_status, show_message, show_status, source_message}
+use Rattle.mgr.specs.Telling.{KnownTelling, TellsMore, answer_telling, line, merge_telling, text, torn_telling}
 use Rattle.mg_session.specs.declared.fault.SessionFault.{SessionFault}
 use Rattle.mg_session.specs.declared.fault.SessionFault.TheVariants as session
 use Rattle.mg_files.specs.Calls.{Call}
@@ -32,9 +32,9 @@ use Rattle.mgr_show.specs.declared.fault.MissingFault.{MissingFault}
 use Rattle.mgr_show.specs.declared.fault.MissingFault.TheVariants as missing
 use Rattle.mgr_show.specs.Memory.{MissingMemory}
 use Rattle.mgr_mend.specs.Ends.{MendsInPart, mended_standing}
-use Rattle.mgr_mend.specs.Mending.{left_out_of, mended, refused_of}
+use Rattle.mgr_mend.specs.Fitting.{all_left_out, all_refused, fitted}
 use Rattle.mgr_mend.specs.declared.mended.LeftOut.{LeftOut}
-use Rattle.mgr_mend.specs.Merging.{BeginsToPut, BeginsToWrite, FindsNoNote, IsOfLogs, IsOfNote, LeavesText, Merges, OnlyLoads, PutsNote, RefusesLogs, calls_failed, reads_failed as merge_reads_failed}
+use Rattle.mgr_mend.specs.Merging.{BeginsToPut, BeginsToWrite, FindsNoNote, IfStays, IsOfLogs, IsOfNote, LeavesText, Merges, OnlyLoads, PutsNote, RefusesLogs, calls_failed, reads_failed as merge_reads_failed}
 use Rattle.mgr_mend.specs.declared.merged.Merged.{Merged}
 use Rattle.mgr_mend.specs.declared.fault.MergeFault.{MergeFault}
 use Rattle.mgr_mend.specs.declared.fault.MergeFault.TheVariants as merge
@@ -240,11 +240,11 @@ module _ {P S W : Type 0} (calls : P → Option (List Call)) (port_failures : P 
     pub torn : IfOk answer (λ m. TellsMore before.told between (torn_telling logs m.torn.items))
     pub counted : IfOk answer (λ m. IsStatusOfPrint contents (Some (count_line m.new)) status before.output after.output between after.told)
     pub exact : IfErr answer (λ e. status ≡ merge_status e)
-    pub told_line : IfErr answer (λ e. TellsMore before.told after.told (line (merge_message name logs e) ∷ []))
+    pub told_line : IfErr answer (λ e. TellsMore before.told after.told (merge_telling name logs e))
     pub unwritten : OnErr answer (after.output ≡ before.output)
     pub note : IfErr answer (λ e. IsOfNote e → FindsNoNote (calls before.port) (calls after.port) name e)
     pub refused : IfErr answer (λ e. IsOfLogs e → OnLogs (files before.sources) logs (λ logs. RefusesLogs (calls before.port) (calls after.port) name adopt logs e))
-    pub stays : answer ≡ Err merge.TextStays → OnLogs (files before.sources) logs (λ logs. LeavesText (calls before.port) (calls after.port) name adopt logs)
+    pub stays : IfErr answer (λ e. IfStays e (λ torn. OnLogs (files before.sources) logs (λ logs. LeavesText (calls before.port) (calls after.port) name adopt logs torn)))
     pub unchanged : IfErr answer (λ e. e ≢ merge.File → e ≢ MergeMemory → OnlyLoads (calls before.port) (calls after.port) name)
     pub begun : OnErr answer (OnlyLoads (calls before.port) (calls after.port) name
         ⊎ OnLogs (files before.sources) logs (λ logs. BeginsToWrite (calls before.port) (calls after.port) name adopt logs))
@@ -265,7 +265,7 @@ module _ {P W : Type 0} (calls : P → Option (List Call)) (failures : P → ℕ
     pub printed : IsStatusOfPrint contents (Some (left_out_text left)) print_status before.output after.output before.told between
     pub done : OnOk answer ((status ≡ print_status) × (after.told ≡ between))
     pub exact : IfErr answer (λ e. status ≡ merge_status e)
-    pub told_line : IfErr answer (λ e. TellsMore between after.told (line (merge_message name [] e) ∷ []))
+    pub told_line : IfErr answer (λ e. TellsMore between after.told (merge_telling name [] e))
 
 module _ {P W : Type 0} (calls : P → Option (List Call)) (standing : P → List ℕ → Option Standing) (refused : P → List ℕ → Option (List ℕ)) (failures log_failures : P → ℕ) (contents : W → Option (List ℕ)) where
   -- That of an answer to `mend`, which says what became of the log of its name and of what was refused of it, where these are
@@ -273,15 +273,15 @@ module _ {P W : Type 0} (calls : P → Option (List Call)) (standing : P → Lis
   pub record IsStatusOfMend (name : List ℕ) (status : ℕ) (before after : MendSide P W) : Type 0 where
     pub answer : Result LeftOut ShowFault
     pub between : P
-    pub left_out : IfOk answer (λ left. IfSome (standing before.port name) (λ s. left ≡ left_out_of s.log))
-    pub keeps : OnOk answer (IfSome (standing before.port name) (λ s. standing between name ≡ Some (mended_standing (refused_of s.log) s)))
-    pub gained : OnOk answer (IfSome (standing before.port name) (λ s. Appends (refused before.port name) (refused between name) (refused_of s.log)))
+    pub left_out : IfOk answer (λ left. IfSome (standing before.port name) (λ s. left ≡ all_left_out s.log))
+    pub keeps : OnOk answer (IfSome (standing before.port name) (λ s. standing between name ≡ Some (mended_standing (all_refused s.log) s)))
+    pub gained : OnOk answer (IfSome (standing before.port name) (λ s. Appends (refused before.port name) (refused between name) (all_refused s.log)))
     pub follows : IfOk answer (λ left. IsStatusOfPut calls failures contents name left status (mend_side between before.output before.told) after)
     pub exact : IfErr answer (λ e. status ≡ show_status e)
     pub told_line : IfErr answer (λ e. TellsMore before.told after.told (line (source_message (log_name name) e) ∷ []))
     pub unwritten : OnErr answer ((after.output ≡ before.output) × (after.port ≡ between))
     pub begun : OnErr answer (IfSome (standing before.port name)
-        (λ s. MendsInPart (mended s.log) (refused_of s.log) s (standing between name) (refused before.port name) (refused between name)))
+        (λ s. MendsInPart (fitted s.log) (all_refused s.log) s (standing between name) (refused before.port name) (refused between name)))
     pub untouched : IfErr answer (λ e. e ≡ fault.Read → (standing between name ≡ standing before.port name) × (refused between ≡ refused before.port))
     pub others : SameElsewhere name (standing before.port) (standing between) × SameElsewhere name (refused before.port) (refused between)
     pub device : log_failures between ≡ failures_after_compaction answer (log_failures before.port)

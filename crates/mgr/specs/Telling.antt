@@ -2,7 +2,9 @@
 use Rattle.std.specs.Prelude.{◌≡◌, List, [], ◌∷◌, ◌++◌, ℕ, Option, Some, Result, Ok, Err, IfSome, map}
 use Rattle.mgr_args.specs.declared.job.JobFault.{JobFault}
 use Rattle.mgr_mend.specs.declared.merged.Torn.{Torn}
-use Rattle.mgr.specs.Report.{torn_message}
+use Rattle.mgr_mend.specs.declared.fault.MergeFault.{MergeFault}
+use Rattle.mgr_mend.specs.declared.fault.MergeFault.TheVariants.{TextStays}
+use Rattle.mgr.specs.Report.{merge_message, torn_message}
 
 -- a line, without its newline, or the text of a fault of the command line
 pub data Telling : Type 0 where
@@ -25,3 +27,12 @@ answer_telling message (Err fault) = line (message fault) ∷ []
 -- of logs with these names, a line for each of which the last line was left out
 abbrev pub torn_telling : List (List ℕ) → List Torn → List Telling
 torn_telling names torn = map (λ log. line (torn_message names log)) torn
+
+-- those that were taken before a fault of a merge
+abbrev pub torn_before : MergeFault → List Torn
+torn_before (TextStays torn) = torn.items
+torn_before e = []
+
+-- of the fault of a merge of logs with these names into the note with this name: these lines, and then that of the fault
+abbrev pub merge_telling : List ℕ → List (List ℕ) → MergeFault → List Telling
+merge_telling name logs e = torn_telling logs (torn_before e) ++ line (merge_message name logs e) ∷ []

@@ -43,14 +43,15 @@ impl fmt::Display for Mending {
         let faulty = Faulty(left_out.faulty);
         let beaten = Beaten(left_out.beaten);
         let torn = CutOff(left_out.torn);
-        write!(f, "{faulty}{beaten}{torn}{KEPT}")
+        let excess = Excess(left_out.excess);
+        write!(f, "{faulty}{beaten}{torn}{excess}{KEPT}")
     }
 }
 
 fn is_nothing(left_out: LeftOut) -> bool
     ensures { result ≡ spec.is_nothing left_out }
 {
-    left_out.faulty == 0 && left_out.beaten == 0 && !left_out.torn
+    left_out.faulty == 0 && left_out.beaten == 0 && !left_out.torn && left_out.excess == 0
 }
 
 /// So many lines that are no operation.
@@ -105,5 +106,25 @@ impl fmt::Display for CutOff {
             return Ok(());
         }
         write!(f, "the last line was cut off\n")
+    }
+}
+
+/// So many lines that a note has no room for.
+#[derive(Clone, Copy)]
+struct Excess(u64);
+
+impl fmt::Display for Excess {
+    ghost output = { λ excess. Some (spec.excess_text excess.0) };
+
+    fn fmt<W: fmt::Write>(&self, f: &mut fmt::Formatter<W>) -> fmt::Result {
+        let number = self.0;
+        if number == 0 {
+            return Ok(());
+        }
+        if number == 1 {
+            write!(f, "1 line would bring more than 1,000,000 identifiers\n")
+        } else {
+            write!(f, "{number} lines would bring more than 1,000,000 identifiers\n")
+        }
     }
 }

@@ -4,11 +4,11 @@ ghost use Rattle.std.specs.Prelude.{Err, IfErr, MatchResult, option_map};
 ghost use Rattle.rga_exchange.specs.Counting.{CountsAs, StaysFlushed, one_more};
 ghost use Rattle.mg_session.specs.Running.{devices};
 ghost use Rattle.mg_session.specs.declared.fault.SessionFault.TheVariants as session;
-ghost use Rattle.mgr.specs.Report.{answer_status, join_message, join_status, merge_message, merge_status};
+ghost use Rattle.mgr.specs.Report.{answer_status, join_message, join_status, merge_status};
 ghost use Rattle.mgr.specs.Report.{missing_message, missing_status, named_text, report_text, show_status};
 ghost use Rattle.mgr.specs.Report.{session_message, session_status, show_message, source_message, torn_message};
 ghost use Rattle.mgr_show.specs.Note.{log_name, log_source};
-ghost use Rattle.mgr.specs.Telling.{TellsMore, answer_telling, line, torn_telling};
+ghost use Rattle.mgr.specs.Telling.{TellsMore, answer_telling, line, merge_telling, torn_telling};
 ghost use Rattle.mgr.specs.Status as status;
 ghost use Rattle.mgr.specs.Peers as spec;
 
@@ -335,11 +335,12 @@ fn told_of_named<T: Tell>(errors: &mut T, names: &[String], at: usize, report: R
     told_of_log(errors, names.get(at), report)
 }
 
-/// Tells of the fault of a merge into the note of a name, and answers its exit status.
+/// Tells of the fault of a merge into the note of a name, after each log of which a last line was
+/// left out, and answers its exit status.
 fn told_of_merge<T: Tell>(errors: &mut T, name: &str, logs: &[String], fault: MergeFault) -> u8
     ensures status { result ≡ merge_status fault }
     ensures told { TellsMore (T.told errors.old) (T.told errors.new)
-        (line (merge_message name.now (map string_bytes logs.now) fault) ∷ []) }
+        (merge_telling name.now (map string_bytes logs.now) fault) }
 {
     match fault {
         MergeFault::NoLog => told_of(errors, name, refused(Message::Note("text without a log"))),
@@ -357,7 +358,10 @@ fn told_of_merge<T: Tell>(errors: &mut T, name: &str, logs: &[String], fault: Me
             let report = refused(Message::Note("counter far above the note's"));
             told_of_named(errors, logs, at, report)
         }
-        MergeFault::TextStays => told_of(errors, name, refused(Message::Note(TEXT_STAYS))),
+        MergeFault::TextStays(torn) => {
+            tell_torn(errors, logs, &torn);
+            told_of(errors, name, refused(Message::Note(TEXT_STAYS)))
+        }
         MergeFault::File => told(errors, Report::DEVICE),
         MergeFault::Memory(_) => told(errors, Report::MEMORY),
     }

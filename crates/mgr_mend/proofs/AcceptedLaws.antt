@@ -155,4 +155,4 @@ accepted_counts bytes only agreed =
     let faulty = count_none is_faulty all (lines_of bytes) (faulty_none all (lines_of bytes) kept.lines_are) in
     let beaten = count_none is_beaten_line all (all_lines bytes) (beaten_none all (all_lines bytes) (unbeaten_lines all (all_lines bytes) (agreed_beaten all agree))) in
     let torn = torn_none all (rest_of bytes) kept.rest_is in
-    λ i. record { faulty = faulty i; beaten = beaten i; torn = torn i }
+    λ i. record { faulty = faulty i; beaten = beaten i; torn = torn i; excess = 0 }

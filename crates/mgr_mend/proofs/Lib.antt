@@ -3,8 +3,10 @@ pub mod BeatsLemmas
 pub mod LeastLemmas
 pub mod LinesLemmas
 pub mod MendedLemmas
+pub mod FittingLemmas
 pub mod AcceptedLaws
 pub mod StayingLaws
+pub mod FittingLaws
 pub mod NoteLaws
 pub mod GuardLemmas
 pub mod TakingLemmas

@@ -13,9 +13,9 @@ use Rattle.mgr_show.specs.Joined.{all_told, in_front}
 use Rattle.rga_ops.specs.Content.{clock_of}
 use Rattle.mgr_mend.specs.Beside.{Beside}
 use Rattle.mgr_mend.specs.Taking.{HasTaken, logs_taken, merged_from}
-use Rattle.mgr_mend.specs.Merging.{IsOfLogs, IsOfNote, BeginsInto, BeginsToPut, BeginsToWrite, GoesOn, LeavesAll, LeavesText, LoadsNote, Merges, MergesInto, OnlyLoads, RefusesLogs, Stays, StopsWriting, first_calls, owner, taking_outcome, write_calls}
+use Rattle.mgr_mend.specs.Merging.{IfStays, IsOfLogs, IsOfNote, BeginsInto, BeginsToPut, BeginsToWrite, GoesOn, LeavesAll, LeavesText, LoadsNote, Merges, MergesInto, OnlyLoads, RefusesLogs, Stays, StopsWriting, first_calls, owner, taking_outcome, write_calls}
 use Rattle.mgr_mend.specs.declared.fault.MergeFault.{MergeFault}
-use Rattle.mgr_mend.specs.declared.fault.MergeFault.TheVariants.{File}
+use Rattle.mgr_mend.specs.declared.fault.MergeFault.TheVariants.{NoLog, Load, Log, Apart, Far, TextStays, File, Memory as OfMemory}
 use Rattle.mgr_mend.specs.Memory.{MergeMemory as Memory}
 use Rattle.mgr_mend.specs.declared.merged.Torn.{Torn}
 use Rattle.mgr_mend.specs.declared.text.Owner.{Owner}
@@ -42,12 +42,11 @@ as_told P is h = subst (λ (o : Option (List (List ℕ))). IfSome o P) is h
 
 pub leaves_all : (known : Option (List (List ℕ))) (s : Beside) (o : Owner) (torn : List Torn) (adopt : Bool) {b c : OpenState} {m : State} → c ≡ b
     → IfSome known (λ logs. merged_from adopt (clock_of c.buffer.content) c.buffer.limit 0 c.buffer.content logs ≡ Ok (logs_taken m.content torn))
-    → HasTaken c.buffer m → IfSome known (λ logs. o ≡ owner s.text m.content logs) → Stays o (record c { buffer = m }) → IfSome known (λ logs. LeavesAll b s adopt logs)
+    → HasTaken c.buffer m → IfSome known (λ logs. o ≡ owner s.text m.content logs) → Stays o (record c { buffer = m }) → IfSome known (λ logs. LeavesAll b s adopt logs torn)
 leaves_all None s o torn adopt is h follows owned stays = tt
 leaves_all (Some logs) s o torn adopt {b} {c} {m} is h follows owned stays =
-    subst (λ x. LeavesAll x s adopt logs) is (record {
+    subst (λ x. LeavesAll x s adopt logs torn) is (record {
       d = record c { buffer = m };
-      torn = torn;
       takes = record { outcome = h; follows = follows; rest = refl };
       stays = (sym owned ∙ stays.0, stays.1);
     })
@@ -61,6 +60,16 @@ pub begins_into : (known : Option (List (List ℕ))) (calls more : Option (List 
 begins_into known calls more b d s o adopt torn fault goes stops = IfSome_then known goes (λ logs g. record { d = d; torn = torn; o = o; goes = g; fault = fault; stops = stops })
 
 -- ---- of a note that was loaded
+
+pub if_stays : (e : MergeFault) {P Q : List Torn → Type 0} → ((torn : List Torn) → P torn → Q torn) → IfStays e P → IfStays e Q
+if_stays (TextStays torn) f h = f torn.items h
+if_stays NoLog f h = tt
+if_stays (Load e) f h = tt
+if_stays (Log n e) f h = tt
+if_stays (Apart n) f h = tt
+if_stays (Far n) f h = tt
+if_stays File f h = tt
+if_stays (OfMemory m) f h = tt
 
 pub is_loaded : {A : Type 0} (P : MergeFault → Type 0) (r : Result A MergeFault) → IfErr r (λ e. ¬ (IsOfNote e)) → IfErr r (λ e. IsOfNote e → P e)
 is_loaded P r h = IfErr-weaker r (λ e. ¬ (IsOfNote e)) (λ e. IsOfNote e → P e) (λ e not own. absurd (not own)) h
@@ -78,8 +87,9 @@ module _ {A : Type 0} (calls between more : Option (List Call)) (name : List ℕ
   pub refuses : IfErr r (λ e. IsOfLogs e → (more ≡ between) × IfSome known (λ logs. taking_outcome b adopt logs ≡ Err e)) → IfErr r (λ e. IsOfLogs e → IfSome known (λ logs. RefusesLogs calls more name adopt logs e))
   refuses h = IfErr-weaker r (λ e. IsOfLogs e → (more ≡ between) × IfSome known (λ logs. taking_outcome b adopt logs ≡ Err e)) _ (λ e why own. let w = why own in IfSome_then known w.1 (λ logs is. record { b = b; s = s; loads = loads_alone w.0; outcome = is })) h
 
-  pub leaves : (more ≡ between) × IfSome known (λ logs. LeavesAll b s adopt logs) → IfSome known (λ logs. LeavesText calls more name adopt logs)
-  leaves (same, h) = IfSome_then known h (λ logs all. record { b = b; s = s; loads = loads_alone same; leaves = all })
+  pub leaves : IfErr r (λ e. IfStays e (λ torn. (more ≡ between) × IfSome known (λ logs. LeavesAll b s adopt logs torn))) → IfErr r (λ e. IfStays e (λ torn. IfSome known (λ logs. LeavesText calls more name adopt logs torn)))
+  leaves h = IfErr-weaker r (λ e. IfStays e (λ torn. (more ≡ between) × IfSome known (λ logs. LeavesAll b s adopt logs torn))) _
+      (λ e. if_stays e (λ torn stays. IfSome_then known stays.1 (λ logs all. record { b = b; s = s; loads = loads_alone stays.0; leaves = all }))) h
 
   pub unwritten : IfErr r (λ e. e ≢ File → e ≢ Memory → more ≡ between) → IfErr r (λ e. e ≢ File → e ≢ Memory → OnlyLoads calls more name)
   unwritten h = IfErr-weaker r (λ e. e ≢ File → e ≢ Memory → more ≡ between) _ (λ e same file memory. only_loads (same file memory)) h

@@ -9,7 +9,7 @@ use Rattle.mg_files.specs.declared.port.PortFault.{PortFault}
 use Rattle.mgr_port.specs.Disk.{whole_steps}
 use Rattle.mgr_port.specs.Logs.{Standing, StaysSame, StopsEarly, Names, AppendsFront, left, renamed, raised}
 use Rattle.mgr_port.proofs.LogsLaws.{all_written, gains_front}
-use Rattle.mgr_mend.specs.Mending.{mended, refused_of}
+use Rattle.mgr_mend.specs.Fitting.{fitted, all_refused}
 use Rattle.mgr_mend.specs.Ends.{MendsInPart, mended_standing}
 
 -- ---- what stands there
@@ -46,14 +46,14 @@ made_of P f g (Some s) opened bytes log refused same whole one two holds =
     let here : P log refused s = subst (λ o. IfSome o (P log refused)) same holds in
     subst (λ l. P l (g s.log) s) (one ∙ ap f whole) (subst (λ l. P log l s) (two ∙ ap g whole) here)
 
-renamed_for : (refused : List ℕ) (s : Standing) → (length refused == 0) ≡ false → renamed whole_steps (mended s.log) ≡ mended_standing refused s
+renamed_for : (refused : List ℕ) (s : Standing) → (length refused == 0) ≡ false → renamed whole_steps (fitted s.log) ≡ mended_standing refused s
 renamed_for [] s e = let no : true ≡ false = e in absurd cc
 renamed_for (byte ∷ refused) s e = refl
 
 -- else the mended log does, where that was given the name
 pub some_refused : (g : List ℕ → List ℕ) (standing found : Option Standing) (bytes refused : List ℕ)
     → IfSome standing (λ s. bytes ≡ s.log) → refused ≡ g bytes → (length refused == 0) ≡ false
-    → IfSome standing (λ s. found ≡ Some (renamed whole_steps (mended s.log))) → IfSome standing (λ s. found ≡ Some (mended_standing (g s.log) s))
+    → IfSome standing (λ s. found ≡ Some (renamed whole_steps (fitted s.log))) → IfSome standing (λ s. found ≡ Some (mended_standing (g s.log) s))
 some_refused g None found bytes refused whole is some named = tt
 some_refused g (Some s) found bytes refused whole is some named =
     named ∙ ap (λ (t : Standing). Some t) (renamed_for (g s.log) s (subst (λ (l : List ℕ). (length l == 0) ≡ false) (is ∙ ap g whole) some))
@@ -87,10 +87,10 @@ nothing_begun bytes refused standing found kept now same front =
 
 -- of the bytes that were made of those of a log, which was opened
 pub mends_part : (standing opened found : Option Standing) (before kept now : Option (List ℕ)) (bytes log refused : List ℕ)
-    → opened ≡ standing → before ≡ kept → IfSome standing (λ s. bytes ≡ s.log) → log ≡ mended bytes → refused ≡ refused_of bytes
-    → IfSome opened (λ s. MendsInPart log refused s found before now) → IfSome standing (λ s. MendsInPart (mended s.log) (refused_of s.log) s found kept now)
+    → opened ≡ standing → before ≡ kept → IfSome standing (λ s. bytes ≡ s.log) → log ≡ fitted bytes → refused ≡ all_refused bytes
+    → IfSome opened (λ s. MendsInPart log refused s found before now) → IfSome standing (λ s. MendsInPart (fitted s.log) (all_refused s.log) s found kept now)
 mends_part standing opened found before kept now bytes log refused same is whole one two holds =
-    made_of (λ bytes gone s. MendsInPart bytes gone s found kept now) mended refused_of standing opened bytes log refused same whole one two
+    made_of (λ bytes gone s. MendsInPart bytes gone s found kept now) fitted all_refused standing opened bytes log refused same whole one two
     (subst (λ o. IfSome opened (λ s. MendsInPart log refused s found o now)) is holds)
 
 -- ---- how many calls failed

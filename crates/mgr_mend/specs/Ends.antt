@@ -3,12 +3,12 @@ use Rattle.std.specs.Prelude.{◌⊎◌, ℕ, List, [], ◌∷◌, Option}
 use Rattle.std.specs.Io.KnownBytes.{Appends}
 use Rattle.mgr_port.specs.Disk.{whole_steps}
 use Rattle.mgr_port.specs.Logs.{Standing, StaysSame, StopsEarly, AppendsFront, renamed}
-use Rattle.mgr_mend.specs.Mending.{mended}
+use Rattle.mgr_mend.specs.Fitting.{fitted}
 
 -- what stands there in the end, where this is refused: the mended log, written anew; with nothing refused what stood there
 abbrev pub mended_standing : List ℕ → Standing → Standing
 mended_standing [] s = s
-mended_standing (byte ∷ refused) s = renamed whole_steps (mended s.log)
+mended_standing (byte ∷ refused) s = renamed whole_steps (fitted s.log)
 
 -- An error was answered: at least one step is missing. The old log stands there, and a beginning of what is refused was
 -- kept. Or all of that was kept before a file beside was made with the mended bytes: then it has the name, if the last step

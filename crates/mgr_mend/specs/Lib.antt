@@ -1,5 +1,6 @@
 pub mod CompactionEnds
 pub mod Mending
+pub mod Fitting
 pub mod Parts
 pub mod Ends
 pub mod Beside

@@ -158,7 +158,8 @@ left_out_of bytes = record {
   faulty = fate_count is_faulty (whole_operations bytes) (lines_of bytes);
   beaten = fate_count is_beaten_line (whole_operations bytes) (all_lines bytes);
   torn = is_torn (whole_operations bytes) (rest_of bytes);
+  excess = 0;
 }
 
 abbrev pub nothing_left_out : LeftOut
-nothing_left_out = record { faulty = 0; beaten = 0; torn = false }
+nothing_left_out = record { faulty = 0; beaten = 0; torn = false; excess = 0 }

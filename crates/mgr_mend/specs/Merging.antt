@@ -116,7 +116,7 @@ IsOfFinding fault = ⊥
 abbrev pub IsOfTaking : MergeFault → Type 0
 IsOfTaking NoLog = ⊥
 IsOfTaking (Load e) = ⊥
-IsOfTaking TextStays = ⊥
+IsOfTaking (TextStays torn) = ⊥
 IsOfTaking File = ⊥
 IsOfTaking fault = ⊤
 
@@ -126,6 +126,11 @@ IsOfMerging NoLog = ⊥
 IsOfMerging (Load e) = ⊥
 IsOfMerging File = ⊥
 IsOfMerging fault = ⊤
+
+-- what holds of the logs whose last line was left out, where the fault is that the text stays
+abbrev pub IfStays : MergeFault → (List Torn → Type 0) → Type 0
+IfStays (TextStays torn) Holds = Holds torn.items
+IfStays fault Holds = ⊤
 
 -- faults of logs that are read alone
 abbrev pub IsOfReading : MergeFault → Type 0
@@ -192,9 +197,8 @@ pub record GoesOn (b : OpenState) (s : Beside) (adopt : Bool) (logs : List (List
   pub goes : ¬ (Stays o d)
 
 -- it took the logs, nothing was new, and the text of another program stands there
-pub record LeavesAll (b : OpenState) (s : Beside) (adopt : Bool) (logs : List (List ℕ)) : Type 0 where
+pub record LeavesAll (b : OpenState) (s : Beside) (adopt : Bool) (logs : List (List ℕ)) (torn : List Torn) : Type 0 where
   pub d : OpenState
-  pub torn : List Torn
   pub takes : TakesLogs b adopt logs d torn
   pub stays : Stays (owner s.text d.buffer.content logs) d
 
@@ -222,11 +226,11 @@ pub record RefusesLogs (calls more : Option (List Call)) (name : List ℕ) (adop
   pub outcome : taking_outcome b adopt logs ≡ Err e
 
 -- the note was loaded, and left as it is for its text
-pub record LeavesText (calls more : Option (List Call)) (name : List ℕ) (adopt : Bool) (logs : List (List ℕ)) : Type 0 where
+pub record LeavesText (calls more : Option (List Call)) (name : List ℕ) (adopt : Bool) (logs : List (List ℕ)) (torn : List Torn) : Type 0 where
   pub b : OpenState
   pub s : Beside
   pub loads : LoadsNote calls more name b s
-  pub leaves : LeavesAll b s adopt logs
+  pub leaves : LeavesAll b s adopt logs torn
 
 -- ---- a beginning
 

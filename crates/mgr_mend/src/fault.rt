@@ -3,6 +3,7 @@ ghost use Rattle.std.specs.Prelude.{◌≡◌};
 ghost use Rattle.mgr_mend.specs.Merging.{at_log, load_fault, port_fault};
 ghost use Rattle.mgr_mend.specs.Memory.{MergeMemory as Memory};
 
+use crate::merged::Torn;
 use mg_files::{LoadFault, PortFault};
 use mgr_show::ShowFault;
 use rga_ops::OutOfMemory;
@@ -10,7 +11,7 @@ use std::alloc::AllocError;
 
 /// Why `mgr merge` leaves a note as it was, or, with `File` and `Memory`, may have written a part
 /// of it. Logs are named by their index, from 0.
-#[derive(Clone, Copy, PartialEq, Eq)]
+#[derive(Drop)]
 pub enum MergeFault {
     /// There is a text under the name, and no log: its characters are in no operation.
     NoLog,
@@ -24,8 +25,9 @@ pub enum MergeFault {
     /// An operation of this log is new, and its counter is more than 2^32 above all that the note
     /// knows.
     Far(usize),
-    /// Nothing is new, and the text that stands there is neither the note's nor that of a log.
-    TextStays,
+    /// Nothing is new, and the text that stands there is neither the note's nor that of a log. These
+    /// logs had a last line that was cut off and left out.
+    TextStays(Vec<Torn>),
     /// A file of the note could not be read or written, or something else has it open.
     File,
     /// A growth of memory was refused.

@@ -6,12 +6,15 @@ ghost use Rattle.rga_lines.specs.Log.{log_operations, HasOnlyOperations};
 ghost use Rattle.rga_exchange.specs.Sending.{AreWritable};
 ghost use Rattle.mgr_port.specs.Disk.{DiskStep, Place, MayBeMade, IsUntouched, MayBeFound, behind_steps};
 ghost use Rattle.mgr_mend.specs.Mending.{whole_operations, IsBeaten, unbeaten, mended, refused_of};
+ghost use Rattle.mgr_mend.specs.Fitting.{fitted};
 ghost use Rattle.mgr_mend.specs.Mending.{left_out_of, nothing_left_out, StaysWhole, IsLeftOut};
 
 mod compaction;
+mod fitting;
 mod merging;
 
 pub use compaction::a_note_keeps_its_content_whenever_the_machine_stops;
+pub use fitting::{a_mended_log_with_room_stays, a_mended_note_is_read};
 pub use merging::a_merge_holds_the_join;
 
 /// A log that has only operations, no two of which are insertions of one identifier that differ,
@@ -64,7 +67,7 @@ pub fn each_line_stays_or_is_left_out()
 /// its name, or behind those that it gave up, the old log stands under the name or the mended one.
 pub fn a_note_is_the_old_or_the_mended_one_whenever_the_machine_stops()
     ensures { (bytes : List ℕ) (found : Option (List ℕ)) (p : Place) (made : List DiskStep)
-        → IsUntouched p → MayBeMade (mended bytes) made
+        → IsUntouched p → MayBeMade (fitted bytes) made
         → MayBeFound (Some bytes) (behind_steps p made) found
-        → (found ≡ Some bytes) ⊎ (found ≡ Some (mended bytes)) }
+        → (found ≡ Some bytes) ⊎ (found ≡ Some (fitted bytes)) }
 {}

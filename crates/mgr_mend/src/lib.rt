@@ -23,6 +23,7 @@
 mod compaction;
 mod fate;
 mod fault;
+mod fitting;
 mod guards;
 mod judging;
 pub mod laws;
@@ -38,6 +39,7 @@ mod writing;
 
 pub use compaction::compact_note;
 pub use fault::MergeFault;
+pub use fitting::mend_for_note;
 pub use mended::{LeftOut, Mended, mend_log};
 pub use merge::{merge_logs, put_note};
 pub use merged::{Merged, Torn};

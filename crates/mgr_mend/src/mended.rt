@@ -23,6 +23,8 @@ pub struct LeftOut {
     pub beaten: u64,
     /// Whether what stands behind the last newline is no operation: a line that was cut off.
     pub torn: bool,
+    /// Lines that a note has no room for: it would know more than 1,000,000 identifiers.
+    pub excess: u64,
 }
 
 /// A mended log.
@@ -94,6 +96,7 @@ fn mend_lines(
         faulty,
         beaten: beaten + one_if(fate.is_beaten()),
         torn: is_torn(fate, rest),
+        excess: 0,
     };
     Ok(Mended {
         log,
@@ -120,7 +123,7 @@ fn is_torn(fate: Fate, rest: &[u8]) -> bool
     fate.is_faulty()
 }
 
-fn one_if(test: bool) -> u64
+pub(crate) fn one_if(test: bool) -> u64
     ensures { result ≡ spec.one_if test }
 {
     if test { 1 } else { 0 }

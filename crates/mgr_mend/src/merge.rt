@@ -1,8 +1,8 @@
 //! How logs are merged into a note.
-ghost use Rattle.std.specs.Prelude.{◌≡◌, ◌≢◌, ◌⊎◌, Err, map, string_bytes, IfOk, IfErr, OnOk, OnErr};
+ghost use Rattle.std.specs.Prelude.{◌≡◌, ◌≢◌, ◌⊎◌, Err, MatchBool, map, string_bytes, IfOk, IfErr, OnOk, OnErr};
 ghost use Rattle.mgr_show.specs.Joined.{OnLogs};
 ghost use Rattle.mgr_mend.specs.Merging.{BeginsInto, BeginsToPut, BeginsToWrite, FindsNoNote, OnlyLoads, RefusesLogs};
-ghost use Rattle.mgr_mend.specs.Merging.{IsOfFinding, IsOfLogs, IsOfMerging, IsOfNote};
+ghost use Rattle.mgr_mend.specs.Merging.{IfStays, IsOfFinding, IsOfLogs, IsOfMerging, IsOfNote};
 ghost use Rattle.mgr_mend.specs.Merging.{GoesOn, LeavesAll, LeavesText, Merges, MergesInto, PutsNote, Stays};
 ghost use Rattle.mgr_mend.specs.Merging.{calls_failed, reads_failed, taking_outcome};
 ghost use Rattle.mgr_mend.specs.Memory.{MergeMemory};
@@ -29,8 +29,8 @@ use std::alloc::Global;
 ///
 /// Faults, after which nothing is written: `NoLog` where there is a text and no log; `Load` with
 /// that of the note; then, for each log in turn, `Log` if it can't be read; `Apart`, unless the
-/// logs are to be adopted; `Log` with its first fault; `Far`; then `TextStays`. `File` and
-/// `Memory`.
+/// logs are to be adopted; `Log` with its first fault; `Far`; then `TextStays`, with the last lines
+/// that were left out. `File` and `Memory`.
 pub fn merge_logs<S: TextStore, P: Port, F: Sources>(
     alloc: Global,
     port: &mut P,
@@ -48,9 +48,9 @@ pub fn merge_logs<S: TextStore, P: Port, F: Sources>(
     ensures refused { IfErr result (λ e. IsOfLogs e
         → OnLogs (F.contents sources.old) (map string_bytes logs.now)
         (λ logs. RefusesLogs (P.calls port.old) (P.calls port.new) name.now adopt logs e)) }
-    ensures text_stays { result ≡ Err MergeFault.TextStays
-        → OnLogs (F.contents sources.old) (map string_bytes logs.now)
-        (λ logs. LeavesText (P.calls port.old) (P.calls port.new) name.now adopt logs) }
+    ensures text_stays { IfErr result (λ e. IfStays e (λ torn. OnLogs (F.contents sources.old)
+        (map string_bytes logs.now)
+        (λ logs. LeavesText (P.calls port.old) (P.calls port.new) name.now adopt logs torn))) }
     ensures unwritten { IfErr result (λ e. e ≢ MergeFault.File → e ≢ MergeMemory
         → OnlyLoads (P.calls port.old) (P.calls port.new) name.now) }
     // Whatever fails, nothing is written, or a beginning of what is to be.
@@ -82,9 +82,9 @@ fn merge_loaded<S: TextStore, P: Port, F: Sources>(
     ensures refused { IfErr result (λ e. IsOfLogs e
         → (P.calls port.new ≡ P.calls port.old) × OnLogs (F.contents sources.old)
         (map string_bytes logs.now) (λ logs. taking_outcome opened.old adopt logs ≡ Err e)) }
-    ensures text_stays { result ≡ Err MergeFault.TextStays
-        → (P.calls port.new ≡ P.calls port.old) × OnLogs (F.contents sources.old)
-        (map string_bytes logs.now) (λ logs. LeavesAll opened.old beside.now adopt logs) }
+    ensures text_stays { IfErr result (λ e. IfStays e (λ torn.
+        (P.calls port.new ≡ P.calls port.old) × OnLogs (F.contents sources.old)
+        (map string_bytes logs.now) (λ logs. LeavesAll opened.old beside.now adopt logs torn))) }
     ensures unwritten { IfErr result (λ e. e ≢ MergeFault.File → e ≢ MergeMemory
         → P.calls port.new ≡ P.calls port.old) }
     ensures begun { OnErr result ((P.calls port.new ≡ P.calls port.old)
@@ -115,31 +115,27 @@ fn merge_into<S: TextStore, F: Sources>(
     ensures refused { IfErr result (λ e. IsOfLogs e
         → OnLogs (F.contents sources.old) (map string_bytes logs.now)
         (λ logs. taking_outcome opened.old adopt logs ≡ Err e)) }
-    ensures text_stays { result ≡ Err MergeFault.TextStays
-        → OnLogs (F.contents sources.old) (map string_bytes logs.now)
-        (λ logs. LeavesAll opened.old beside.now adopt logs) }
+    ensures text_stays { IfErr result (λ e. IfStays e (λ torn. OnLogs (F.contents sources.old)
+        (map string_bytes logs.now) (λ logs. LeavesAll opened.old beside.now adopt logs torn))) }
     ensures fault { IfErr result (λ e. IsOfMerging e) }
     ensures reads { F.failures sources.new ≡ reads_failed result (F.failures sources.old) }
 {
     let torn = take_logs(alloc, sources, logs, adopt, &mut opened.buffer)?;
     let owner = owner_of(alloc, sources, logs, beside, &opened.buffer)?;
-    check_text(owner, opened)?;
+    if text_stays(owner, opened) {
+        return Err(MergeFault::TextStays(torn));
+    }
     Ok((torn, owner))
 }
 
-/// `TextStays` where nothing is new, and the text is that of another program.
-fn check_text<S: TextStore>(owner: Owner, opened: &VisitedBuffer<S>) -> Result<(), MergeFault>
-    ensures goes { OnOk result (¬ (Stays owner opened.now)) }
-    ensures stays { OnErr result (Stays owner opened.now) }
-    ensures fault { IfErr result (λ e. e ≡ MergeFault.TextStays) }
+/// Whether nothing is new, and the text is that of another program.
+fn text_stays<S: TextStore>(owner: Owner, opened: &VisitedBuffer<S>) -> bool
+    ensures { MatchBool result (Stays owner opened.now) (¬ (Stays owner opened.now)) }
 {
     if owner != Owner::Other {
-        return Ok(());
+        return false;
     }
-    if opened.buffer.unsaved().is_empty() {
-        return Err(MergeFault::TextStays);
-    }
-    Ok(())
+    opened.buffer.unsaved().is_empty()
 }
 
 /// Loads a note, and puts its text, whatever stands there: the port keeps that as at any save.

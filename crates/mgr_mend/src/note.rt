@@ -5,11 +5,12 @@ ghost use Rattle.mg_files.specs.Calls.{failures_after};
 ghost use Rattle.mgr_port.specs.Disk.{whole_steps};
 ghost use Rattle.mgr_port.specs.Logs.{SameElsewhere, StaysSame, StopsEarly, renamed};
 ghost use Rattle.mgr_mend.specs.CompactionEnds.{failures_after_compaction};
-ghost use Rattle.mgr_mend.specs.Mending.{mended, refused_of, left_out_of};
+ghost use Rattle.mgr_mend.specs.Fitting.{all_left_out, all_refused, fitted};
 ghost use Rattle.mgr_mend.specs.Ends.{MendsInPart, mended_standing};
 ghost use Rattle.mgr_show.specs.Memory.{ShowMemory};
 
-use crate::mended::{LeftOut, Mended, mend_log};
+use crate::fitting::mend_for_note;
+use crate::mended::{LeftOut, Mended};
 use mg_files::PortFault;
 use mgr_port::Logs;
 use mgr_show::ShowFault;
@@ -17,8 +18,8 @@ use rga_exchange::Counted;
 use std::alloc::Global;
 use std::io::Write;
 
-/// Mends the log of a note as `mend_log` does its bytes. What is refused is put behind what is kept
-/// as refused of it; then the mended log is written beside it and gets its name. The old log is
+/// Mends the log of a note as `mend_for_note` does its bytes. What is refused is put behind what is
+/// kept as refused of it; then the mended log is written beside it and gets its name. The old log is
 /// kept. If nothing is left out, nothing is written.
 ///
 /// Faults: `Read` if the log can't be had or read; `Write` if what is refused is not kept, if
@@ -27,16 +28,16 @@ use std::io::Write;
 #[tactic(auto, using(mgr_port::proofs::LogsLaws::elsewhere))]
 pub fn mend_note<L: Logs>(alloc: Global, logs: &mut L, name: &str) -> Result<LeftOut, ShowFault>
     ensures left_out { IfOk result (λ left_out. IfSome (L.standing logs.old name.now)
-        (λ s. left_out ≡ left_out_of s.log)) }
+        (λ s. left_out ≡ all_left_out s.log)) }
     // All steps were made, if anything is left out.
     ensures mended { OnOk result (IfSome (L.standing logs.old name.now)
-        (λ s. L.standing logs.new name.now ≡ Some (mended_standing (refused_of s.log) s))) }
+        (λ s. L.standing logs.new name.now ≡ Some (mended_standing (all_refused s.log) s))) }
     ensures gained { OnOk result (IfSome (L.standing logs.old name.now)
         (λ s. Appends (L.refused logs.old name.now) (L.refused logs.new name.now)
-        (refused_of s.log))) }
+        (all_refused s.log))) }
     // Whatever fails, at least the last step is missing; and all if the log can't be read.
     ensures begun { OnErr result (IfSome (L.standing logs.old name.now)
-        (λ s. MendsInPart (mended s.log) (refused_of s.log) s (L.standing logs.new name.now)
+        (λ s. MendsInPart (fitted s.log) (all_refused s.log) s (L.standing logs.new name.now)
         (L.refused logs.old name.now) (L.refused logs.new name.now))) }
     ensures untouched { IfErr result (λ e. e ≡ ShowFault.Read
         → (L.standing logs.new name.now ≡ L.standing logs.old name.now)
@@ -53,7 +54,7 @@ pub fn mend_note<L: Logs>(alloc: Global, logs: &mut L, name: &str) -> Result<Lef
         Err(PortFault::File) => return Err(ShowFault::Read),
         Err(PortFault::Memory(memory)) => return Err(ShowFault::Memory(memory)),
     };
-    let mended = match mend_log(alloc, bytes.as_slice()) {
+    let mended = match mend_for_note(alloc, bytes.as_slice()) {
         Ok(mended) => mended,
         Err(memory) => return Err(ShowFault::Memory(memory)),
     };

@@ -59,7 +59,11 @@ fn add_line(
 
 /// Reads the operations of a line into the list, in place of what stood there, and answers how many
 /// they are: `None` if the line is no operation.
-fn read_line(alloc: Global, ops: &mut Vec<Op>, line: &[u8]) -> Result<Option<usize>, OutOfMemory>
+pub(crate) fn read_line(
+    alloc: Global,
+    ops: &mut Vec<Op>,
+    line: &[u8],
+) -> Result<Option<usize>, OutOfMemory>
     ensures ops { OnOk result (ops.new.items ≡ line_operations line.now) }
     ensures count { IfOk result (λ count. count ≡ count_said (operations_at line.now)) }
 {

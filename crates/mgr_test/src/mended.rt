@@ -70,6 +70,7 @@ fn small_logs_are_mended(rt: HostRuntime) {
             faulty: case.faulty,
             beaten: case.beaten,
             torn: case.torn,
+            excess: 0,
         };
         assert!(rt;
             mended.log.as_slice() == case.mended.as_bytes(),

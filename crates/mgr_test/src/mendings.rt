@@ -29,12 +29,14 @@ const LEFT_OUT: LeftOut = LeftOut {
     faulty: 1,
     beaten: 1,
     torn: true,
+    excess: 0,
 };
 
 const NOTHING: LeftOut = LeftOut {
     faulty: 0,
     beaten: 0,
     torn: false,
+    excess: 0,
 };
 
 /// The name of the note, its log, how many steps are made before one fails, and how many bytes of

@@ -1,5 +1,4 @@
-use Rattle.std.proofs.Common.{◌≡◌, refl, Ok, Err, None}
-use Rattle.mgr_mend.specs.declared.fault.MergeFault.TheVariants.{TextStays}
+use Rattle.std.proofs.Common.{refl, Ok, Err, None}
 use Rattle.mgr.proofs.shell.merge.Goals as goal
 
 pub returns-in-Err-clause-status : goal.returns-in-Err-clause-status
@@ -37,7 +36,7 @@ returns-in-Ok-clause-status g c =
       unwritten = tt;
       note = tt;
       refused = tt;
-      stays = λ same. let clash : Ok c.in-Ok.merged ≡ Err TextStays = same in absurd cc;
+      stays = tt;
       unchanged = tt;
       begun = tt;
       device = e.calls;

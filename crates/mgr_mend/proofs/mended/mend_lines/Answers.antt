@@ -122,4 +122,4 @@ returns-clause-left_out c =
     let one = c.one_if.ensures ∙ ap one_if c.is_beaten-2.ensures in
     let beaten = ap (λ (k : ℕ). c.lines.beaten + k) one ∙ last_beaten bytes rest c.lines.log.items c.lines.refused.items c.lines.faulty c.lines.beaten f only fated c.lines.invariant.sofar in
     let torn = c.is_torn.ensures ∙ numbers.1 in
-    λ i. record { faulty = numbers.0 i; beaten = beaten i; torn = torn i }
+    λ i. record { faulty = numbers.0 i; beaten = beaten i; torn = torn i; excess = 0 }

@@ -12,7 +12,7 @@ pub returns-clause-refused : goal.returns-clause-refused
 returns-clause-refused g c = refuses _ _ _ _ _ c.args.adopt _ _ c.in_ok-opened.ensures.loaded c.merge_loaded.result c.merge_loaded.ensures.refused
 
 pub returns-clause-text_stays : goal.returns-clause-text_stays
-returns-clause-text_stays g c = λ is. leaves _ _ _ _ _ c.args.adopt _ _ c.in_ok-opened.ensures.loaded c.merge_loaded.result (c.merge_loaded.ensures.text_stays is)
+returns-clause-text_stays g c = leaves _ _ _ _ _ c.args.adopt _ _ c.in_ok-opened.ensures.loaded c.merge_loaded.result c.merge_loaded.ensures.text_stays
 
 pub returns-clause-unwritten : goal.returns-clause-unwritten
 returns-clause-unwritten g c = unwritten _ _ _ _ None c.args.adopt _ _ c.in_ok-opened.ensures.loaded c.merge_loaded.result c.merge_loaded.ensures.unwritten
