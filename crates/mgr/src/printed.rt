@@ -124,7 +124,10 @@ impl fmt::Display for Excess {
         if number == 1 {
             write!(f, "1 line would bring more than 1,000,000 identifiers\n")
         } else {
-            write!(f, "{number} lines would bring more than 1,000,000 identifiers\n")
+            write!(
+                f,
+                "{number} lines would bring more than 1,000,000 identifiers\n"
+            )
         }
     }
 }

@@ -1,6 +1,6 @@
 -- What a note makes of the lines that it has room for: they are read whole.
-use Rattle.std.proofs.Common.{◌≡◌, ◌≢◌, ◌≤◌, ℕ, ◌+◌, Bool, true, false, not, if◌then◌else◌, List, [], ◌∷◌, ◌++◌, Ok, Err, refl, sym, ap, ap₂, subst, inl, inr, ◌∙◌, arith, append-nil, append_assoc}
-use Rattle.std.specs.Prelude.{All, ◌⊎◌, Result, is_ok}
+use Rattle.std.proofs.Common.{◌≡◌, ◌≢◌, ◌≤◌, ℕ, ◌+◌, Bool, true, false, not, if◌then◌else◌, List, [], ◌∷◌, ◌++◌, Ok, Err, refl, sym, ap, ap₂, subst, inl, inr, ◌∙◌, arith, append-nil}
+use Rattle.std.specs.Prelude.{◌⊎◌, is_ok}
 use Rattle.std.specs.FinSet as finite_set
 use Rattle.std.specs.List.{flat_map, AllByRecursion}
 use Rattle.std.proofs.lemmas.List.Concat.{flat_map-append}
@@ -13,7 +13,7 @@ use Rattle.rga_ops.proofs.ListAnswerLaws.{list_one_by_one, one_by_one_list, list
 use Rattle.rga_ops.proofs.ContentLaws.{nothing_join}
 use Rattle.rga_ops.proofs.KnownLaws.{known_nothing, taken_list_within}
 use Rattle.rga_ops.proofs.TakenLaws.{one_by_one-append}
-use Rattle.rga_lines.specs.Log.{operations_at, operations_of, then_operations, log_operations, IsOperation, HasOnlyOperations}
+use Rattle.rga_lines.specs.Log.{operations_of, then_operations, log_operations, IsOperation, HasOnlyOperations}
 use Rattle.rga_lines.specs.Stream.{newline, lines_of, rest_of, HasNoNewline, bytes_of_lines}
 use Rattle.rga_lines.proofs.StandLemmas.{nothing_stands}
 use Rattle.rga_lines.proofs.StreamLemmas.{is_cut, only_cut}

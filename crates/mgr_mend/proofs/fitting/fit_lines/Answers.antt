@@ -1,7 +1,7 @@
 use Rattle.std.proofs.Common.{ℕ, ◌+◌, ◌++◌, List, ap, ◌∙◌, arith}
 use Rattle.mgr_mend.specs.Fitting.{note_lines, with_excess}
 use Rattle.mgr_mend.proofs.LinesLemmas.{FirstPart, first_part, no_lines, only_rest, shorter}
-use Rattle.mgr_mend.proofs.FittingLemmas.{IsFittedUpTo, fits_step, fits_rest, all_within}
+use Rattle.mgr_mend.proofs.FittingLemmas.{fits_step, fits_rest, all_within}
 use Rattle.mgr_mend.proofs.fitting.fit_lines.Goals as goal
 
 pub overflow_add-excess : goal.overflow_add-excess
