@@ -4,10 +4,10 @@
 //! A log is refused if a line is no operation, or if an identifier has two insertions that differ.
 //! `mend_log` keeps what can be kept of such a log: the lines that are operations, and of
 //! insertions that differ the one with the least line, so that all who mend logs with the same
-//! operations keep the same. It also gives back what it left out. `mend_note` does so with the log of
-//! a note: what is left out is kept beside it before the mended log gets its name, as mgr_port does
-//! that. `compact_note` gives the log of a note what `compact_log` of mgr_show writes of it, in the
-//! same way.
+//! operations keep the same. It also gives back what it left out. `mend_for_note` leaves out, too, each
+//! line for which a note has no room, so that what stays is read. `mend_note` does so with the log of a
+//! note: what is left out is kept beside it before the mended log gets its name, as mgr_port does that.
+//! `compact_note` gives the log of a note what `compact_log` of mgr_show writes of it, in the same way.
 //!
 //! `merge_logs` loads a note, takes the operations of logs, and writes it; `put_note` loads it and
 //! puts its text.
