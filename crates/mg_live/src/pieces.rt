@@ -1,5 +1,4 @@
 //! Pasted text, and splices.
-ghost use Rattle.std.specs.Prelude.{◌≡◌};
 ghost use Rattle.mg_live.specs.Reports as spec;
 
 use crate::changes::change_count;

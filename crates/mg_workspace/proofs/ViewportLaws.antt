@@ -1,5 +1,5 @@
 -- What is known of windows by what they show.
-use Rattle.std.proofs.Common.{◌≡◌, ℕ, zero, suc, ◌+◌, ◌-◌, ◌/◌, ◌<◌, List, [], ◌∷◌, ◌++◌, length, map, take, drop, get_or, Some, slice_get, slice_set, is_some, Result, Ok, Err, OnOk, OnErr, true≢false, refl, sym, ap, subst, ◌∙◌, arith}
+use Rattle.std.proofs.Common.{◌≡◌, ℕ, zero, suc, ◌+◌, ◌-◌, ◌<◌, List, [], ◌∷◌, ◌++◌, length, map, take, drop, get_or, Some, slice_get, slice_set, is_some, Result, Ok, Err, OnOk, OnErr, true≢false, refl, sym, ap, subst, ◌∙◌, arith}
 use Rattle.std.specs.List.{AllByRecursion, remove}
 use Rattle.std.specs.Option.{option_map, unwrap_or}
 use Rattle.std.proofs.lemmas.List.{length-map, length-set}
@@ -138,7 +138,7 @@ pub resized_shown : (bs : Buffers) (rows : ℕ) (old new : Layout Viewport) → 
 resized_shown bs rows old new shown is stays =
     let none = viewport 0 0 in
     let same : current_viewport new ≡ current_viewport old =
-        sym (unwrap_or-slice_get (all_shown new.windows) new.current none) ∙ ap (λ o. unwrap_or o none) stays ∙ unwrap_or-slice_get (all_shown old.windows) old.current none in
+    sym (unwrap_or-slice_get (all_shown new.windows) new.current none) ∙ ap (λ o. unwrap_or o none) stays ∙ unwrap_or-slice_get (all_shown old.windows) old.current none in
     record {
       few = shown.few;
       each = show_resized (length bs.all) rows old new is shown.each;
