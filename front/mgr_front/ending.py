@@ -17,8 +17,11 @@ def finish(session: Session, note: Note) -> None:
 
     Says what could not be saved.
     """
-    editor = session.editor
+    editor, screen = session.editor, session.screen
     try:
+        # A terminal that takes nothing is put back once all is saved.
+        if screen.is_free:
+            screen.close()
         if editor.process.poll() is None:
             session.conclude()
     except BaseException:
@@ -27,6 +30,7 @@ def finish(session: Session, note: Note) -> None:
         editor.hand_on(bytes([NO_KEY]) + CANCEL)
         raise
     finally:
+        screen.close()
         if not editor.end(PATIENCE, session.note):
             tell(f"mgr saves {note.name}: this waits for it")
             editor.end(take=session.note)

@@ -56,8 +56,7 @@ def edit(opening: Opening, company: Company | None) -> int:
         for report in put_back:
             editor.report(report)
         try:
-            with screen:
-                session.run()
+            session.run()
         finally:
             finish(session, note)
         status = editor.process.returncode

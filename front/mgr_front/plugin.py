@@ -16,7 +16,7 @@ from typing import Any
 
 from mgr_front.carrying import Piece, Pieces, carry, joined, pieces_of, splices_of
 from mgr_front.company import Company
-from mgr_front.editor import BLOCK, Editor, with_text, write_some
+from mgr_front.editor import BLOCK, Editor, with_text
 from mgr_front.errands import ARGUMENT, BUFFER_BEGIN, FORWARD_CHAR, MOST_ARGUMENT, NEXT_LINE
 from mgr_front.guests import put_apart
 from mgr_front.notes import KeptFiles, why_not_written
@@ -27,6 +27,7 @@ from mgr_front.signals import Signals
 from mgr_front.statuses import Status
 from mgr_front.steps import REDO, UNDO, Steps
 from mgr_front.wire import in_runs
+from mgr_front.writing import write_some
 
 # Seconds without a change before all is saved, and between two savings of what others did.
 IDLE = 1.0

@@ -3,13 +3,16 @@
 import errno
 import os
 import re
+import select
 import termios
 import tty
 from collections.abc import Callable, Sequence
+from contextlib import suppress
 from os.path import commonprefix
 
 from mgr_front.keys import DELETE
 from mgr_front.view import Picture
+from mgr_front.writing import unblocked, write_all as write_all, write_some
 
 # Another screen than the shell's; and pastes are marked.
 OPEN, CLOSE = "\x1b[?1049h\x1b[?2004h", "\x1b[m\x1b[?2004l\x1b[?7h\x1b[?25h\x1b[?1049l"
@@ -23,10 +26,12 @@ FEW = 3
 
 
 class Screen:
-    """The terminal, in raw mode from `__enter__` to `__exit__`."""
+    """The terminal, in raw mode from `open` to `close`."""
 
     def __init__(self) -> None:
         self.saved = termios.tcgetattr(0)
+        # What is drawn waits for a terminal that takes nothing now, and nothing else does.
+        self.target, self.waiting = unblocked(1), bytearray()
         # The rows that it shows; none, if all has to be drawn.
         self.drawn: Sequence[str] = ()
         # Whether it is raw, whether it is this program's screen that it shows, and whether the shell's
@@ -46,31 +51,32 @@ class Screen:
         """Whether the terminal is this program's. It is a shell's while this one is suspended, or in the background."""
         return self.is_raw and not is_in_background()
 
-    def __enter__(self) -> "Screen":
-        self.open()
-        return self
-
-    def __exit__(self, *_: object) -> None:
-        try:
-            self.close()
-        except OSError:
-            pass  # The terminal is gone.
+    @property
+    def is_free(self) -> bool:
+        """Whether the terminal takes something now."""
+        return not self.waiting and bool(select.select([], [self.target], [], 0)[1])
 
     def open(self) -> None:
         """Puts the terminal into raw mode. All is drawn anew, on a screen of this program's own."""
-        if until_done(lambda: tty.setraw(0, termios.TCSADRAIN), self.is_over):
+        if until_done(lambda: tty.setraw(0, termios.TCSANOW), self.is_over):
             self.is_raw = True
         self.is_open = False
         self.forget()
 
     def close(self) -> None:
-        """Puts the terminal back, unless a shell has done so."""
-        if self.is_taken:
-            write_all(CLOSE.encode())
+        """Puts the terminal back, unless a shell has done so, or it is gone."""
+        with suppress(OSError):
+            write_all(bytes(self.waiting) + CLOSE.encode() * self.is_taken)
+        self.waiting.clear()
         self.is_open = self.is_taken = False
-        if self.is_ours:
-            until_done(lambda: termios.tcsetattr(0, termios.TCSADRAIN, self.saved))
+        with suppress(OSError):
+            if self.is_ours:
+                until_done(lambda: termios.tcsetattr(0, termios.TCSANOW, self.saved))
         self.is_raw = False
+
+    def write(self) -> None:
+        """Draws as much of what waits as the terminal takes now."""
+        write_some(self.waiting, self.target)
 
     def forget(self) -> None:
         """Has the next picture be drawn as a whole."""
@@ -91,7 +97,8 @@ class Screen:
         cursor = f"\x1b[{picture.row + 1};{picture.column + 1}H"
         out += "".join(["\x1b[?25l" * hides, *changes, cursor, "\x1b[?25h" * hides, BELL * rings])
         self.drawn = picture.rows
-        write_all(out.encode())
+        self.waiting += out.encode()
+        self.write()
 
 
 def change(number: int, old: str, new: str) -> str:
@@ -129,8 +136,3 @@ def until_done(set_mode: Callable[[], object], is_over: Callable[[], bool] = lam
             if error.args[0] != errno.EINTR:
                 raise OSError(*error.args) from None
     return False
-
-
-def write_all(data: bytes, to: int = 1) -> None:
-    while data:
-        data = data[os.write(to, data) :]

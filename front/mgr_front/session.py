@@ -28,7 +28,8 @@ from mgr_front.statuses import COMMAND, Status
 from mgr_front.view import Echo, echo_line, picture
 from mgr_front.who import WHO
 
-# Seconds until what may be the beginning of a longer key counts as keys of its own, as ESC does.
+# Seconds until what may be the beginning of a longer key counts as keys of its own, as ESC does; and until a paste
+# whose end does not come is shown as one.
 PATIENCE = 0.05
 # Seconds for which it is said what is wrong with a note that was opened.
 OPENED = 10.0
@@ -39,6 +40,7 @@ IDLE = 1.0
 
 # For what the bell rings.
 RINGING = "Undefined key", "Search failed"
+PASTING = "Pasting: C-g leaves it"
 # What is said if nothing is left to save.
 PUT = SAVED, "No changes"
 LEAVING = "Leave: s puts the text, d leaves its file as it was? "
@@ -95,6 +97,7 @@ class Session:
         Where that is a signal, what was typed before it is still taken.
         """
         try:
+            self.screen.open()
             while self.signals.first is None and self.step():
                 pass
             while self.signals.first and self._has_keys() and self._take_keys():
@@ -109,18 +112,22 @@ class Session:
         mgr is given what they did. At the end neither the terminal nor others count any more.
         """
         others = self.company.mailbox.woken if self.company else self.signals.woken
-        reading = [self.editor.written]
+        reading, writing = [self.editor.written], [self.editor.keys] * bool(self.editor.waiting)
         if not self.is_ending:
-            takes_keys = self.screen.is_raw and len(self.editor.waiting) < MOST_WAITING
-            reading += [self.signals.woken, others] + [0] * takes_keys
-        writing = [self.editor.keys] * bool(self.editor.waiting)
-        ready, _, _ = select.select(reading, writing, [], None if self.is_ending else self._patience())
+            reading += [self.signals.woken, others] + [0] * self._takes_keys
+            writing += [self.screen.target] * bool(self.screen.waiting)
+        ready, free, _ = select.select(reading, writing, [], None if self.is_ending else self._patience())
         if self.signals.woken in ready:
             self._heed()
         if 0 in ready and self.screen.is_raw and not self._take_keys():
             return False
-        if not ready and self.keys.is_in_doubt:
-            self.dispatcher.take(self.keys.give_up())
+        due = self._keys_due()
+        if due is not None and due <= 0 and not self._has_keys():
+            self._wait_no_more()
+        if self.company and others in ready:
+            self.company.hear()
+        if self.screen.target in free:
+            self.screen.write()
         told: list[Status] = []
         try:
             goes_on = self.editor.written not in ready or self._take_statuses(told)
@@ -131,14 +138,32 @@ class Session:
         finally:
             for status in told:
                 self._tell(status)
-        self._watch(others in ready)
+        self._watch()
         return goes_on
+
+    @property
+    def _takes_keys(self) -> bool:
+        """Whether keys are read: not at the end, nor while too many wait for mgr."""
+        return not self.is_ending and self.screen.is_raw and len(self.editor.waiting) < MOST_WAITING
+
+    def _keys_due(self) -> float | None:
+        """Returns in how many seconds something is to be done if nothing more comes of a key or a paste that began."""
+        waits = self.keys.is_in_doubt or self.keys.paste is not None and PASTING not in self.remarks
+        return self.typed + PATIENCE - time.monotonic() if waits and self._takes_keys else None
+
+    def _wait_no_more(self) -> None:
+        """Takes a key that began as it was sent, since nothing more came; of a paste it is said that it is one."""
+        if self.keys.paste:
+            self.remarks[PASTING] = math.inf
+        else:
+            self.dispatcher.take(self.keys.give_up())
 
     def _patience(self) -> float | None:
         """Returns after how many seconds something is to be done, whatever happens."""
         now = time.monotonic()
-        dues = [self._rest_due(), self.remarks.patience(now), self.company.patience(now) if self.company else None]
-        dues += [PATIENCE] * self.keys.is_in_doubt + [self.due - now] * (self._draws and self.due < math.inf)
+        dues = [self._rest_due(), self._keys_due(), self.remarks.patience(now)]
+        dues += [self.company.patience(now)] if self.company else []
+        dues += [self.due - now] * (self._draws and self.due < math.inf)
         return min((max(0.0, due) for due in dues if due is not None), default=None)
 
     def _rest_due(self) -> float | None:
@@ -148,10 +173,8 @@ class Session:
             return None
         return max(self.typed, self.rested) + IDLE - time.monotonic()
 
-    def _watch(self, hears: bool) -> None:
+    def _watch(self) -> None:
         """Gives mgr what others did, and has it save what was not saved for a while."""
-        if self.company and hears:
-            self.company.hear()
         if self.company and not (self.errand or self.is_ending):
             self.company.feed(self.editor)
         due = self._rest_due()
@@ -168,14 +191,18 @@ class Session:
         return self.screen.is_ours and bool(select.select([0], [], [], 0)[0])
 
     def _take_keys(self) -> bool:
-        sent = os.read(0, BLOCK)
+        sent, before = os.read(0, BLOCK), self.typed
         self.typed = time.monotonic()
         if self.company:
             self.company.press()
         try:
             if CANCEL in sent:
                 self.remarks.acknowledge()
-            self.dispatcher.take(self.keys.take(sent))
+            # A text that is pasted comes with its C-g.
+            leaves = self.keys.paste and sent == bytes([CANCEL]) and self.typed >= before + PATIENCE
+            self.dispatcher.take(self.keys.give_up() if leaves else self.keys.take(sent))
+            if not self.keys.paste:
+                self.remarks.pop(PASTING, None)
         except BaseException:
             # Whatever it was, these are keys.
             self.dispatcher.take([Typed(sent)])
@@ -268,8 +295,9 @@ class Session:
 
     @property
     def _draws(self) -> bool:
-        """Whether there is something to draw: nothing is within an errand, nor at the end."""
-        return not (self.is_ending or self.errand) and bool(self.editor.status.frame)
+        """Whether there is something to draw, and room: nothing is within an errand, nor at the end."""
+        is_free = not (self.is_ending or self.errand or self.screen.waiting)
+        return is_free and bool(self.editor.status.frame)
 
     def _draw(self) -> None:
         """Draws the newest status, or what changed beside it."""

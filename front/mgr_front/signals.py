@@ -1,9 +1,12 @@
 """Signals, which here only wake whoever waits."""
 
+import math
 import os
 import signal
+import time
 from collections.abc import Iterator
 from contextlib import contextmanager, suppress
+from typing import ClassVar
 
 ENDING = (signal.SIGHUP, signal.SIGINT, signal.SIGQUIT, signal.SIGTERM)
 # What would end a mgr before it has saved. The front, which gets the first of them too, has it save;
@@ -28,6 +31,9 @@ def held_back() -> Iterator[None]:
 class Signals:
     """The first of the signals that end a program, and those of others that came since."""
 
+    # When the first one came.
+    ended: ClassVar[float] = math.inf
+
     def __init__(self, *others: int) -> None:
         """Takes note of those that end a program, but for ignored ones, as SIGHUP under nohup, and of these others."""
         self.first: int | None = None
@@ -45,6 +51,7 @@ class Signals:
     def _note(self, number: int, _: object) -> None:
         if number in ENDING:
             self.first = self.first or number
+            Signals.ended = min(Signals.ended, time.monotonic())
         else:
             self.came.add(number)
 

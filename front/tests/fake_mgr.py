@@ -1,7 +1,7 @@
 """A program that takes the place of mgr: it knows text, saving and one buffer.
 
 It answers each block of keys by a status, and by a second one with an operation where a text was typed
-in it. A save keeps what another program has written. Of reports it knows sizes, rests, places, whose columns
+in it. A save keeps what another program has written. Of reports it knows sizes, rests, pastes, places, whose columns
 are their counters, and operations, which it adds to a log at once; those of replica 13 are conflicts. The end of
 the keys is a save, which takes long with `slow` for a name.
 
@@ -74,6 +74,8 @@ class Live:
             self.message = ""
         elif told["op"] == "places":
             self.places = [[*place, 0, place[0]] for place in told["places"]]
+        elif told["op"] == "paste":
+            self.text, self.is_changed = self.text + told["text"], True
         elif told["id"][1] == 13:
             self.refused.append([self.reports, "Conflict"])
         else:

@@ -5,10 +5,11 @@ import os
 import pathlib
 import shutil
 import tempfile
+import threading
 import time
 import unittest
-from collections.abc import Callable
-from typing import Any
+from collections.abc import Callable, Sequence
+from typing import Any, cast
 from unittest import mock
 
 from context import OPERATION, InFolder
@@ -44,7 +45,7 @@ class Sessions(InFolder):
         said = tempfile.TemporaryFile()
         self.addCleanup(said.close)
         editor = Editor(self.mgr, [self.note.name], 3, said)
-        screen, signals = mock.Mock(erase=127, is_raw=False), mock.Mock(first=None, woken=self.woken)
+        screen, signals = mock.Mock(erase=127, is_raw=False, waiting=b""), mock.Mock(first=None, woken=self.woken)
         return Session(editor, screen, signals)
 
     def settle(self, edit: Session) -> None:
@@ -113,7 +114,7 @@ class TestStatuses(Sessions):
                 self.assertEqual(edit.rings, wanted)
 
 
-class TestSharing(Sessions):
+class Sharing(Sessions):
     def begin(self, name: str) -> Session:
         edit = super().begin(name)
         self.addCleanup(edit.editor.end, 5)
@@ -133,6 +134,8 @@ class TestSharing(Sessions):
     def rested(self, edit: Session) -> list[str]:
         return [name for name in self.names() if name == "note"]
 
+
+class TestSharing(Sharing):
     def test_what_is_typed_is_told_and_what_others_did_is_reported(self) -> None:
         edit = self.begin("note")
         assert edit.company
@@ -158,6 +161,14 @@ class TestSharing(Sessions):
             self.go_on(edit, lambda: put.called, True)
             self.assertIsNone(edit._rest_due())
 
+    def test_that_others_go_away_is_drawn_at_once(self) -> None:
+        edit = self.begin("note")
+        assert edit.company
+        self.go_on(edit, lambda: edit.due, math.inf)
+        edit.company.mailbox.post(State("alone", "gone"))
+        self.assertTrue(edit.step())
+        self.assertIn("alone since", "".join(cast(Any, edit.screen).draw.call_args[0][0].rows))
+
     def test_at_the_end_others_wake_nobody(self) -> None:
         edit = self.begin("note")
         assert edit.company
@@ -182,6 +193,67 @@ class TestSharing(Sessions):
         edit = self.begin("note")
         edit.names = self.note.name, "shown"
         self.assertEqual(edit.shown().frame[1], "----Mg: shown (fundamental)")
+
+
+class TestTerminal(Sharing):
+    """Keys that come in parts while another writes; a pipe takes the place of the terminal."""
+
+    def begin(self, name: str) -> Session:
+        edit = super().begin(name)
+        source, self.terminal = os.pipe()
+        self.addCleanup(os.dup2, os.dup(0), 0)
+        os.dup2(source, 0)
+        for each in (source, self.terminal):
+            self.addCleanup(os.close, each)
+        edit.screen.is_raw = True
+        return edit
+
+    def send(self, edit: Session, parts: Sequence[bytes], pause: float) -> None:
+        """Has these come with a pause after each."""
+        assert edit.company
+        post = edit.company.mailbox.post
+
+        def come() -> None:
+            for part in parts:
+                os.write(self.terminal, part)
+                end = time.monotonic() + pause
+                while time.monotonic() < end:
+                    post(Took((OPERATION.encode(),)))
+                    time.sleep(0.005)
+
+        thread = threading.Thread(target=come)
+        thread.start()
+        while thread.is_alive():
+            self.assertTrue(edit.step())
+        self.settle(edit)
+
+    def text(self, edit: Session) -> str:  # type: ignore[override]
+        """Returns what is typed."""
+        return edit.editor.status.frame[0].replace("a", "")
+
+    def test_a_key_in_the_middle_of_its_bytes_waits_whatever_else_comes(self) -> None:
+        for what, parts in [("an arrow", [b"\x1b", b"[", b"B"]), ("a paste", [b"\x1b[20", b"0~x\x1b[2", b"01~"])]:
+            with self.subTest(what), mock.patch.object(session, "PATIENCE", 2.0):
+                edit = self.begin("note")
+                self.send(edit, [*parts, b"y"], 0.12)
+                self.assertEqual(self.text(edit), "xy" if what == "a paste" else "y")
+
+    def test_a_key_of_which_nothing_more_comes_is_none(self) -> None:
+        edit = self.begin("note")
+        self.send(edit, [b"\x1b", b"y"], 0.3)
+        self.assertEqual((self.text(edit), edit.keys.is_in_doubt), ("", False))
+
+    def test_a_paste_without_its_end_is_shown_and_left_by_its_key(self) -> None:
+        edit = self.begin("note")
+        for parts, is_shown, text in [
+            ([b"\x1b[200~x"], True, "x"),
+            ([b"y\x07z"], True, "xy\x07z"),
+            ([b"\x07"], False, "xy\x07z"),
+            ([b"\x1b[200~1\x1b[201~2"], False, "xy\x07z12"),
+        ]:
+            self.send(edit, parts, 0.3)
+            self.assertEqual((session.PASTING in edit.remarks, self.text(edit)), (is_shown, text))
+            self.assertEqual(edit.keys.paste is not None, is_shown)
 
 
 class TestEnds(Sessions):

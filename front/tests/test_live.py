@@ -1,0 +1,100 @@
+"""The program mgr-live in a terminal, beside a program that takes the place of mgr."""
+
+import fcntl
+import os
+import pathlib
+import pty
+import select
+import signal
+import struct
+import subprocess
+import termios
+import time
+import unittest
+from collections.abc import Callable
+
+from context import TESTS, InFolder
+
+LIVE = TESTS.parent / "mgr-live"
+ROWS, COLUMNS, SECONDS = 10, 60, 20.0
+
+
+class Terminals(InFolder):
+    """A terminal of its own for each program."""
+
+    def start(self, *words: str, **variables: str) -> subprocess.Popen[bytes]:
+        """Starts mgr-live, with these further variables of its environment."""
+        self.master, self.slave = ends = pty.openpty()
+        self.seen = b""
+        fcntl.ioctl(self.slave, termios.TIOCSWINSZ, struct.pack("HHHH", ROWS, COLUMNS, 0, 0))
+        kept = {name: os.environ[name] for name in ("PATH", "LANG") if name in os.environ}
+        kept |= {"MGR": self.mgr, "TERM": "xterm", "XDG_STATE_HOME": str(self.folder / "state")}
+        program = subprocess.Popen(
+            [str(LIVE), *words],
+            stdin=self.slave,
+            stdout=self.slave,
+            stderr=self.slave,
+            cwd=self.folder,
+            env=kept | variables,
+            start_new_session=True,
+            preexec_fn=lambda: fcntl.ioctl(0, termios.TIOCSCTTY, 0),
+        )
+        for end in ends:
+            self.addCleanup(os.close, end)
+        self.addCleanup(program.wait)
+        self.addCleanup(program.kill)
+        return program
+
+    def type(self, keys: bytes) -> None:
+        os.write(self.master, keys)
+
+    def wait(self, look: Callable[[], object], what: str) -> None:
+        """Waits until something is so, and takes what the terminal is sent meanwhile."""
+        end = time.monotonic() + SECONDS
+        while not look():
+            self.assertLess(time.monotonic(), end, f"{what}: {self.seen!r}")
+            if select.select([self.master], [], [], 0.05)[0]:
+                self.seen += os.read(self.master, 65536)
+
+    def see(self, text: bytes) -> None:
+        """Waits until the terminal was sent this."""
+        self.wait(lambda: text in self.seen, f"{text!r} is not seen")
+
+
+class TestTerminals(Terminals):
+    def test_one_that_takes_nothing_does_not_keep_it_from_ending(self) -> None:
+        for number in (signal.SIGTERM, signal.SIGHUP):
+            for more in (b"", b" more"):
+                name = f"{number.name}{len(more)}"
+                with self.subTest(name):
+                    program = self.start(name)
+                    self.see(b"C-x C-s saves")
+                    self.type(b"typed")
+                    self.see(b"typed")
+                    termios.tcflow(self.slave, termios.TCOOFF)
+                    self.type(more)
+                    time.sleep(0.5 if more else 0)
+                    begun = time.monotonic()
+                    program.send_signal(number)
+                    self.assertEqual(program.wait(SECONDS), 128 + number)
+                    self.assertLess(time.monotonic() - begun, 2)
+                    self.assertEqual((self.folder / name).read_bytes(), b"typed" + more)
+
+    def test_what_is_typed_while_one_takes_nothing_goes_on_to_mgr(self) -> None:
+        program, note = self.start("note"), pathlib.Path(self.folder / "note")
+        self.see(b"C-x C-s saves")
+        termios.tcflow(self.slave, termios.TCOOFF)
+        for part in (b"one ", b"two"):
+            self.type(part)
+            time.sleep(0.3)
+        self.wait(lambda: note.exists() and note.read_bytes() == b"one two", "it is not saved")
+        termios.tcflow(self.slave, termios.TCOON)
+        self.see(b"two")
+        self.assertIsNone(program.poll())
+        program.terminate()
+        self.assertEqual(program.wait(SECONDS), 143)
+        self.assertEqual(termios.tcgetattr(self.slave)[3] & termios.ICANON, termios.ICANON)
+
+
+if __name__ == "__main__":
+    unittest.main()
