@@ -1,9 +1,12 @@
 """The end of an edit, whatever brought it: what was typed is taken, mgr saves it, and others are told."""
 
+from contextlib import suppress
+
 from mgr_front.company import Company
 from mgr_front.guests import keep_apart
 from mgr_front.keys import NO_KEY
-from mgr_front.notes import Note, found, put_back
+from mgr_front.notes import Note, Refused, put_back
+from mgr_front.program import ask
 from mgr_front.saving import CANCEL
 from mgr_front.saying import tell
 from mgr_front.session import Session
@@ -41,9 +44,20 @@ def finish(session: Session, note: Note) -> None:
     for name, place in session.apart.items():
         tell(keep_apart(editor.program, Note(name), place))
     for name in session.made if session.discards else ():
-        if found(name) != session.buffers[name]:
-            put_back(name, session.buffers[name])
-        tell(f"{name} is as it was; {Note(name).log} has what was written, and so have others")
+        discard(editor.program, Note(name), session.buffers[name])
+
+
+def discard(mgr: str, note: Note, before: bytes | None) -> None:
+    """Has the text of a note be as it was before; the log has what was written."""
+    put = None
+    with suppress(Refused):
+        put = ask(mgr, note, "show")
+    try:
+        for kept in put_back(note.name, before, put):
+            tell(f"{kept} has what stood there")
+        tell(f"{note.name} is as it was; {note.log} has what was written, and so have others")
+    except OSError as error:
+        tell(f"{note.name} was not put back: {error.filename}: {error.strerror}")
 
 
 def leave(company: Company | None, fault: str) -> None:

@@ -291,7 +291,7 @@ class TestEnds(Sessions):
             (b"ab\x18\x13c", b"d", True, "ab"),
         ]:
             with self.subTest(keys=keys, answer=answer), mock.patch.object(ending, "tell") as tell:
-                self.put(note="before")
+                self.put(note="before", note_ops="ab")
                 edit = self.begin("note")
                 edit.names = self.note.name, "note"
                 self.settle(edit)
@@ -304,6 +304,25 @@ class TestEnds(Sessions):
                 self.assertEqual((self.text("note"), edit.discards), (text, answer == b"d"))
                 said = f"{self.note.name} is as it was; {self.note.log} has what was written, and so have others"
                 self.assertEqual(mock.call(said) in tell.call_args_list, answer == b"d")
+
+    def test_what_another_program_wrote_is_kept_if_the_text_is_put_back(self) -> None:
+        # The first save of the program that takes the place of mgr has kept the text from before.
+        for before, kept in (("before", "note.~1~"), ("", "note~")):
+            with self.subTest(before=before), mock.patch.object(ending, "tell") as tell:
+                self.put(**{"note": before} if before else {}, note_ops="ab")
+                edit = self.begin("note")
+                edit.names = self.note.name, "note"
+                self.settle(edit)
+                self.leave(edit, b"ab\x18\x03")
+                self.put(note="theirs")
+                self.leave(edit, b"d")
+                ending.finish(edit, self.note)
+                self.assertEqual(self.text("note") if before else "", before)
+                self.assertEqual((self.text(kept), (self.folder / "note").exists()), ("theirs", bool(before)))
+                tell.assert_any_call(f"{self.folder / kept} has what stood there")
+                for name in self.names():
+                    if name.startswith("note"):
+                        os.unlink(self.folder / name)
 
     def test_what_cannot_be_saved_is_put_apart(self) -> None:
         for end in (b"sd", b""):
