@@ -33,6 +33,8 @@ def terminal_rows() -> int:
     """Returns how many rows mgr is to fill."""
     if not (os.isatty(0) and os.isatty(1)):
         stop("standard input and standard output have to be a terminal")
+    if os.environ.get("TERM", "") in ("", "dumb"):
+        stop("TERM has to name a terminal that moves its cursor, such as xterm")
     columns, rows = os.get_terminal_size(1)
     if rows < LEAST_ROWS or columns < LEAST_COLUMNS:
         least = f"{LEAST_ROWS} rows and {LEAST_COLUMNS} columns are needed"

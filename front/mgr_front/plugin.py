@@ -20,7 +20,7 @@ from mgr_front.editor import BLOCK, Editor, with_text
 from mgr_front.errands import ARGUMENT, BUFFER_BEGIN, FORWARD_CHAR, MOST_ARGUMENT, NEXT_LINE
 from mgr_front.guests import put_apart
 from mgr_front.notes import KeptFiles, why_not_written
-from mgr_front.saving import CANCEL, REST, SAVE, UNSAVED
+from mgr_front.saving import CANCEL, REST, SAVE, UNSAVED, rest_due
 from mgr_front.saying import stop
 from mgr_front.shared import MANY
 from mgr_front.signals import Signals
@@ -29,8 +29,6 @@ from mgr_front.steps import REDO, UNDO, Steps
 from mgr_front.wire import in_runs
 from mgr_front.writing import write_some
 
-# Seconds without a change before all is saved, and between two savings of what others did.
-IDLE = 1.0
 # Seconds that the editor program has to take what it is told last.
 LAST = 2.0
 UNDO_KEY = b"\x1f"
@@ -205,10 +203,8 @@ class Plugin:
 
     def _patience(self) -> float | None:
         """Returns after how many seconds all is to be saved."""
-        changed = max(self.changed, self.company.took if self.company else 0.0)
-        if self.doing or self.is_ending or changed <= self.rested:
-            return None
-        return max(0.0, max(self.changed, self.rested) + IDLE - time.monotonic())
+        due = rest_due(self.changed, self.company.took if self.company else 0.0, self.rested, bool(self.fault))
+        return None if due is None or self.doing or self.is_ending else max(0.0, due - time.monotonic())
 
     # ---- what the editor program says
 

@@ -21,7 +21,7 @@ from mgr_front.minibuffer import Page, Question
 from mgr_front.notes import KeptFiles, found, why_not_written
 from mgr_front.opening import NEW
 from mgr_front.remarks import Remarks
-from mgr_front.saving import REST, SAVE, SAVED, UNSAVED
+from mgr_front.saving import AGAIN, REST, SAVE, SAVED, UNSAVED, rest_due
 from mgr_front.screen import Screen
 from mgr_front.signals import Signals
 from mgr_front.statuses import COMMAND, Status
@@ -35,8 +35,6 @@ PATIENCE = 0.05
 OPENED = 10.0
 # Seconds between two pictures of what others do while further ones are to come.
 PICTURE = 0.05
-# Seconds without a key before all is saved, and between two savings of what others did.
-IDLE = 1.0
 
 # For what the bell rings.
 RINGING = "Undefined key", "Search failed"
@@ -167,11 +165,9 @@ class Session:
         return min((max(0.0, due) for due in dues if due is not None), default=None)
 
     def _rest_due(self) -> float | None:
-        """Returns in how many seconds all is to be saved, if a key was typed or something was taken since."""
-        changed = max(self.typed, self.company.took if self.company else self.typed)
-        if self.rest_number or self.is_ending or changed <= self.rested:
-            return None
-        return max(self.typed, self.rested) + IDLE - time.monotonic()
+        """Returns in how many seconds all is to be saved."""
+        due = rest_due(self.typed, self.company.took if self.company else 0.0, self.rested, bool(self.fault))
+        return None if due is None or self.rest_number or self.is_ending else due - time.monotonic()
 
     def _watch(self) -> None:
         """Gives mgr what others did, and has it save what was not saved for a while."""
@@ -252,6 +248,7 @@ class Session:
             self.made.add(self.names[0])
         if status.saved in UNSAVED or status.saved == "ok":
             self.remarks.pop(self.fault, None)
+            self.remark(AGAIN * (bool(self.fault) and status.saved == "ok"))
             self.fault = UNSAVED.get(status.saved, "")
         if self.fault and status.saved in UNSAVED:
             if status.saved == "file":

@@ -62,6 +62,12 @@ class Terminals(InFolder):
 
 
 class TestTerminals(Terminals):
+    def test_one_that_moves_no_cursor_is_refused(self) -> None:
+        for kind in ("dumb", ""):
+            program = self.start("note", TERM=kind)
+            self.see(b"mgr-live: TERM has to name a terminal")
+            self.assertEqual((program.wait(SECONDS), b"\x1b" in self.seen, self.names()), (3, False, []))
+
     def test_one_that_takes_nothing_does_not_keep_it_from_ending(self) -> None:
         for number in (signal.SIGTERM, signal.SIGHUP):
             for more in (b"", b" more"):
