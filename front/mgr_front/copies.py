@@ -10,11 +10,13 @@ import hashlib
 import json
 import os
 import secrets
+import shlex
 import socket
 from contextlib import suppress
+from itertools import accumulate
 from typing import Any
 
-from mgr_front.notes import found
+from mgr_front.notes import Refused, found
 from mgr_front.program import Log
 
 LEAST, MOST = 1000, 65000
@@ -25,6 +27,39 @@ def state_folder() -> str:
     named = os.environ.get("XDG_STATE_HOME", "")
     home = named if os.path.isabs(named) else os.path.expanduser("~/.local/state")
     return os.path.join(home, "mgr")
+
+
+def own_folder(*names: str, makes: bool = True) -> str:
+    """Returns a folder of the state, made if it is not there, for this person alone: whatever the umask.
+
+    `Refused` if it, or one between it and the state folder, is another's, or others may write in it.
+    """
+    for folder in accumulate((state_folder(), *names), os.path.join):
+        if makes:
+            _make(folder)
+        with suppress(FileNotFoundError):
+            seen = os.stat(folder)
+            if seen.st_uid != os.getuid():
+                raise Refused(f"{folder}: is not yours: move it away, or have XDG_STATE_HOME name another folder")
+            if seen.st_mode & 0o022:
+                raise Refused(f"{folder}: others may write there: see `chmod go-w {shlex.quote(folder)}`")
+    return folder
+
+
+def _make(folder: str) -> None:
+    if not os.path.isdir(folder):
+        _make(os.path.dirname(folder))
+        with suppress(FileExistsError):
+            os.mkdir(folder, 0o700)
+            os.chmod(folder, 0o700)
+
+
+def keep_file(path: str, text: str) -> None:
+    """Writes a file of the state, for this person alone."""
+    with open(path + ".new", "w", encoding="ascii") as file:
+        os.fchmod(file.fileno(), 0o600)
+        file.write(text)
+    os.replace(path + ".new", path)
 
 
 def machine() -> str:
@@ -56,7 +91,7 @@ class Copy:
     def __init__(self, path: str) -> None:
         """`path` is that of its text."""
         owner = [machine(), user(), os.path.realpath(path)]
-        self.file = os.path.join(state_folder(), "copies", digest(json.dumps(owner).encode()))
+        self.file = os.path.join(own_folder("copies", makes=False), digest(json.dumps(owner).encode()))
         # Its numbers, with the counters that were told. A digest of the text that was put last, and how many bytes
         # and operations its log had then, 0 if that is not known. How many bytes the log had as it was compacted.
         self.kept: dict[str, Any] = {"copy": owner, "counters": {}, "text": "", "put": 0, "operations": 0}
@@ -67,11 +102,9 @@ class Copy:
     def keep(self, **members: object) -> None:
         """Keeps these, and what was noted; if that fails, the next edit has another number, or asks."""
         self.kept |= members
-        with suppress(OSError):
-            os.makedirs(os.path.dirname(self.file), mode=0o700, exist_ok=True)
-            with open(self.file + ".new", "w", encoding="ascii") as file:
-                json.dump(self.kept, file)
-            os.replace(self.file + ".new", self.file)
+        with suppress(OSError, Refused):
+            own_folder("copies")
+            keep_file(self.file, json.dumps(self.kept))
 
     def number(self, log: Log | None) -> int:
         """Returns the number for this copy: its last one under which the log goes as far as was told, else a new one.

@@ -8,7 +8,8 @@ import socket
 from collections.abc import Iterator
 from contextlib import contextmanager, suppress
 
-from mgr_front.copies import digest, state_folder
+from mgr_front.copies import digest, own_folder
+from mgr_front.notes import Refused
 
 HOST = "127.0.0.1"
 BACKLOG = 64
@@ -20,8 +21,8 @@ def socket_name(path: str) -> str:
     return digest(os.fsencode(os.path.realpath(path)))[:32]
 
 
-def folder() -> str:
-    return os.path.join(state_folder(), "hubs")
+def folder(makes: bool = False) -> str:
+    return own_folder("hubs", makes=makes)
 
 
 @contextmanager
@@ -36,7 +37,7 @@ def _place(path: str) -> Iterator[str]:
 
 def listen(path: str) -> socket.socket:
     """Returns a listener for this note, for its owner alone; whoever has the note takes the place of a stale one."""
-    os.makedirs(folder(), mode=0o700, exist_ok=True)
+    folder(makes=True)
     leave(path)
     made = socket.socket(socket.AF_UNIX)
     with _place(path) as place:
@@ -48,18 +49,21 @@ def listen(path: str) -> socket.socket:
 
 def leave(path: str) -> None:
     """Removes the socket of this note."""
-    with suppress(OSError):
+    with suppress(OSError, Refused):
         os.unlink(os.path.join(folder(), socket_name(path)))
 
 
 def connect(path: str) -> socket.socket:
-    """Returns a connection to the hub of a note of this machine; `OSError` if there is none."""
+    """Returns a connection to the hub of a note of this machine; `OSError` if there is none.
+
+    `Refused` if that may be somebody else's.
+    """
     made = socket.socket(socket.AF_UNIX)
     made.settimeout(SECONDS)
     try:
         with _place(path) as place:
             made.connect(place)
-    except OSError:
+    except (OSError, Refused):
         made.close()
         raise
     return made

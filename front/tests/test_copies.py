@@ -1,13 +1,15 @@
 """What is kept of copies of a note: their numbers, and how the last edits left them."""
 
 import os
+import shutil
 import unittest
 from unittest import mock
 
 from context import InFolder
 
-from mgr_front import copies
+from mgr_front import copies, meeting
 from mgr_front.copies import Copy
+from mgr_front.notes import Refused
 from mgr_front.program import Log
 
 
@@ -76,7 +78,7 @@ class TestNumbers(Copies):
                 file.write(kept)
             with mock.patch.object(copies, "draw", return_value=1002):
                 self.assertEqual(Copy(self.path).number(log_of(r1001=1)), 1002)
-        with mock.patch.object(os, "makedirs", side_effect=PermissionError):
+        with mock.patch.object(os, "replace", side_effect=PermissionError):
             copy.keep_number(1003)
 
     def test_a_number_that_is_used_is_not_drawn(self) -> None:
@@ -97,6 +99,42 @@ class TestTextsPutLast(Copies):
         for known, operations, wanted in [(0, 10, False), (10, 10, True), (10, 11, True), (10, 9, False)]:
             copy.note_put(b"text", 9, known)
             self.assertEqual(copy.has_grown(log_of(operations)), wanted)
+
+
+class TestFolders(Copies):
+    def test_they_are_for_one_person_alone_whatever_the_umask(self) -> None:
+        for umask in (0o000, 0o002, 0o022, 0o277):
+            with self.subTest(umask=oct(umask)):
+                before = os.umask(umask)
+                try:
+                    Copy(self.path).keep_number(1001)
+                    meeting.listen(self.path).close()
+                finally:
+                    os.umask(before)
+                state = self.folder / "state"
+                modes = {path.relative_to(state).parts[0:3]: path.stat().st_mode & 0o777 for path in state.rglob("*")}
+                self.assertEqual({len(parts) > 2: mode for parts, mode in modes.items()}, {False: 0o700, True: 0o600})
+                self.assertEqual(len(modes), 5)
+                shutil.rmtree(state)
+
+    def test_one_in_which_others_may_write_is_refused_by_name(self) -> None:
+        Copy(self.path).keep_number(1001)
+        meeting.listen(self.path).close()
+        for name, looks in [("mgr", (Copy, meeting.connect)), ("mgr/copies", (Copy,)), ("mgr/hubs", (meeting.connect,))]:
+            folder = self.folder / "state" / name
+            for mode in (0o770, 0o702):
+                folder.chmod(mode)
+                for look in looks:
+                    with self.subTest(name, mode=oct(mode)), self.assertRaises(Refused) as refused:
+                        look(self.path)
+                    self.assertEqual(str(refused.exception), f"{folder}: others may write there: see `chmod go-w {folder}`")
+            folder.chmod(0o700)
+
+    def test_one_of_another_user_is_refused(self) -> None:
+        Copy(self.path).keep_number(1001)
+        with mock.patch.object(os, "getuid", return_value=os.getuid() + 1), self.assertRaises(Refused) as refused:
+            Copy(self.path)
+        self.assertIn(f"{self.folder}/state/mgr: is not yours", str(refused.exception))
 
 
 if __name__ == "__main__":
