@@ -13,6 +13,7 @@ import secrets
 import shlex
 import socket
 from contextlib import suppress
+from functools import partial
 from itertools import accumulate
 from typing import Any
 
@@ -20,6 +21,8 @@ from mgr_front.notes import Refused, found
 from mgr_front.program import Log
 
 LEAST, MOST = 1000, 65000
+# Makes files for this person alone.
+OPENER = partial(os.open, mode=0o600)
 
 
 def state_folder() -> str:
@@ -30,36 +33,20 @@ def state_folder() -> str:
 
 
 def own_folder(*names: str, makes: bool = True) -> str:
-    """Returns a folder of the state, made if it is not there, for this person alone: whatever the umask.
+    """Returns a folder of the state, which is made for this person alone, whatever the umask.
 
     `Refused` if it, or one between it and the state folder, is another's, or others may write in it.
     """
-    for folder in accumulate((state_folder(), *names), os.path.join):
-        if makes:
-            _make(folder)
-        with suppress(FileNotFoundError):
-            seen = os.stat(folder)
-            if seen.st_uid != os.getuid():
-                raise Refused(f"{folder}: is not yours: move it away, or have XDG_STATE_HOME name another folder")
-            if seen.st_mode & 0o022:
-                raise Refused(f"{folder}: others may write there: see `chmod go-w {shlex.quote(folder)}`")
+    for folder in accumulate(os.path.join(state_folder(), *names).split("/"), "{}/{}".format):
+        with suppress(FileExistsError, FileNotFoundError):
+            if makes:
+                os.mkdir(folder, 0o700)
+        seen = os.stat(folder) if folder.startswith(state_folder()) and os.path.isdir(folder) else None
+        if seen and seen.st_uid != os.getuid():
+            raise Refused(f"{folder}: is another user's: XDG_STATE_HOME may name a folder of yours")
+        if seen and seen.st_mode & 0o022:
+            raise Refused(f"{folder}: others may write there: see `chmod go-w {shlex.quote(folder)}`")
     return folder
-
-
-def _make(folder: str) -> None:
-    if not os.path.isdir(folder):
-        _make(os.path.dirname(folder))
-        with suppress(FileExistsError):
-            os.mkdir(folder, 0o700)
-            os.chmod(folder, 0o700)
-
-
-def keep_file(path: str, text: str) -> None:
-    """Writes a file of the state, for this person alone."""
-    with open(path + ".new", "w", encoding="ascii") as file:
-        os.fchmod(file.fileno(), 0o600)
-        file.write(text)
-    os.replace(path + ".new", path)
 
 
 def machine() -> str:
@@ -104,7 +91,9 @@ class Copy:
         self.kept |= members
         with suppress(OSError, Refused):
             own_folder("copies")
-            keep_file(self.file, json.dumps(self.kept))
+            with open(self.file + ".new", "w", encoding="ascii", opener=OPENER) as file:
+                json.dump(self.kept, file)
+            os.replace(self.file + ".new", self.file)
 
     def number(self, log: Log | None) -> int:
         """Returns the number for this copy: its last one under which the log goes as far as was told, else a new one.

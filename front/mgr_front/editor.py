@@ -12,7 +12,6 @@ from typing import IO
 from mgr_front.program import COLUMNS
 from mgr_front.signals import held_back
 from mgr_front.statuses import Status, Statuses
-from mgr_front.writing import write_some
 
 BLOCK = 65536
 # Seconds for which it is waited at once: who waits may have something else to do.
@@ -32,6 +31,16 @@ def with_text(text: str, more: bool = False, **members: object) -> list[bytes]:
     if not more:
         del told[-1]["more"]
     return [json.dumps(each, ensure_ascii=False, separators=(",", ":")).encode() for each in told]
+
+
+def write_some(waiting: bytearray, to: int) -> None:
+    """Writes as much of what waits as is taken now. Where nobody takes it any more it is dropped."""
+    try:
+        del waiting[: os.write(to, waiting[:BLOCK])]
+    except BlockingIOError:
+        pass
+    except OSError:
+        waiting.clear()
 
 
 class Talk:

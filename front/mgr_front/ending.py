@@ -1,11 +1,9 @@
 """The end of an edit, whatever brought it: what was typed is taken, mgr saves it, and others are told."""
 
-from contextlib import suppress
-
 from mgr_front.company import Company
 from mgr_front.guests import keep_apart
 from mgr_front.keys import NO_KEY
-from mgr_front.notes import Note, Refused, put_back
+from mgr_front.notes import Note, put_back
 from mgr_front.program import ask
 from mgr_front.saving import CANCEL
 from mgr_front.saying import tell
@@ -20,11 +18,8 @@ def finish(session: Session, note: Note) -> None:
 
     Says what could not be saved.
     """
-    editor, screen = session.editor, session.screen
+    editor = session.editor
     try:
-        # A terminal that takes nothing is put back once all is saved.
-        if screen.is_free:
-            screen.close()
         if editor.process.poll() is None:
             session.conclude()
     except BaseException:
@@ -33,7 +28,8 @@ def finish(session: Session, note: Note) -> None:
         editor.hand_on(bytes([NO_KEY]) + CANCEL)
         raise
     finally:
-        screen.close()
+        # It may take nothing, so this comes once all is saved.
+        session.screen.close()
         if not editor.end(PATIENCE, session.note):
             tell(f"mgr saves {note.name}: this waits for it")
             editor.end(take=session.note)
@@ -44,20 +40,10 @@ def finish(session: Session, note: Note) -> None:
     for name, place in session.apart.items():
         tell(keep_apart(editor.program, Note(name), place))
     for name in session.made if session.discards else ():
-        discard(editor.program, Note(name), session.buffers[name])
-
-
-def discard(mgr: str, note: Note, before: bytes | None) -> None:
-    """Has the text of a note be as it was before; the log has what was written."""
-    put = None
-    with suppress(Refused):
-        put = ask(mgr, note, "show")
-    try:
-        for kept in put_back(note.name, before, put):
+        put = ask(editor.program, Note(name), "show") if Note(name).has_log else None
+        for kept in put_back(name, session.buffers[name], put):
             tell(f"{kept} has what stood there")
-        tell(f"{note.name} is as it was; {note.log} has what was written, and so have others")
-    except OSError as error:
-        tell(f"{note.name} was not put back: {error.filename}: {error.strerror}")
+        tell(f"{name} is as it was; {Note(name).log} has what was written, and so have others")
 
 
 def leave(company: Company | None, fault: str) -> None:

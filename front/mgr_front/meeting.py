@@ -9,7 +9,7 @@ from collections.abc import Iterator
 from contextlib import contextmanager, suppress
 
 from mgr_front.copies import digest, own_folder
-from mgr_front.notes import Refused
+from mgr_front.notes import HERE, Refused
 
 HOST = "127.0.0.1"
 BACKLOG = 64
@@ -18,7 +18,7 @@ SECONDS = 5.0
 
 def socket_name(path: str) -> str:
     """Returns the name of the socket of a note, by the path of its text."""
-    return digest(os.fsencode(os.path.realpath(path)))[:32]
+    return digest(os.fsencode(os.path.realpath(os.path.join(HERE, path))))[:32]
 
 
 def folder(makes: bool = False) -> str:
@@ -54,10 +54,7 @@ def leave(path: str) -> None:
 
 
 def connect(path: str) -> socket.socket:
-    """Returns a connection to the hub of a note of this machine; `OSError` if there is none.
-
-    `Refused` if that may be somebody else's.
-    """
+    """Returns a connection to the hub of a note of this machine; `OSError` if there is none."""
     made = socket.socket(socket.AF_UNIX)
     made.settimeout(SECONDS)
     try:

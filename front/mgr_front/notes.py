@@ -3,14 +3,12 @@
 import glob
 import itertools
 import os
-import shutil
-import tempfile
-from collections.abc import Iterator
+import stat
 from contextlib import suppress
 from dataclasses import dataclass
 
-# How the names of logs end.
-LOG = ".ops"
+# How the names of logs end, and the folder in which this program began, which may be gone later.
+LOG, HERE = ".ops", os.path.realpath("/proc/self/cwd")
 
 
 class Refused(Exception):
@@ -47,13 +45,6 @@ def read(path: str) -> bytes:
         return file.read()
 
 
-def write(path: str, data: bytes) -> None:
-    with open(path, "wb") as file:
-        file.write(data)
-        file.flush()
-        os.fsync(file.fileno())
-
-
 def found(path: str) -> bytes | None:
     """Returns what stands in a file, if it can be read."""
     try:
@@ -62,70 +53,40 @@ def found(path: str) -> bytes | None:
         return None
 
 
-def kept_names(path: str) -> Iterator[str]:
-    """Yields the names under which what stood at a path is kept: the first one that is free."""
-    return (f"{path}.~{number}~" if number else f"{path}~" for number in itertools.count())
-
-
-def give_name(old: str, new: str) -> bool:
-    """Gives a file another name, and answers whether that was free."""
-    try:
-        os.link(old, new)
-        os.unlink(old)
-    except FileExistsError:
-        return False
-    except OSError:  # There are no links there, or this is a folder.
-        if os.path.lexists(new):
-            return False
-        os.rename(old, new)
-    return True
+def keep(path: str) -> str:
+    """Gives what stands at a path the first name that is free for what is kept of it, and returns that."""
+    names = (f"{path}.~{number}~" if number else f"{path}~" for number in itertools.count())
+    name = next(name for name in names if not os.path.lexists(name))
+    # Nobody else has it from here on.
+    os.close(os.open(name, os.O_CREAT | os.O_EXCL))
+    os.rename(path, name)
+    return name
 
 
 def put_back(path: str, before: bytes | None, put: bytes | None) -> list[str]:
-    """Has a file be as it was before, be it that there was none; returns where what mgr did not put is kept."""
-    path, kept = os.path.realpath(path), list[str]()
-    if None not in (before, put) and found(path) == put and not os.access(os.path.dirname(path), os.W_OK):
-        write(path, before or b"")
-        return kept
-    folder = tempfile.mkdtemp(prefix=f"{os.path.basename(path)}.", suffix="~", dir=os.path.dirname(path))
-    try:
-        while found(path) != before:
-            kept += _exchange(path, before, put, folder)
-    finally:
-        with suppress(OSError):  # What could not be kept stays there.
-            os.rmdir(folder)
-    return kept
+    """Has a file be as it was before, be it that there was none; returns where what mgr did not put is kept.
 
-
-def _exchange(path: str, before: bytes | None, put: bytes | None, folder: str) -> list[str]:
-    """Has a file make way for another text, in a folder of this program's own; returns where it is kept.
-
-    It leaves its name before anybody looks at it, and the text takes no name that is taken: another program may
-    write there at each moment.
+    It leaves its name before anybody looks at it, and the text takes that only if it is free: others may write there.
     """
-    aside, made, kept = os.path.join(folder, "aside"), os.path.join(folder, "made"), list[str]()
-    try:
-        write(made, before or b"")
-        with suppress(FileNotFoundError):
-            os.rename(path, aside)
-            shutil.copymode(aside, made)
-            with suppress(PermissionError):
-                shutil.chown(made, os.stat(aside).st_uid, os.stat(aside).st_gid)
-            if put is not None and found(aside) == put:
-                os.unlink(aside)
-            else:
-                kept.append(next(name for name in kept_names(path) if give_name(aside, name)))
+    path, kept = os.path.realpath(path), list[str]()
+    while found(path) != before:
+        if seen := os.stat(path) if os.path.exists(path) else None:
+            kept.append(keep(path))
+            if put is not None and found(kept[-1]) == put:
+                os.unlink(kept.pop())
         if before is not None:
-            give_name(made, path)
-    finally:
-        with suppress(FileNotFoundError):
-            os.unlink(made)
+            with suppress(FileExistsError), open(path, "xb") as file:
+                if seen:
+                    os.fchmod(file.fileno(), stat.S_IMODE(seen.st_mode))
+                    with suppress(PermissionError):
+                        os.fchown(file.fileno(), seen.st_uid, seen.st_gid)
+                file.write(before)
     return kept
 
 
 def why_not_written(name: str) -> str:
     """Returns which file of a note cannot be written, and why, as far as that can be seen."""
-    folder = os.path.dirname(name) or "."
+    folder = os.path.dirname(name) or HERE
     if not os.path.isdir(folder):
         return f": {folder} is not there"
     if not os.statvfs(folder).f_bavail:

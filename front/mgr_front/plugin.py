@@ -16,18 +16,17 @@ from typing import Any
 
 from mgr_front.carrying import Piece, Pieces, carry, joined, pieces_of, splices_of
 from mgr_front.company import Company
-from mgr_front.editor import BLOCK, Editor, with_text
+from mgr_front.editor import BLOCK, Editor, with_text, write_some
 from mgr_front.errands import ARGUMENT, BUFFER_BEGIN, FORWARD_CHAR, MOST_ARGUMENT, NEXT_LINE
 from mgr_front.guests import put_apart
 from mgr_front.notes import KeptFiles, why_not_written
-from mgr_front.saving import CANCEL, REST, SAVE, UNSAVED, rest_due
+from mgr_front.saving import CANCEL, FAILING, IDLE, REST, SAVE, UNSAVED
 from mgr_front.saying import stop
 from mgr_front.shared import MANY
 from mgr_front.signals import Signals
 from mgr_front.statuses import Status
 from mgr_front.steps import REDO, UNDO, Steps
 from mgr_front.wire import in_runs
-from mgr_front.writing import write_some
 
 # Seconds that the editor program has to take what it is told last.
 LAST = 2.0
@@ -203,8 +202,10 @@ class Plugin:
 
     def _patience(self) -> float | None:
         """Returns after how many seconds all is to be saved."""
-        due = rest_due(self.changed, self.company.took if self.company else 0.0, self.rested, bool(self.fault))
-        return None if due is None or self.doing or self.is_ending else max(0.0, due - time.monotonic())
+        changed = max(self.changed, self.company.took if self.company else 0.0)
+        if self.doing or self.is_ending or changed <= self.rested and not self.fault:
+            return None
+        return max(0.0, max(self.changed, self.rested) + (FAILING if self.fault else IDLE) - time.monotonic())
 
     # ---- what the editor program says
 

@@ -1,4 +1,4 @@
-"""The report and the keys by which mgr saves, when it is to, and what is said of that."""
+"""The report and the keys by which mgr saves, and what is said of that."""
 
 # Nobody types: mgr saves what was made or taken, log and text.
 REST = b'{"op":"rest"}'
@@ -8,13 +8,5 @@ CANCEL, SAVE = b"\x07", b"\x18\x13"
 SAVED = "Wrote "
 UNSAVED = {"file": "Not saved: File fault", "memory": "Not saved: Out of memory"}
 AGAIN = "Saved again"
-
-# Seconds without a key before all is saved, between two savings of what others did, and between two that fail.
+# Seconds without a change before all is saved, and between two savings of what others did; and if that failed.
 IDLE, FAILING = 1.0, 5.0
-
-
-def rest_due(typed: float, took: float, rested: float, fails: bool) -> float | None:
-    """Returns when all is to be saved that was typed, or taken of others, since it was; or was not if that failed."""
-    if max(typed, took) > rested:
-        return max(typed, rested) + IDLE
-    return rested + FAILING if fails else None

@@ -5,14 +5,15 @@ import os
 import re
 import select
 import termios
+import time
 import tty
 from collections.abc import Callable, Sequence
 from contextlib import suppress
 from os.path import commonprefix
 
 from mgr_front.keys import DELETE
+from mgr_front.signals import Signals
 from mgr_front.view import Picture
-from mgr_front.writing import unblocked, write_all as write_all, write_some
 
 # Another screen than the shell's; and pastes are marked.
 OPEN, CLOSE = "\x1b[?1049h\x1b[?2004h", "\x1b[m\x1b[?2004l\x1b[?7h\x1b[?25h\x1b[?1049l"
@@ -23,6 +24,9 @@ BELL = "\x07"
 PLAIN = re.compile("(\x1b\\[7m)?([ -~]*)(\x1b\\[m)?(\x1b\\[K)?")
 # So many rows change for a key at most times.
 FEW = 3
+# Seconds after the first signal that ends the program for which a terminal or a pipe that takes nothing is waited for;
+# and between two looks whether one came.
+LAST, LOOK = 1.0, 0.1
 
 
 class Screen:
@@ -51,11 +55,6 @@ class Screen:
         """Whether the terminal is this program's. It is a shell's while this one is suspended, or in the background."""
         return self.is_raw and not is_in_background()
 
-    @property
-    def is_free(self) -> bool:
-        """Whether the terminal takes something now."""
-        return not self.waiting and bool(select.select([], [self.target], [], 0)[1])
-
     def open(self) -> None:
         """Puts the terminal into raw mode. All is drawn anew, on a screen of this program's own."""
         if until_done(lambda: tty.setraw(0, termios.TCSANOW), self.is_over):
@@ -76,7 +75,8 @@ class Screen:
 
     def write(self) -> None:
         """Draws as much of what waits as the terminal takes now."""
-        write_some(self.waiting, self.target)
+        with suppress(BlockingIOError):
+            del self.waiting[: os.write(self.target, self.waiting)]
 
     def forget(self) -> None:
         """Has the next picture be drawn as a whole."""
@@ -136,3 +136,22 @@ def until_done(set_mode: Callable[[], object], is_over: Callable[[], bool] = lam
             if error.args[0] != errno.EINTR:
                 raise OSError(*error.args) from None
     return False
+
+
+def unblocked(to: int) -> int:
+    """Returns another descriptor of what is written to. A terminal's never waits: the shell's own stays as it is."""
+    try:
+        return os.open(os.ttyname(to), os.O_WRONLY | os.O_NOCTTY | os.O_NONBLOCK)
+    except OSError:
+        return os.dup(to)
+
+
+def write_all(data: bytes, to: int = 1) -> None:
+    """Writes all of it, for as long as that takes; it is a `TimeoutError` if a signal ends the program meanwhile."""
+    with open(unblocked(to), "wb", 0) as file:
+        while data:
+            left = max(0.0, Signals.ended + LAST - time.monotonic())
+            if select.select([], [file], [], min(left, LOOK))[1]:
+                data = data[file.write(data[: select.PIPE_BUF]) or 0 :]
+            elif not left:
+                raise TimeoutError

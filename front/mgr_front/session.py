@@ -21,15 +21,14 @@ from mgr_front.minibuffer import Page, Question
 from mgr_front.notes import KeptFiles, found, why_not_written
 from mgr_front.opening import NEW
 from mgr_front.remarks import Remarks
-from mgr_front.saving import AGAIN, REST, SAVE, SAVED, UNSAVED, rest_due
+from mgr_front.saving import AGAIN, FAILING, IDLE, REST, SAVE, SAVED, UNSAVED
 from mgr_front.screen import Screen
 from mgr_front.signals import Signals
 from mgr_front.statuses import COMMAND, Status
 from mgr_front.view import Echo, echo_line, picture
 from mgr_front.who import WHO
 
-# Seconds until what may be the beginning of a longer key counts as keys of its own, as ESC does; and until a paste
-# whose end does not come is shown as one.
+# Seconds until what may be the beginning of a longer key counts as keys of its own, as ESC does.
 PATIENCE = 0.05
 # Seconds for which it is said what is wrong with a note that was opened.
 OPENED = 10.0
@@ -112,16 +111,16 @@ class Session:
         others = self.company.mailbox.woken if self.company else self.signals.woken
         reading, writing = [self.editor.written], [self.editor.keys] * bool(self.editor.waiting)
         if not self.is_ending:
-            reading += [self.signals.woken, others] + [0] * self._takes_keys
+            takes_keys = self.screen.is_raw and len(self.editor.waiting) < MOST_WAITING
+            reading += [self.signals.woken, others] + [0] * takes_keys
             writing += [self.screen.target] * bool(self.screen.waiting)
         ready, free, _ = select.select(reading, writing, [], None if self.is_ending else self._patience())
         if self.signals.woken in ready:
             self._heed()
         if 0 in ready and self.screen.is_raw and not self._take_keys():
             return False
-        due = self._keys_due()
-        if due is not None and due <= 0 and not self._has_keys():
-            self._wait_no_more()
+        if self.keys.is_in_doubt and time.monotonic() >= self.typed + PATIENCE and not self._has_keys():
+            self.dispatcher.take(self.keys.give_up())
         if self.company and others in ready:
             self.company.hear()
         if self.screen.target in free:
@@ -139,35 +138,20 @@ class Session:
         self._watch()
         return goes_on
 
-    @property
-    def _takes_keys(self) -> bool:
-        """Whether keys are read: not at the end, nor while too many wait for mgr."""
-        return not self.is_ending and self.screen.is_raw and len(self.editor.waiting) < MOST_WAITING
-
-    def _keys_due(self) -> float | None:
-        """Returns in how many seconds something is to be done if nothing more comes of a key or a paste that began."""
-        waits = self.keys.is_in_doubt or self.keys.paste is not None and PASTING not in self.remarks
-        return self.typed + PATIENCE - time.monotonic() if waits and self._takes_keys else None
-
-    def _wait_no_more(self) -> None:
-        """Takes a key that began as it was sent, since nothing more came; of a paste it is said that it is one."""
-        if self.keys.paste:
-            self.remarks[PASTING] = math.inf
-        else:
-            self.dispatcher.take(self.keys.give_up())
-
     def _patience(self) -> float | None:
         """Returns after how many seconds something is to be done, whatever happens."""
         now = time.monotonic()
-        dues = [self._rest_due(), self._keys_due(), self.remarks.patience(now)]
-        dues += [self.company.patience(now)] if self.company else []
+        dues = [self._rest_due(), self.remarks.patience(now), self.company.patience(now) if self.company else None]
+        dues += [self.typed + PATIENCE - now] * self.keys.is_in_doubt
         dues += [self.due - now] * (self._draws and self.due < math.inf)
         return min((max(0.0, due) for due in dues if due is not None), default=None)
 
     def _rest_due(self) -> float | None:
-        """Returns in how many seconds all is to be saved."""
-        due = rest_due(self.typed, self.company.took if self.company else 0.0, self.rested, bool(self.fault))
-        return None if due is None or self.rest_number or self.is_ending else due - time.monotonic()
+        """Returns in how many seconds all is to be saved, if a key was typed or something was taken since, or failed."""
+        changed = max(self.typed, self.company.took if self.company else self.typed)
+        if self.rest_number or self.is_ending or changed <= self.rested and not self.fault:
+            return None
+        return max(self.typed, self.rested) + (FAILING if self.fault else IDLE) - time.monotonic()
 
     def _watch(self) -> None:
         """Gives mgr what others did, and has it save what was not saved for a while."""
@@ -197,8 +181,9 @@ class Session:
             # A text that is pasted comes with its C-g.
             leaves = self.keys.paste and sent == bytes([CANCEL]) and self.typed >= before + PATIENCE
             self.dispatcher.take(self.keys.give_up() if leaves else self.keys.take(sent))
-            if not self.keys.paste:
-                self.remarks.pop(PASTING, None)
+            self.remarks.pop(PASTING, None)
+            if self.keys.paste:
+                self.remarks[PASTING] = math.inf
         except BaseException:
             # Whatever it was, these are keys.
             self.dispatcher.take([Typed(sent)])

@@ -31,8 +31,7 @@ def held_back() -> Iterator[None]:
 class Signals:
     """The first of the signals that end a program, and those of others that came since."""
 
-    # When the first one came.
-    ended: ClassVar[float] = math.inf
+    ended: ClassVar[float] = math.inf  # When the first one came.
 
     def __init__(self, *others: int) -> None:
         """Takes note of those that end a program, but for ignored ones, as SIGHUP under nohup, and of these others."""

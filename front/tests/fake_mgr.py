@@ -113,12 +113,13 @@ class Live:
 
     def save(self) -> None:
         path = pathlib.Path(self.name)
-        if path.is_dir():
+        try:
+            if path.exists() and path.read_text() != self.saved:
+                os.rename(path, f"{path}~")
+            path.write_text(self.text)
+        except OSError:
             self.end = "file"
             return
-        if path.exists() and path.read_text() != self.saved:
-            os.rename(path, f"{path}~")
-        path.write_text(self.text)
         self.saved, self.is_changed, self.message, self.end = self.text, False, f"Wrote {path}", "ok"
 
     def run(self) -> None:

@@ -103,7 +103,7 @@ class TestTextsPutLast(Copies):
 
 class TestFolders(Copies):
     def test_they_are_for_one_person_alone_whatever_the_umask(self) -> None:
-        for umask in (0o000, 0o002, 0o022, 0o277):
+        for umask in (0o000, 0o002, 0o022, 0o077):
             with self.subTest(umask=oct(umask)):
                 before = os.umask(umask)
                 try:
@@ -134,7 +134,7 @@ class TestFolders(Copies):
         Copy(self.path).keep_number(1001)
         with mock.patch.object(os, "getuid", return_value=os.getuid() + 1), self.assertRaises(Refused) as refused:
             Copy(self.path)
-        self.assertIn(f"{self.folder}/state/mgr: is not yours", str(refused.exception))
+        self.assertIn(f"{self.folder}/state/mgr: is another user's", str(refused.exception))
 
 
 if __name__ == "__main__":

@@ -5,6 +5,7 @@ import os
 import pathlib
 import pty
 import select
+import shutil
 import signal
 import struct
 import subprocess
@@ -22,6 +23,10 @@ ROWS, COLUMNS, SECONDS = 10, 60, 20.0
 class Terminals(InFolder):
     """A terminal of its own for each program."""
 
+    def setUp(self) -> None:
+        super().setUp()
+        self.begun_in = self.folder
+
     def start(self, *words: str, **variables: str) -> subprocess.Popen[bytes]:
         """Starts mgr-live, with these further variables of its environment."""
         self.master, self.slave = ends = pty.openpty()
@@ -34,7 +39,7 @@ class Terminals(InFolder):
             stdin=self.slave,
             stdout=self.slave,
             stderr=self.slave,
-            cwd=self.folder,
+            cwd=self.begun_in,
             env=kept | variables,
             start_new_session=True,
             preexec_fn=lambda: fcntl.ioctl(0, termios.TIOCSCTTY, 0),
@@ -100,6 +105,29 @@ class TestTerminals(Terminals):
         program.terminate()
         self.assertEqual(program.wait(SECONDS), 143)
         self.assertEqual(termios.tcgetattr(self.slave)[3] & termios.ICANON, termios.ICANON)
+
+    def test_what_is_typed_in_a_folder_that_is_removed_is_kept_and_it_is_said_where(self) -> None:
+        for leaves in (True, False):
+            with self.subTest(leaves=leaves):
+                self.begun_in = self.folder / "gone"
+                self.begun_in.mkdir()
+                program = self.start("note")
+                self.see(b"C-x C-s saves")
+                shutil.rmtree(self.begun_in)
+                self.type(b"typed")
+                if leaves:
+                    self.type(b"\x18\x03")
+                    self.see(b"d leaves and keeps it apart?")
+                    self.type(b"d")
+                else:
+                    self.see(f"{self.begun_in} is not there".encode()[-20:])
+                    program.terminate()
+                self.wait(lambda: program.poll() is not None, "it goes on")
+                self.assertEqual(program.returncode, 0 if leaves else 143)
+                (place,) = self.folder.glob("state/mgr/guests/*/apart-*/text")
+                self.assertEqual(place.read_text(), "typed")
+                self.see(str(place).encode())
+                shutil.rmtree(self.folder / "state")
 
 
 if __name__ == "__main__":

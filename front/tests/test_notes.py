@@ -7,7 +7,6 @@ from unittest import mock
 
 from context import InFolder
 
-from mgr_front import notes
 from mgr_front.notes import Note, Refused, put_back
 
 
@@ -60,23 +59,22 @@ class TestTexts(InFolder):
                         os.unlink(self.folder / each)
 
     def test_what_is_written_meanwhile_is_kept_too(self) -> None:
-        write, give_name = notes.write, notes.give_name
-        for before in (b"old", None):
-            texts, path = ["two", "one"], str(self.folder / "note")
+        rename, path = os.rename, str(self.folder / "note")
+        for before, wanted in [
+            (b"old", {"note": "old", "note~": "before", "note.~1~": "after"}),
+            (None, {"note~": "before", "note.~1~": "after"}),
+        ]:
+            texts = ["after", "before"]
 
-            def written(name: str, data: bytes) -> None:
-                write(name, data)
-                self.put(note=texts.pop() if len(texts) == 2 else self.text("note"))
-
-            def named(old: str, new: str) -> bool:
-                if new == path and texts:
-                    self.put(note=texts.pop())
-                return give_name(old, new)
+            def renamed(old: str, new: str) -> None:
+                """Another program writes before and after the text leaves its name."""
+                self.put(**{"note": texts.pop()} if texts else {})
+                rename(old, new)
+                self.put(**{"note": texts.pop()} if texts else {})
 
             self.put(note="put")
-            with mock.patch.object(notes, "write", written), mock.patch.object(notes, "give_name", named):
+            with mock.patch.object(os, "rename", renamed):
                 put_back(path, before, b"put")
-            wanted = {"note": "old", "note~": "one", "note.~1~": "two"} if before else {"note~": "one"}
             self.assertEqual({name: self.text(name) for name in self.names()}, wanted)
             for each in self.names():
                 os.unlink(self.folder / each)

@@ -14,7 +14,7 @@ from unittest import mock
 
 from context import OPERATION, InFolder
 
-from mgr_front import ending, guests, saving, session
+from mgr_front import ending, guests, session
 from mgr_front.channels import State, Took
 from mgr_front.company import Company
 from mgr_front.editor import Editor
@@ -149,7 +149,7 @@ class TestSharing(Sharing):
         edit = self.begin("note")
         assert edit.company
         edit.put = put = mock.Mock()
-        with mock.patch.object(saving, "IDLE", 0.1):
+        with mock.patch.object(session, "IDLE", 0.1):
             # A rest; then an operation, its places and a rest.
             for reports in (1, 4):
                 self.go_on(edit, lambda: edit.rest_number, 0)
@@ -182,7 +182,7 @@ class TestSharing(Sharing):
         edit = self.begin("note")
         (self.folder / "note").mkdir()
         self.type(edit, b"typed")
-        with mock.patch.object(saving, "IDLE", 0.1), mock.patch.object(saving, "FAILING", 0.3):
+        with mock.patch.object(session, "IDLE", 0.1), mock.patch.object(session, "FAILING", 0.3):
             edit.typed = time.monotonic()
             self.go_on(edit, lambda: bool(edit.fault), True)
             (self.folder / "note").rmdir()
