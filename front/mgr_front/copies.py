@@ -13,7 +13,6 @@ import secrets
 import shlex
 import socket
 from contextlib import suppress
-from functools import partial
 from itertools import accumulate
 from typing import Any
 
@@ -21,8 +20,6 @@ from mgr_front.notes import Refused, found
 from mgr_front.program import Log
 
 LEAST, MOST = 1000, 65000
-# Makes files for this person alone.
-OPENER = partial(os.open, mode=0o600)
 
 
 def state_folder() -> str:
@@ -33,14 +30,11 @@ def state_folder() -> str:
 
 
 def own_folder(*names: str, makes: bool = True) -> str:
-    """Returns a folder of the state, which is made for this person alone, whatever the umask.
-
-    `Refused` if it, or one between it and the state folder, is another's, or others may write in it.
-    """
+    """Returns a folder of the state, which is made for this person alone; it is `Refused` if others may write there."""
     for folder in accumulate(os.path.join(state_folder(), *names).split("/"), "{}/{}".format):
-        with suppress(FileExistsError, FileNotFoundError):
+        with suppress(FileExistsError):
             if makes:
-                os.mkdir(folder, 0o700)
+                os.mkdir(f"{folder}/", 0o700)
         seen = os.stat(folder) if folder.startswith(state_folder()) and os.path.isdir(folder) else None
         if seen and seen.st_uid != os.getuid():
             raise Refused(f"{folder}: is another user's: XDG_STATE_HOME may name a folder of yours")
@@ -91,7 +85,7 @@ class Copy:
         self.kept |= members
         with suppress(OSError, Refused):
             own_folder("copies")
-            with open(self.file + ".new", "w", encoding="ascii", opener=OPENER) as file:
+            with open(self.file + ".new", "w", opener=lambda path, flags: os.open(path, flags, 0o600)) as file:
                 json.dump(self.kept, file)
             os.replace(self.file + ".new", self.file)
 

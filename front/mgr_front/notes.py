@@ -58,17 +58,15 @@ def keep(path: str) -> str:
     names = (f"{path}.~{number}~" if number else f"{path}~" for number in itertools.count())
     name = next(name for name in names if not os.path.lexists(name))
     # Nobody else has it from here on.
-    os.close(os.open(name, os.O_CREAT | os.O_EXCL))
+    os.close(os.open(name, os.O_CREAT | os.O_EXCL, 0o600))
     os.rename(path, name)
     return name
 
 
 def put_back(path: str, before: bytes | None, put: bytes | None) -> list[str]:
-    """Has a file be as it was before, be it that there was none; returns where what mgr did not put is kept.
-
-    It leaves its name before anybody looks at it, and the text takes that only if it is free: others may write there.
-    """
+    """Has a file be as it was before, be it that there was none; returns where what mgr did not put is kept."""
     path, kept = os.path.realpath(path), list[str]()
+    # It leaves its name before anybody looks at it, and comes back only if that is free: others may write meanwhile.
     while found(path) != before:
         if seen := os.stat(path) if os.path.exists(path) else None:
             kept.append(keep(path))

@@ -1,9 +1,11 @@
 """The terminal: raw while an edit goes on, and put back after it."""
 
+import atexit
 import errno
 import os
 import re
 import select
+import sys
 import termios
 import time
 import tty
@@ -57,8 +59,7 @@ class Screen:
 
     def open(self) -> None:
         """Puts the terminal into raw mode. All is drawn anew, on a screen of this program's own."""
-        if until_done(lambda: tty.setraw(0, termios.TCSANOW), self.is_over):
-            self.is_raw = True
+        self.is_raw = until_done(lambda: tty.setraw(0, termios.TCSANOW), self.is_over) or self.is_raw
         self.is_open = False
         self.forget()
 
@@ -136,6 +137,16 @@ def until_done(set_mode: Callable[[], object], is_over: Callable[[], bool] = lam
             if error.args[0] != errno.EINTR:
                 raise OSError(*error.args) from None
     return False
+
+
+@atexit.register
+def end_output() -> None:
+    """Ends the program without a word if standard output does not take the rest: whoever would read that is gone."""
+    try:
+        if sys.stdout:
+            sys.stdout.flush()
+    except OSError:
+        os._exit(3)
 
 
 def unblocked(to: int) -> int:

@@ -6,7 +6,6 @@ import signal
 import time
 from collections.abc import Iterator
 from contextlib import contextmanager, suppress
-from typing import ClassVar
 
 ENDING = (signal.SIGHUP, signal.SIGINT, signal.SIGQUIT, signal.SIGTERM)
 # What would end a mgr before it has saved. The front, which gets the first of them too, has it save;
@@ -31,7 +30,7 @@ def held_back() -> Iterator[None]:
 class Signals:
     """The first of the signals that end a program, and those of others that came since."""
 
-    ended: ClassVar[float] = math.inf  # When the first one came.
+    ended = math.inf  # When the first one came.
 
     def __init__(self, *others: int) -> None:
         """Takes note of those that end a program, but for ignored ones, as SIGHUP under nohup, and of these others."""

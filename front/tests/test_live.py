@@ -9,6 +9,7 @@ import shutil
 import signal
 import struct
 import subprocess
+import tempfile
 import termios
 import time
 import unittest
@@ -64,6 +65,32 @@ class Terminals(InFolder):
     def see(self, text: bytes) -> None:
         """Waits until the terminal was sent this."""
         self.wait(lambda: text in self.seen, f"{text!r} is not seen")
+
+
+class TestOutput(InFolder):
+    def test_a_failed_output_ends_in_a_status_without_a_traceback(self) -> None:
+        for name, words in [("mgr-live", ["--help"]), ("mgr-hub", ["--help"]), ("mgr-channel", ["--version"])]:
+            with self.subTest(name), open("/dev/full", "w") as full:
+                kept = {"PATH": os.environ["PATH"]}
+                done = subprocess.run([str(LIVE.parent / name), *words], stdout=full, stderr=subprocess.PIPE, env=kept)
+                self.assertEqual((done.returncode, done.stderr), (3, b""))
+
+    def test_a_terminal_that_is_gone_ends_a_question_without_a_traceback(self) -> None:
+        self.put(note="other", note_ops="text")
+        with tempfile.TemporaryFile() as said:
+            master, slave = pty.openpty()
+            fcntl.ioctl(slave, termios.TIOCSWINSZ, struct.pack("HHHH", ROWS, COLUMNS, 0, 0))
+            words = {"PATH": os.environ["PATH"], "MGR": self.mgr, "TERM": "xterm", "HOME": str(self.folder)}
+            place = {"stdin": slave, "stdout": slave, "stderr": said, "cwd": self.folder, "env": words}
+            # It is no terminal of its own, as for a program that ignores SIGHUP.
+            program = subprocess.Popen([str(LIVE), "note"], **place, start_new_session=True)
+            os.close(slave)
+            while b"the log" not in os.read(master, 65536):
+                pass
+            os.close(master)
+            self.assertEqual(program.wait(SECONDS), 3)
+            said.seek(0)
+            self.assertNotIn(b"Exception", said.read())
 
 
 class TestTerminals(Terminals):

@@ -1,6 +1,7 @@
 """What a terminal shows of a frame, and what is sent to have it show that."""
 
 import errno
+import os
 import re
 import termios
 import unittest
@@ -146,6 +147,10 @@ class TestScreens(unittest.TestCase):
         self.patched("termios.tcgetattr")
         self.tcsetattr, self.setraw = self.patched("termios.tcsetattr"), self.patched("tty.setraw")
         self.write_all, self.is_in_background = self.patched("write_all"), self.patched("is_in_background")
+        self.sent, target = os.pipe2(os.O_NONBLOCK)
+        for end in (self.sent, target):
+            self.addCleanup(os.close, end)
+        self.patched("unblocked").return_value = target
         self.screen = Screen()
 
     def patched(self, name: str) -> mock.Mock:
@@ -195,19 +200,33 @@ class TestScreens(unittest.TestCase):
     def test_rows_that_changed_are_sent(self) -> None:
         self.screen.open()
         self.screen.draw(Picture(["a", "b"], 0, 1))
+        os.read(self.sent, 65536)
         for rows, wanted in [
             (["a", "c"], "\x1b[2;1Hc\x1b[1;2H"),
             (["a", "c"], "\x1b[1;2H"),
             (["a"], "\x1b[m\x1b[?7l\x1b[2J\x1b[1;1Ha\x1b[1;2H"),
         ]:
             self.screen.draw(Picture(rows, 0, 1))
-            self.write_all.assert_called_with(wanted.encode())
+            self.assertEqual((os.read(self.sent, 65536), self.screen.waiting), (wanted.encode(), b""))
+
+    def test_what_a_terminal_does_not_take_waits_for_it(self) -> None:
+        with mock.patch("os.write", side_effect=[3, BlockingIOError, 2]):
+            self.screen.open()
+            self.screen.draw(Picture([], 0, 0))
+            sent = bytes(self.screen.waiting)
+            self.screen.write()
+            self.assertEqual(self.screen.waiting, sent)
+            self.screen.write()
+            self.assertEqual(self.screen.waiting, sent[2:])
+        self.screen.close()
+        self.write_all.assert_called_with(sent[2:] + CLOSE.encode())
 
     def test_nothing_is_opened_or_drawn_once_all_is_over(self) -> None:
         self.screen.is_over = lambda: True
         self.screen.open()
         self.screen.draw(Picture([], 0, 0))
-        self.assertEqual((self.setraw.call_count, self.write_all.call_count), (0, 0))
+        self.assertEqual((self.setraw.call_count, self.screen.waiting), (0, b""))
+        self.assertRaises(BlockingIOError, os.read, self.sent, 1)
         self.assertFalse(self.screen.is_ours)
 
 
