@@ -36,10 +36,8 @@ def own_folder(*names: str, makes: bool = True) -> str:
             if makes:
                 os.mkdir(f"{folder}/", 0o700)
         seen = os.stat(folder) if folder.startswith(state_folder()) and os.path.isdir(folder) else None
-        if seen and seen.st_uid != os.getuid():
-            raise Refused(f"{folder}: is another user's: XDG_STATE_HOME may name a folder of yours")
-        if seen and seen.st_mode & 0o022:
-            raise Refused(f"{folder}: others may write there: see `chmod go-w {shlex.quote(folder)}`")
+        if seen and (seen.st_uid != os.getuid() or seen.st_mode & 0o022):
+            raise Refused(f"{folder}: is not yours, or others may write there: see `chmod go-w {shlex.quote(folder)}`")
     return folder
 
 

@@ -1,9 +1,7 @@
 """The files of a note: its text, its log, and what is kept beside them."""
 
 import glob
-import itertools
 import os
-import stat
 from contextlib import suppress
 from dataclasses import dataclass
 
@@ -55,8 +53,8 @@ def found(path: str) -> bytes | None:
 
 def keep(path: str) -> str:
     """Gives what stands at a path the first name that is free for what is kept of it, and returns that."""
-    names = (f"{path}.~{number}~" if number else f"{path}~" for number in itertools.count())
-    name = next(name for name in names if not os.path.lexists(name))
+    ends = "~", *map(".~{}~".format, range(1, 10000))
+    name = next(path + end for end in ends if not os.path.lexists(path + end))
     # Nobody else has it from here on.
     os.close(os.open(name, os.O_CREAT | os.O_EXCL, 0o600))
     os.rename(path, name)
@@ -75,7 +73,7 @@ def put_back(path: str, before: bytes | None, put: bytes | None) -> list[str]:
         if before is not None:
             with suppress(FileExistsError), open(path, "xb") as file:
                 if seen:
-                    os.fchmod(file.fileno(), stat.S_IMODE(seen.st_mode))
+                    os.fchmod(file.fileno(), seen.st_mode & 0o7777)
                     with suppress(PermissionError):
                         os.fchown(file.fileno(), seen.st_uid, seen.st_gid)
                 file.write(before)

@@ -350,7 +350,9 @@ class Plugin:
         if self.company and not self.is_ending:
             self._give_others(self.company)
         if not self.doing and self._patience() == 0.0:
-            self.rest()
+            self.rested = time.monotonic()
+            if not (self.fault and why_not_written(self.name)):
+                self.rest()
 
     def rest(self) -> None:
         """Has mgr save all that was made or taken, log and text."""

@@ -26,8 +26,7 @@ BELL = "\x07"
 PLAIN = re.compile("(\x1b\\[7m)?([ -~]*)(\x1b\\[m)?(\x1b\\[K)?")
 # So many rows change for a key at most times.
 FEW = 3
-# Seconds after the first signal that ends the program for which a terminal or a pipe that takes nothing is waited for;
-# and between two looks whether one came.
+# Seconds after a signal that ends the program for which it is waited for what takes nothing, and between two looks.
 LAST, LOOK = 1.0, 0.1
 
 

@@ -159,7 +159,10 @@ class Session:
             self.company.feed(self.editor)
         due = self._rest_due()
         if due is not None and due <= 0:
-            self.rest()
+            self.rested = time.monotonic()
+            # Each try may keep a copy of a log that may not be written.
+            if not (self.fault and any(map(why_not_written, {self.names[0], *self.made}))):
+                self.rest()
 
     def rest(self) -> None:
         """Has mgr save all that was made or taken, log and text."""
@@ -181,9 +184,6 @@ class Session:
             # A text that is pasted comes with its C-g.
             leaves = self.keys.paste and sent == bytes([CANCEL]) and self.typed >= before + PATIENCE
             self.dispatcher.take(self.keys.give_up() if leaves else self.keys.take(sent))
-            self.remarks.pop(PASTING, None)
-            if self.keys.paste:
-                self.remarks[PASTING] = math.inf
         except BaseException:
             # Whatever it was, these are keys.
             self.dispatcher.take([Typed(sent)])
@@ -293,7 +293,7 @@ class Session:
             self.company.said = ""
         shown = self.company.shown() if self.company else ""
         marks = self.company.marks(self.editor.status, self.has_colours) if self.company else []
-        drawn = self.remarks.at(now), self.dispatcher.failing, shown, marks
+        drawn = self.remarks.at(now), self.keys.paste is None, self.dispatcher.failing, shown, marks
         if drawn != self.drawn:
             self._draw_soon()
         if now < self.due:
@@ -321,7 +321,8 @@ class Session:
         if self.question:
             return Echo(self.question.text, len(cells(self.question.text)))
         failing = self.dispatcher.failing.decode("utf-8", "replace")
-        return echo_line(self.shown(), self.said, list(self.remarks), failing)
+        remarks = [PASTING] * (self.keys.paste is not None) + list(self.remarks)
+        return echo_line(self.shown(), self.said, remarks, failing)
 
     def remark(self, said: str) -> None:
         """Says something of a note that was opened, for a while."""

@@ -1,6 +1,5 @@
 """Signals, which here only wake whoever waits."""
 
-import math
 import os
 import signal
 import time
@@ -30,7 +29,7 @@ def held_back() -> Iterator[None]:
 class Signals:
     """The first of the signals that end a program, and those of others that came since."""
 
-    ended = math.inf  # When the first one came.
+    ended = float("inf")  # When the first one came.
 
     def __init__(self, *others: int) -> None:
         """Takes note of those that end a program, but for ignored ones, as SIGHUP under nohup, and of these others."""

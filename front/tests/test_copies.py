@@ -127,14 +127,14 @@ class TestFolders(Copies):
                 for look in looks:
                     with self.subTest(name, mode=oct(mode)), self.assertRaises(Refused) as refused:
                         look(self.path)
-                    self.assertEqual(str(refused.exception), f"{folder}: others may write there: see `chmod go-w {folder}`")
+                    self.assertEqual(str(refused.exception), f"{folder}: is not yours, or others may write there: see `chmod go-w {folder}`")
             folder.chmod(0o700)
 
     def test_one_of_another_user_is_refused(self) -> None:
         Copy(self.path).keep_number(1001)
         with mock.patch.object(os, "getuid", return_value=os.getuid() + 1), self.assertRaises(Refused) as refused:
             Copy(self.path)
-        self.assertIn(f"{self.folder}/state/mgr: is another user's", str(refused.exception))
+        self.assertIn(f"{self.folder}/state/mgr: is not yours", str(refused.exception))
 
 
 if __name__ == "__main__":

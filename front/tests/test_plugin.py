@@ -3,6 +3,7 @@
 import json
 import os
 import re
+import time
 import unittest
 from typing import Any
 from unittest import mock
@@ -53,6 +54,16 @@ class Mgr(Talk):
 
 
 class TestPlugin(unittest.TestCase):
+    def test_what_could_not_be_saved_is_tried_again(self) -> None:
+        self.plugin.doing, self.plugin.fault = None, "Not saved"
+        self.plugin.changed = self.plugin.rested = time.monotonic()
+        self.assertAlmostEqual(self.plugin._patience() or 0.0, 5.0, delta=1.0)
+        for why, wanted in [(": no room is left", 0), ("", 1)]:
+            self.plugin.changed = self.plugin.rested = time.monotonic() - 6
+            with mock.patch("mgr_front.plugin.why_not_written", return_value=why):
+                self.plugin._go_on()
+            self.assertEqual(self.mgr.reports, wanted)
+
     def setUp(self) -> None:
         self.addCleanup(os.close, (ends := os.pipe())[0])
         self.addCleanup(os.close, ends[1])

@@ -178,13 +178,17 @@ class TestSharing(Sharing):
             edit.conclude()
         hear.assert_not_called()
 
-    def test_what_could_not_be_saved_is_tried_again_without_a_key(self) -> None:
+    def test_what_could_not_be_saved_is_tried_again_without_a_key_once_nothing_is_in_its_way(self) -> None:
         edit = self.begin("note")
+        edit.names = self.note.name, "note"
         (self.folder / "note").mkdir()
         self.type(edit, b"typed")
         with mock.patch.object(session, "IDLE", 0.1), mock.patch.object(session, "FAILING", 0.3):
             edit.typed = time.monotonic()
             self.go_on(edit, lambda: bool(edit.fault), True)
+            reports, end = edit.editor.reports, time.monotonic() + 0.7
+            self.go_on(edit, lambda: time.monotonic() > end, True)
+            self.assertEqual(edit.editor.reports, reports)
             (self.folder / "note").rmdir()
             self.go_on(edit, lambda: self.rested(edit) and self.text("note"), "typed")
             self.go_on(edit, lambda: edit.fault, "")
@@ -264,7 +268,7 @@ class TestTerminal(Sharing):
             ([b"\x1b[200~1\x1b[201~2"], False, "xy\x07z12"),
         ]:
             self.send(edit, parts, 0.3)
-            self.assertEqual((session.PASTING in edit.remarks, self.text(edit)), (is_shown, text))
+            self.assertEqual((session.PASTING in edit._echo().text, self.text(edit)), (is_shown, text))
             self.assertEqual(edit.keys.paste is not None, is_shown)
 
 
