@@ -1,7 +1,10 @@
 """A note's files and what mgr-live does with them at the start."""
 
 import json
+import os
 import re
+import shutil
+import signal
 
 from terminal import BEHIND, mode_line, text_of
 
@@ -16,6 +19,7 @@ def made(terminal, text, then=None, name="notes"):
         (terminal.folder / name).write_text(then)
 
 
+DUMB = "mgr-live: TERM has to name a terminal that moves its cursor, such as xterm"
 OLD = "one\ntwo\nthree\nfour\n"
 NEW = "one\n2\nthree\nfour and a half\r\nfive\n"
 
@@ -192,6 +196,51 @@ def an_absent_folder(terminal):
     terminal.expect_file("absent/notes", "more words ")
 
 
+def a_removed_folder(terminal):
+    """a folder that is removed during an edit: what was written is kept apart, and it is said where"""
+    for ending in ("d", "TERM"):
+        folder = terminal.folder / ending
+        folder.mkdir()
+        terminal.shell(f"cd {ending}; {terminal.live} notes --replica 1; echo status $?; cd ..")
+        terminal.see("start", {8: mode_line("--", "L1 C0")}, (0, 0))
+        shutil.rmtree(folder)
+        terminal.write(f"words before {ending}")
+        if ending == "d":
+            terminal.press("C-x", "C-c")
+            terminal.see("C-x C-c", {9: "Not saved: s tries again, d leaves and keeps it apart?"})
+            terminal.press("d")
+        else:
+            terminal.see("typed", {0: f"words before {ending}"})
+            os.kill(terminal.programs()[0], signal.SIGTERM)
+        wanted = f"status {0 if ending == 'd' else 143}"
+        terminal.expect("left", lambda: wanted in terminal.shown(), True)
+        terminal.picture()
+        kept = list(terminal.folder.glob("state/mgr/guests/*/apart-*/notes.ops"))
+        texts = [text_of(terminal.mgr, path) for path in kept]
+        terminal.expect("what is kept", lambda: f"words before {ending}" in texts, True)
+        shown = "".join(terminal.shown())
+        terminal.expect("it is said where", lambda: any(str(path) in shown for path in kept), True)
+
+
+def putting_back(terminal):
+    """a text that another program writes during an edit, and which is put back as it was"""
+    for name, before in (("notes", OLD), ("new", None)):
+        if before:
+            made(terminal, OLD)
+        terminal.begin(f"{name} --replica 1")
+        terminal.see("start", {8: mode_line("--", "L1 C0", name)}, (0, 0))
+        terminal.write("typed ")
+        terminal.expect_file(name, "typed " + (before or ""))
+        (terminal.folder / name).write_text(NEW)
+        terminal.press("C-x", "C-c")
+        terminal.see("C-x C-c", {9: "Leave: s puts the text, d leaves its file as it was?"})
+        terminal.press("d")
+        terminal.expect("left", lambda: "status 0" in terminal.shown(), True)
+        terminal.picture()
+        terminal.expect_file(name, before)
+        terminal.expect_file(f"{name}~", NEW)
+
+
 def refusals(terminal):
     """what is no note, and wrong command lines"""
     (terminal.folder / "folder").mkdir()
@@ -211,6 +260,8 @@ def refusals(terminal):
     terminal.expect("its usage", lambda: any(row.startswith("usage: mgr-live ") for row in terminal.shown()), True)
     terminal.begin("notes --replica 1", before="MGR=./nowhere")
     terminal.left("no mgr", "mgr-live: the program ./nowhere is not there", "status 3")
+    terminal.begin("notes", before="TERM=dumb")
+    terminal.left("a terminal that is dumb", *terminal.wrapped(DUMB), "status 3")
     terminal.shell(f"stty columns 19; {terminal.live} notes; stty columns {terminal.columns}; {BEHIND}")
     small = f"mgr-live: the terminal is too small: it has {terminal.rows} rows and 19 columns, and "
     terminal.left("19 columns", *terminal.wrapped(small + "3 rows and 20 columns are needed"), "status 0")
@@ -237,6 +288,8 @@ PARTS = (
     numbers,
     a_refused_log,
     an_absent_folder,
+    a_removed_folder,
+    putting_back,
     refusals,
     open_twice,
 )

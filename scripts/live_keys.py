@@ -95,6 +95,20 @@ def pasting(terminal):
     terminal.left("saved", "status 0")
 
 
+def a_paste_without_its_end(terminal):
+    """a paste whose end does not come"""
+    terminal.begin("notes --replica 1")
+    terminal.see("start", {8: mode_line("--", "L1 C0")}, (0, 0))
+    terminal.write("\x1b[200~pasted ")
+    terminal.see("it is shown as one", {9: "Pasting: C-g leaves it"})
+    terminal.write("typed")
+    terminal.press("C-g")
+    terminal.see("C-g", {0: "pasted typed", 9: ""}, (0, 12))
+    terminal.press("C-a")
+    terminal.see("a key", {8: mode_line("**", "L1 C0")}, (0, 0))
+    terminal.quit("saved")
+
+
 def completing(terminal):
     """TAB in answers, and the home folder"""
     for name in ("alpha", "alphabet", "beta"):
@@ -136,4 +150,4 @@ def completing(terminal):
     terminal.left("left", "status 0")
 
 
-PARTS = (erasing, words, lines, pasting, completing)
+PARTS = (erasing, words, lines, pasting, a_paste_without_its_end, completing)
