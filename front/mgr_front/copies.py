@@ -10,7 +10,6 @@ import hashlib
 import json
 import os
 import secrets
-import shlex
 import socket
 from contextlib import suppress
 from itertools import accumulate
@@ -37,7 +36,7 @@ def own_folder(*names: str, makes: bool = True) -> str:
                 os.mkdir(f"{folder}/", 0o700)
         seen = os.stat(folder) if folder.startswith(state_folder()) and os.path.isdir(folder) else None
         if seen and (seen.st_uid != os.getuid() or seen.st_mode & 0o022):
-            raise Refused(f"{folder}: is not yours, or others may write there: see `chmod go-w {shlex.quote(folder)}`")
+            raise Refused(f"{folder}: is not yours, or others may write there: see `chmod go-w {folder!r}`")
     return folder
 
 

@@ -151,7 +151,8 @@ def end_output() -> None:
 def unblocked(to: int) -> int:
     """Returns another descriptor of what is written to. A terminal's never waits: the shell's own stays as it is."""
     try:
-        return os.open(os.ttyname(to), os.O_WRONLY | os.O_NOCTTY | os.O_NONBLOCK)
+        os.tcgetpgrp(to)  # It fails if the terminal is not this program's.
+        return os.open("/dev/tty", os.O_WRONLY | os.O_NONBLOCK)
     except OSError:
         return os.dup(to)
 

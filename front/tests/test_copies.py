@@ -127,7 +127,7 @@ class TestFolders(Copies):
                 for look in looks:
                     with self.subTest(name, mode=oct(mode)), self.assertRaises(Refused) as refused:
                         look(self.path)
-                    self.assertEqual(str(refused.exception), f"{folder}: is not yours, or others may write there: see `chmod go-w {folder}`")
+                    self.assertEqual(str(refused.exception), f"{folder}: is not yours, or others may write there: see `chmod go-w '{folder}'`")
             folder.chmod(0o700)
 
     def test_one_of_another_user_is_refused(self) -> None:
