@@ -27,7 +27,7 @@ PLAIN = re.compile("(\x1b\\[7m)?([ -~]*)(\x1b\\[m)?(\x1b\\[K)?")
 # So many rows change for a key at most times.
 FEW = 3
 # Seconds after a signal that ends the program for which it is waited for what takes nothing, and between two looks.
-LAST, LOOK = 1.0, 0.1
+LAST, LOOK = 0.5, 0.1
 
 
 class Screen:
