@@ -1,6 +1,7 @@
 """Rows of a terminal as lists with an entry for each column: the first of a wide character's has all of it."""
 
 import functools
+import re
 import unicodedata
 
 # From here on characters that Python's tables do not have yet are pictures and ideographs.
@@ -9,6 +10,14 @@ PICTURES = "\U0001f000"
 JOINING = range(0x1160, 0x1200), range(0xD7B0, 0xD800)
 SOFT_HYPHEN = "\u00ad"
 CUT = "$"
+# What turns the direction of a text. It is never sent, nor are controls, ends of lines and halves of characters.
+TURNING = "\u061c\u200e\u200f\u202a\u202b\u202c\u202d\u202e\u2066\u2067\u2068\u2069"
+UNSENT = re.compile(f"[\x00-\x1f\x7f-\x9f\u2028\u2029\ud800-\udfff{TURNING}]")
+
+
+def clean(text: str, kept: str = "") -> str:
+    """Returns a text as a terminal may be sent it, but for what is kept of it."""
+    return UNSENT.sub(lambda sign: sign[0] if sign[0] in kept else "?", text)
 
 
 @functools.cache
@@ -22,8 +31,9 @@ def width(sign: str) -> int:
     return 2 if is_known and unicodedata.east_asian_width(sign) in "WF" else 1
 
 
-def cells(row: str) -> list[str]:
+def cells(row: str, kept: str = "") -> list[str]:
     """Returns what stands in each column of a row; a combining character stands with the one before it."""
+    row = clean(row, kept)
     if row.isascii():
         return list(row)
     made: list[str] = []
@@ -31,7 +41,7 @@ def cells(row: str) -> list[str]:
         if columns := width(sign):
             made += [sign, ""][:columns]
         elif made:
-            made[-1] += sign
+            made[-1 if made[-1] else -2] += sign
     return made
 
 

@@ -1,11 +1,10 @@
 """Those who write in the note too: what they do goes to mgr as reports, and what it says goes to them."""
 
-import json
 import time
 from collections import deque
 from collections.abc import Callable, Mapping
 
-from mgr_front.cells import width
+from mgr_front.cells import clean, width
 from mgr_front.channels import CONFLICT, FAULTS, Event, Place, State, Took
 from mgr_front.channels.worker import FINAL, Worker
 from mgr_front.editor import Talk
@@ -13,12 +12,12 @@ from mgr_front.mailbox import Mailbox
 from mgr_front.shared import SharedNote
 from mgr_front.statuses import Status
 from mgr_front.view import Mark, style
-from mgr_front.wire import is_operation, said
+from mgr_front.wire import Operation, operation, said
 
 # So many bytes of reports are given at once: keys wait for no more than these.
 MOST_GIVEN = 16384
-# Seconds for which it is marked what others wrote, and so many characters at most.
-FRESH, MOST_FRESH = 2.0, 200
+# Seconds for which it is marked what others wrote, and so many characters at most; of so many the places are shown.
+FRESH, MOST_FRESH, MOST_SHOWN = 2.0, 200, 2000
 
 # Counter and replica.
 Identifier = tuple[int, int]
@@ -66,22 +65,21 @@ class Company:
             return
         if state.word == "alone" != self.state.word:
             self.since = time.time()
-        if state.word == "alone" and state != self.state:
-            self.said = f"Alone: {state.why}"
+        if state != self.state and state.word != "joining" and (state.why or state.word != "live"):
+            self.said = clean(f"{state.word.capitalize()}: {state.why}")
         self.state = state
         if not self.is_shared:
             self.lines.clear()
             self.channel.close(0.0)
-            self.said = f"{state.word.capitalize()}: {state.why}"
 
     def feed(self, editor: Talk) -> None:
         """Gives mgr some of what others did, once it has answered all before; and where they are."""
         given = 0
         while self.lines and given < MOST_GIVEN and (given or editor.is_answered):
             line = self.lines.popleft()
-            if is_operation(line):
+            if told := operation(line):
                 editor.report(line)
-                self._freshen(line, time.monotonic() + FRESH)
+                self._freshen(told, time.monotonic() + FRESH)
             given += len(line)
         if given:
             self.took = time.monotonic()
@@ -90,17 +88,15 @@ class Company:
             editor.report(said("places", places=places).rstrip())
 
     def _places(self) -> list[Identifier]:
-        return sorted({place[:2] for _, place in self.who.values()} | {*self.fresh})
+        return sorted({*self.fresh, *[place[:2] for _, place in self.who.values()][:MOST_SHOWN]})
 
-    def _freshen(self, line: bytes, until: float = 0.0) -> None:
+    def _freshen(self, told: Operation, until: float = 0.0) -> None:
         """Takes note of what an operation wrote, until some time, or removed."""
-        told = json.loads(line)
-        (counter, replica), text = told["id"], told.get("text", told.get("char", ""))
-        size = min(len(text), MOST_FRESH) or told.get("count", 1)
-        for each in range(counter, counter + size):
-            self.fresh.pop((each, replica), None)
-            if text and until and len(self.fresh) < MOST_FRESH:
-                self.fresh[each, replica] = until
+        size = min(told.size, MOST_FRESH) if told.text else told.size
+        for each in range(told.counter, told.counter + size):
+            self.fresh.pop((each, told.replica), None)
+            if told.text and until and len(self.fresh) < MOST_FRESH:
+                self.fresh[each, told.replica] = until
 
     def press(self) -> None:
         """A key was typed: what others wrote before is seen."""
@@ -114,8 +110,8 @@ class Company:
     def note_status(self, status: Status) -> None:
         """Tells others what was made and saved and where point is, and takes note of what mgr refused."""
         for line in status.operations:
-            if b'"del' in line:
-                self._freshen(line)
+            if b'"del' in line and (told := operation(line)):
+                self._freshen(told)
         if self.is_shared:
             if status.operations:
                 self.channel.tell(status.operations)

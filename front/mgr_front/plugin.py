@@ -26,7 +26,7 @@ from mgr_front.shared import MANY
 from mgr_front.signals import Signals
 from mgr_front.statuses import Status
 from mgr_front.steps import REDO, UNDO, Steps
-from mgr_front.wire import in_runs
+from mgr_front.wire import in_runs, operation
 
 # Seconds that the editor program has to take what it is told last.
 LAST = 2.0
@@ -449,5 +449,5 @@ def times(count: int, key: bytes) -> bytes:
 
 def author(line: bytes) -> int | None:
     """Returns the number of who wrote the characters of an operation; who deletes some is not told."""
-    told = json.loads(line)
-    return told["id"][1] if told["op"] in ("ins", "run") else None
+    told = operation(line)
+    return told.replica if told and told.text else None

@@ -1,6 +1,5 @@
 """A note as a channel knows it: what its log has, by commands of mgr, held against what others have."""
 
-import json
 import os
 import shutil
 import subprocess
@@ -9,6 +8,7 @@ from collections.abc import Iterable, Sequence
 
 from mgr_front.channels import CONFLICT, FAULTS, Apart, shown
 from mgr_front.notes import Note
+from mgr_front.wire import operation
 
 # What mgr says of a log that is tied to nothing in a note.
 OTHER = "a log of another note"
@@ -70,7 +70,7 @@ class SharedNote:
             claims, remark = run(self.mgr, "claims", "--", name), ""
             if mends and claims.returncode:
                 said = self._run("mend", "--", name).decode("utf-8", "replace")
-                claims, remark = run(self.mgr, "claims", "--", name), "left out: " + shown(said.partition("\n")[0])
+                claims, remark = run(self.mgr, "claims", "--", name), shown(said.partition("\n")[0])
             lacked = self._run("missing", "--", name, given=self.claims()) if log else b""
             return self._fewer(lacked), written(claims), remark
 
@@ -147,9 +147,7 @@ def counters(lines: Iterable[bytes], replica: int) -> set[int]:
     """Returns the counters of what a replica inserted in these lines."""
     found: set[int] = set()
     for line in lines:
-        if b",%d]" % replica in line:
-            told = json.loads(line)
-            counter, number = told["id"]
-            text = told.get("text", told.get("char", ""))
-            found.update(range(counter, counter + len(text)) if number == replica else ())
+        told = operation(line) if b",%d]" % replica in line else None
+        if told and told.text and told.replica == replica:
+            found.update(range(told.counter, told.counter + told.size))
     return found

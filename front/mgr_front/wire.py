@@ -8,7 +8,7 @@ import re
 import socket
 import time
 from collections.abc import Iterable, Iterator
-from typing import Any
+from typing import Any, NamedTuple
 
 VERSION = 1
 # No line is longer; claims of more come in several.
@@ -20,16 +20,18 @@ MOST_CLAIMS, MOST_WAITING = 1 << 23, 1 << 20
 # Seconds: that a peer may say nothing, that it may take nothing.
 SILENCE, STUCK = 150.0, 20.0
 
-_TEXT = rb'"[^"\\]*(?:\\.[^"\\]*)*"'
-_ID = rb"\[\d{1,16},\d{1,5}\]"
+_PLAIN = r'[^"\\\x00-\x1f]*'
+_TEXT = rf'"({_PLAIN}(?:\\(?:["\\/bfnrt]|u[0-9A-Fa-f]{{4}}){_PLAIN})*)"'
+_NUMBER = "(0|[1-9][0-9]{0,15})"
+_ID = rf"\[{_NUMBER},{_NUMBER}\]"
 OPERATION = re.compile(
-    rb'\{(?:"char":%b,"id":%b,"op":"ins","parent":%b|"id":%b,"op":"del"'
-    rb'|"id":%b,"op":"run","parent":%b,"text":%b|"count":\d{1,4},"id":%b,"op":"dels")\}'
-    % (_TEXT, _ID, _ID, _ID, _ID, _ID, _TEXT, _ID)
+    rf'{{(?:"char":{_TEXT},)?(?:"count":{_NUMBER},)?"id":{_ID},"op":"(ins|run|dels?)"'
+    rf'(?:,"parent":{_ID})?(?:,"text":{_TEXT})?}}'
 )
-DELETION = re.compile(rb'\{"id":\[(\d{1,16}),(\d{1,5})\],"op":"del"\}')
-# So many deletions stand in one line.
-MOST_DELETIONS = 4096
+# Which of a character, a count, a parent and a text each kind has.
+MEMBERS = {"ins": (1, 0, 1, 0), "run": (0, 0, 1, 1), "del": (0, 0, 0, 0), "dels": (0, 1, 0, 0)}
+# The greatest numbers of identifiers; so many operations stand in one line.
+MOST_COUNTER, MOST_REPLICA, MOST_OPERATIONS = (1 << 53) - 1, 65535, 4096
 SAYING = b'{"op":"'
 
 
@@ -37,27 +39,56 @@ class Broken(OSError):
     """A connection that is of no more use. Says why."""
 
 
+class Operation(NamedTuple):
+    """What a line does: so many operations with rising counters; the text that they put, which is none if they delete."""
+
+    counter: int
+    replica: int
+    size: int
+    text: str
+
+
+def operation(line: bytes) -> Operation | None:
+    """Returns what a line does; None if mgr would not take it as an operation, in the spelling that mgr writes.
+
+    Nothing else of others is told mgr as a report, which would press keys, say.
+    """
+    try:
+        found = OPERATION.fullmatch(line.decode() if len(line) <= LONGEST else "")
+        if not found:
+            return None
+        char, count, counter, replica, kind, of, by, text = found.groups()
+        put = char or text or ""
+        if "\\" in put:
+            put = json.loads(f'"{put}"')
+            put.encode()
+    except ValueError:  # It is no UTF-8, or has half a character.
+        return None
+    made = Operation(int(counter), int(replica), int(count) if count else len(put) or int(kind == "del"), put)
+    is_whole = MEMBERS[kind] == tuple(part is not None for part in (char, count, of, text))
+    is_after = of is None or of == by == "0" or 0 < int(by) <= MOST_REPLICA and 0 < int(of) < made.counter
+    is_within = 0 < made.size <= (1 if kind == "ins" else MOST_OPERATIONS) and 0 < made.replica <= MOST_REPLICA
+    return made if is_whole and is_after and is_within and 0 < made.counter <= MOST_COUNTER + 1 - made.size else None
+
+
 def is_operation(line: bytes) -> bool:
-    """Whether a line is an operation: nothing else of others is told mgr as a report, which would press keys, say."""
-    return bool(OPERATION.fullmatch(line)) and len(line) <= LONGEST
-
-
-def operations(lines: Iterable[bytes]) -> list[bytes]:
-    """Returns those lines that are operations."""
-    return [line for line in lines if is_operation(line)]
+    return operation(line) is not None
 
 
 def in_runs(lines: Iterable[bytes]) -> list[bytes]:
     """Returns the same operations, deletions of neighbours in one line: mgr takes that as one change of the text."""
     made: list[bytes] = []
-    counter = replica = count = 0
+    last = none = Operation(0, 0, MOST_OPERATIONS, "")
     for line in lines:
-        found = DELETION.fullmatch(line)
-        if found and count < MOST_DELETIONS and (int(found[1]), int(found[2])) == (counter + count, replica):
-            count += 1
-            made[-1] = b'{"count":%d,"id":[%d,%d],"op":"dels"}' % (count, counter, replica)
+        told = operation(line) or none
+        if told.text or told.size != 1:
+            last = none
+        elif last.size < MOST_OPERATIONS and told[:2] == (last.counter + last.size, last.replica):
+            last = last._replace(size=last.size + 1)
+            made[-1] = b'{"count":%d,"id":[%d,%d],"op":"dels"}' % (last.size, last.counter, last.replica)
             continue
-        counter, replica, count = (int(found[1]), int(found[2]), 1) if found else (0, 0, 0)
+        else:
+            last = told
         made.append(line)
     return made
 
@@ -68,12 +99,16 @@ def said(op: str, **members: Any) -> bytes:
 
 
 def saying(line: bytes) -> dict[str, Any]:
-    """Returns what a line says; one that says nothing is `Broken`."""
+    """Returns what a line says, its members texts, whole numbers and lists of these; one that says nothing is `Broken`."""
     try:
-        made: dict[str, Any] = json.loads(line if line.startswith(SAYING) else b"")
-        return made
+        made: dict[str, Any] = json.loads(line.decode() if line.startswith(SAYING) else "")
+        # What stands within each other need not end.
+        parts = [part for each in made.values() for part in (each if isinstance(each, list) else [each])]
+        if isinstance(made["op"], str) and all(part is None or isinstance(part, (str, int)) for part in parts):
+            return made
     except (ValueError, RecursionError):
-        raise Broken("a line that is neither an operation nor anything else") from None
+        pass
+    raise Broken("a line that is neither an operation nor anything else")
 
 
 def claims_said(claims: bytes) -> bytes:

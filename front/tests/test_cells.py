@@ -4,7 +4,7 @@ import unittest
 
 import context  # noqa: F401
 
-from mgr_front.cells import beginning, cells, part, shift, width
+from mgr_front.cells import beginning, cells, clean, part, shift, width
 
 
 SIGNS = [("a", 1), ("é", 1), ("漢", 2), ("ｱ", 1), ("Ａ", 2), ("\u0301", 0), ("\u200b", 0), ("😀", 2)]
@@ -19,9 +19,25 @@ class TestWidths(unittest.TestCase):
                 self.assertEqual(width(sign), wanted)
 
     def test_rows(self) -> None:
-        for row, wanted in [("", []), ("abc", ["a", "b", "c"]), ("e\u0301\u0302漢b", ["e\u0301\u0302", "漢", "", "b"])]:
+        for row, wanted in [("", []), ("abc", ["a", "b", "c"]), ("e\u0301\u0302漢\u0301b", ["e\u0301\u0302", "漢\u0301", "", "b"])]:
             with self.subTest(row=row):
                 self.assertEqual(cells(row), wanted)
+
+
+class TestCleaning(unittest.TestCase):
+    def test_what_a_terminal_is_sent(self) -> None:
+        for text, wanted in [
+            ("plain 漢 e\u0301", "plain 漢 e\u0301"),
+            ("\x1b[2J\x1b]0;x\x07", "?[2J?]0;x?"),
+            ("\x9b2J\x7f\r\n\t\0", "?2J?????"),
+            ("a\u202eb\u2066c\u2069\u200e\u200f\u061c", "a?b?c????"),
+            ("\u2028\u2029\ud800\udcff", "????"),
+            # A family, a heart and a soft hyphen.
+            ("👨\u200d👩\u200d👧 ❤\ufe0f \u00ad", "👨\u200d👩\u200d👧 ❤\ufe0f \u00ad"),
+        ]:
+            with self.subTest(text=text):
+                self.assertEqual(clean(text), wanted)
+                self.assertEqual("".join(cells(text)), wanted)
 
 
 class TestParts(unittest.TestCase):

@@ -15,7 +15,7 @@ from mgr_front.view import Mark, style
 
 LINE = b'{"char":"a","id":[1,7],"op":"ins","parent":[0,0]}'
 
-RUN = b'{"id":[1,9],"op":"run","parent":[1,7],"text":"x"}'
+RUN = b'{"id":[1,9],"op":"run","parent":[0,0],"text":"x"}'
 
 
 class TestCompany(unittest.TestCase):
@@ -46,6 +46,16 @@ class TestCompany(unittest.TestCase):
         self.come(Took((*others, b"", b"x", b'{"op":"del","id":[1,7]}', LINE + b" ")))
         self.company.feed(self.talk)
         self.assertEqual(self.talk.waiting, b"")
+
+    def test_what_channels_say_has_no_terminal_do_anything(self) -> None:
+        for state in (State("live", "left out: \x1b[2J\u202e"), State("alone", "\ud800"), State("refused", "\x9b")):
+            self.come(state)
+            self.assertRegex(self.company.said, r"^(Live: left out: \?\[2J\?|Alone: \?|Refused: \?)$")
+
+    def test_no_report_of_places_is_too_long(self) -> None:
+        self.come(State("live"), Present({replica: ("x", ((1 << 53) - 1, replica, 1)) for replica in range(1, 65536)}))
+        self.company.feed(self.talk)
+        self.assertLess(len(self.talk.waiting), 65536)
 
     def test_keys_wait_for_few_reports(self) -> None:
         self.come(Took((LINE,) * 2000))
@@ -82,6 +92,8 @@ class TestCompany(unittest.TestCase):
             (State("alone", "gone"), "alone since 12:03"),
             (State("alone", "full"), "alone since 12:03", "Alone: full"),
             (State("live"), "live"),
+            (State("live", "left out: x"), "live", "Live: left out: x"),
+            (State("live", "left out: x"), "live"),
             (State("refused", "another note"), "refused", "Refused: another note"),
             (State("live"), "refused"),
         ]:

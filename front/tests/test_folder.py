@@ -1,7 +1,10 @@
 """A note that is carried by a folder: what the files of its writers become, and what is read of them."""
 
+import errno
 import os
+import resource
 import shutil
+import time
 import unittest
 from unittest import mock
 
@@ -122,6 +125,75 @@ class TestFolder(WithWriters):
         self.wait("zz", one.signs)
         self.wait("live", one.word)
         self.assertEqual(one.states[-1].why, "left out: 1 line is no operation")
+
+    def test_a_line_that_is_none_in_a_file_that_is_known(self) -> None:
+        one, other = self.pair()
+        with open(self.own(other), "ab") as file:
+            for line in (b'{"char":"\\q","id":[1,77],"op":"ins","parent":[0,0]}', b"\xff\x01", LINE.replace(b"50", b"04")):
+                file.write(line + b"\n")
+        self.wait("left out: lines that are no operations (3)", lambda: one.states[-1].why)
+        one.type("c")
+        self.wait("abc", other.signs)
+
+    def test_a_file_that_cannot_be_read(self) -> None:
+        ill, opened = "4" * 32 + ".ops", os.open
+
+        def fail(path: str, *words: int, **more: int) -> int:
+            if path == str(self.shared / ill) and os.stat(path).st_size < 100:
+                raise PermissionError(errno.EACCES, os.strerror(errno.EACCES))
+            return opened(path, *words, **more)
+
+        with mock.patch("os.open", side_effect=fail):
+            one, other = self.pair()
+            (self.shared / ill).write_bytes(LINE + b"\n")
+            for writer in (one, other):
+                self.wait(f"left out: {ill}: Permission denied", lambda: writer.states[-1].why)
+            one.type("c")
+            self.wait("abc", other.signs)
+            # It is looked at again once it looks different.
+            with open(self.shared / ill, "ab") as file:
+                file.write(LINE.replace(b"50", b"51").replace(b"z", b"y") + b"\n" + LINE[:20])
+            for writer in (one, other):
+                self.wait("abcyz", writer.signs)
+                self.assertEqual([state.word for state in writer.states], ["joining", "live", "live", "live"][: len(writer.states)])
+
+    def test_the_own_file_cannot_be_read(self) -> None:
+        one, other = self.pair()
+        own = self.own(one)
+        self.close(one)
+        opened = os.open
+        with mock.patch("os.open", side_effect=lambda path, *words, **more: opened("/" if path == own else path, *words, **more)):
+            self.open(one, self.make)
+            one.type("c")
+            self.wait("abc", other.signs)
+            self.assertNotEqual(self.own(one), own)
+        self.assertEqual((self.shared / os.path.basename(own)).read_bytes().count(b"\n"), 1)
+
+    def test_files_that_are_too_large(self) -> None:
+        sparse, large, endless = (self.shared / (sign * 32 + ".ops") for sign in "567")
+        for path, size in ((sparse, 6 << 30), (large, 3 << 20), (endless, 1 << 20)):
+            with open(path, "wb") as file:
+                file.write(LINE + b"\n")
+                if path == sparse:
+                    file.truncate(size)
+                else:
+                    file.write(b"x" * size)
+        with mock.patch.object(folder, "MOST", 2 << 20):
+            begun = resource.getrusage(resource.RUSAGE_SELF).ru_maxrss
+            one = self.begin(1, self.make)
+            self.wait("live", one.word)
+            self.assertEqual(
+                one.states[-1].why, f"left out: {large.name}: more than a note can have; {endless.name}: a line that is too long"
+            )
+            one.type("b")
+            self.wait("bz", one.signs)
+            begun_at = time.process_time()
+            for _ in range(10):
+                os.utime(sparse)
+                assert isinstance(one.channel, Folder)
+                self.assertEqual(one.channel._read(sparse.name, folder.stamp_of(os.stat(sparse))), b"")
+            self.assertLess(time.process_time() - begun_at, 0.5)
+            self.assertLess(resource.getrusage(resource.RUSAGE_SELF).ru_maxrss - begun, 100 << 10)
 
     def test_what_is_no_log_is_not_read(self) -> None:
         (self.shared / "note.ops").write_bytes(LINE + b"\n")

@@ -16,6 +16,7 @@ from mgr_front.channels import Apart, presence, redis, stream
 from mgr_front.channels.redis import RedisStream
 from mgr_front.channels.stream import library, trim
 from mgr_front.notes import Refused
+from mgr_front.wire import said
 
 HOST, SECRET = "127.0.0.1", "a word: @/"
 QUOTED = "a%20word%3A%20%40%2F"
@@ -160,11 +161,31 @@ class TestStream(TestRedis):
 
     def test_others_say_nonsense(self) -> None:
         one, other = self.pair()
-        for said in ("x", "[]", '{"by":"y","op":"place","name":["A"],"place":"x"}', '{"by":"y","op":[]}'):
-            self.client().publish("a/note:live", said)
+        for nonsense in (
+            "x", "[]", '{"by":"y","op":"place","name":["A"],"place":"x"}', '{"by":"y","op":[]}', b"\xff", '{"op":"' + "[" * 100000,
+            '{"op":"alive","digest":["x"]}', '{"op":"alive","digest":{"x":1}}', '{"op":"lines","lines":["x"]}', '{"op":"alive","digest":NaN}',
+        ):
+            self.client().publish("a/note:live", nonsense)
         one.type("c")
         self.wait("abc", other.signs)
-        self.assertEqual([state.word for state in other.states], ["joining", "live"])
+        self.assertEqual([state.word for state in other.states], ["joining", "live", "live"][: len(other.states)])
+
+    def test_an_entry_without_the_end_of_its_line(self) -> None:
+        one, _ = self.pair()
+        self.client().xadd("a/note", {"lines": "no line"})
+        one.type("c")
+        third = self.begin(3, self.make)
+        self.wait("abc", third.signs)
+        self.assertEqual(one.signs(), "abc")
+
+    def test_half_a_character_is_none(self) -> None:
+        one, other = self.pair()
+        for line in (LINE.replace("z", "\\ud800"), LINE.replace("50", "51")):
+            self.client().publish("a/note:live", said("lines", by="y", lines=line))
+        self.client().publish("a/note:live", '{"op":"lines","by":"y","lines":"' + LINE.strip().replace('"', '\\"').replace("z", "\\ud800") + '"}')
+        for writer in (one, other):
+            self.wait("abz", writer.signs)
+            self.wait(True, lambda: any(" that are no operations" in state.why for state in writer.states))
 
     def test_who_is_where(self) -> None:
         one, other = self.pair()

@@ -8,9 +8,10 @@ import unittest
 import context  # noqa: F401
 
 from mgr_front.peers import Peer
-from mgr_front.wire import BLOCK, LONGEST, MOST_DELETIONS, MOST_WAITING, SILENCE, STUCK, Broken, Wire, claims_said, in_runs, is_operation, said, saying
+from mgr_front.wire import BLOCK, LONGEST, MOST_OPERATIONS, MOST_WAITING, SILENCE, STUCK, Broken, Wire, claims_said
+from mgr_front.wire import in_runs, is_operation, operation, said, saying
 
-INSERTION = '{"char":"%s","id":[3,2],"op":"ins","parent":[1,1]}'
+INSERTION, RUN = '{"char":"%s","id":[3,2],"op":"ins","parent":[1,1]}', '{"id":%s}'
 
 
 class TestLines(unittest.TestCase):
@@ -21,33 +22,60 @@ class TestLines(unittest.TestCase):
         insertion = b'{"char":"a","id":[9,7],"op":"ins","parent":[0,0]}'
         run = b'{"count":2,"id":[3,7],"op":"dels"}'
         self.assertEqual(in_runs([*deletions(3, 4), insertion, *deletions(5, 7)]), [run, insertion, *deletions(5, 7)])
-        many = in_runs(deletions(*range(1, MOST_DELETIONS + 3)))
-        self.assertEqual(many, [b'{"count":%d,"id":[1,7],"op":"dels"}' % MOST_DELETIONS, b'{"count":2,"id":[%d,7],"op":"dels"}' % (MOST_DELETIONS + 1)])
+        many = in_runs(deletions(*range(1, MOST_OPERATIONS + 3)))
+        self.assertEqual(many, [b'{"count":%d,"id":[1,7],"op":"dels"}' % MOST_OPERATIONS, b'{"count":2,"id":[%d,7],"op":"dels"}' % (MOST_OPERATIONS + 1)])
         self.assertTrue(all(map(is_operation, many)))
 
+    def test_deletions_that_are_none_take_nothing_with_them(self) -> None:
+        lines = [b'{"id":[0,7],"op":"del"}', b'{"id":[1,7],"op":"del"}', b'{"id":[2,70000],"op":"del"}']
+        self.assertEqual(in_runs(lines), lines)
+
     def test_operations(self) -> None:
-        for line in (
-            INSERTION % "a",
-            INSERTION % "漢",
-            INSERTION % '\\"',
-            INSERTION % "\\\\",
-            '{"id":[9007199254740991,65535],"op":"del"}',
-            '{"id":[1,2],"op":"run","parent":[0,0],"text":"hello \\u0001\\"}"}',
-            '{"count":4096,"id":[1,2],"op":"dels"}',
+        for line, wanted in (
+            (INSERTION % "a", (3, 2, 1, "a")),
+            (INSERTION % "漢", (3, 2, 1, "漢")),
+            (INSERTION % '\\"', (3, 2, 1, '"')),
+            (INSERTION % "\\\\", (3, 2, 1, "\\")),
+            (INSERTION % "\\ud83d\\uDE00", (3, 2, 1, "😀")),
+            (INSERTION % "\x7f", (3, 2, 1, "\x7f")),
+            ('{"id":[9007199254740991,65535],"op":"del"}', (9007199254740991, 65535, 1, "")),
+            (RUN % '[1,2],"op":"run","parent":[0,0],"text":"hello \\u0001\\"}"', (1, 2, 9, 'hello \x01"}')),
+            (RUN % '[9007199254740990,2],"op":"run","parent":[9,9],"text":"ab"', (9007199254740990, 2, 2, "ab")),
+            ('{"count":4096,"id":[1,2],"op":"dels"}', (1, 2, 4096, "")),
+            (RUN % ('[1,2],"op":"run","parent":[0,0],"text":"%s"' % ("漢" * 4096)), (1, 2, 4096, "漢" * 4096)),
         ):
-            self.assertTrue(is_operation(line.encode()), line)
+            self.assertEqual(operation(line.encode()), wanted, line)
 
     def test_what_is_none(self) -> None:
-        run = '{"id":[1,2],"op":"run","parent":[0,0],"text":"%s"}'
-        for line in ("", INSERTION % '"', '{"op":"rest"}', run % '","op":"paste","text":"', run % "a" + "\n", run % ("a" * LONGEST)):
-            self.assertFalse(is_operation(line.encode()), line)
+        run = RUN % '[1,2],"op":"run","parent":[0,0],"text":"%s"'
+        for line in (
+            "", INSERTION % '"', '{"op":"rest"}', run % '","op":"paste","text":"', run % "a" + "\n", run % ("a" * LONGEST),
+            INSERTION % "\\q", INSERTION % "\\u12", INSERTION % "\t", INSERTION % "\x00", INSERTION % "ab", INSERTION % "",
+            INSERTION % "\\ud800", INSERTION % "\\ude00\\ud83d", run % "", run % ("a" * 4097), run % "x\ny",
+            *[(INSERTION % "a").replace("[3,2]", id) for id in ("[03,2]", "[3,02]", "[0,2]", "[3,0]", "[3,65536]", "[9007199254740992,2]")],
+            *[(INSERTION % "a").replace("[3,2]", id) for id in ("[1,2]", "[-3,2]", "[3.0,2]", "[3e0,2]", "[3,2,1]", "[3]", "[٣,2]", "[ 3,2]")],
+            *[(INSERTION % "a").replace("[1,1]", of) for of in ("[0,1]", "[1,0]", "[3,1]", "[1,65536]", "[-0,-0]", "[00,0]")],
+            RUN % '[9007199254740990,2],"op":"run","parent":[0,0],"text":"abc"', '{"count":0,"id":[1,2],"op":"dels"}',
+            '{"count":4097,"id":[1,2],"op":"dels"}', '{"count":2,"id":[9007199254740991,2],"op":"dels"}',
+            '{"count":1,"id":[1,2],"op":"del"}', '{"id":[1,2],"op":"dels"}', '{"id":[1,2],"op":"ins","parent":[0,0]}',
+            '{"char":"a","id":[1,2],"op":"del"}', '{"char":"a","id":[1,2],"op":"run","parent":[0,0],"text":"a"}',
+            '{"id":[1,2],"op":"del"}}', '{"id":[1,2],"op":"del","x":0}', '\ufeff{"id":[1,2],"op":"del"}', "[" * 60000,
+        ):
+            self.assertIsNone(operation(line.encode()), line)
+        for line in (b'{"char":"\xff","id":[3,2],"op":"ins","parent":[1,1]}', b'{"char":"\xed\xa0\x80","id":[3,2],"op":"ins","parent":[1,1]}'):
+            self.assertIsNone(operation(line), line)
 
     def test_what_is_said(self) -> None:
         line = said("hello", name="漢\n").rstrip(b"\n")
         self.assertNotIn(b"\n", line)
         self.assertEqual(saying(line), {"op": "hello", "name": "漢\n"})
-        for broken in (b"", b"x", b'{"op":"x', b'{"op":"x","y":' + b"[" * 60000):
-            with self.assertRaises(Broken):
+        self.assertEqual(saying(said("place", place=(1, 2, 3), digest=None)), {"op": "place", "place": [1, 2, 3], "digest": None})
+        for broken in (
+            b"", b"x", b'{"op":"x', b'{"op":"x","y":' + b"[" * 60000, b'{"op":"x","op":1}', b'{"op":"x","op":["x"]}', b'{"op":"\xff"}',
+            b'{"op":"x","y":{}}', b'{"op":"x","y":[[1]]}', b'{"op":"x","y":1.0}', b'{"op":"x","y":NaN}', b'{"op":"x","y":-Infinity}',
+            b'{"op":"x","y":' + b"9" * 5000 + b"}", b'{"op":"x"}[]', b'{"op":"\xed\xa0\x80"}',
+        ):
+            with self.assertRaises(Broken, msg=broken):
                 saying(broken)
 
 

@@ -7,6 +7,8 @@ writes the note's files: what it took it posts, and mgr saves that.
 from collections.abc import Callable, Mapping
 from dataclasses import dataclass
 
+from mgr_front.cells import clean
+
 # So many characters of a sentence are shown, and of a name.
 SHOWN, MOST_NAME = 100, 32
 # What is said of faults of mgr that end or spoil writing together.
@@ -56,5 +58,5 @@ class Apart(Exception):
 
 
 def shown(text: str, most: int = SHOWN) -> str:
-    """Returns what a terminal may be given of a text."""
-    return "".join(sign if sign.isprintable() else "?" for sign in text)[:most]
+    """Returns what a terminal may be sent of a text, in one row."""
+    return clean(text[:most])

@@ -1,31 +1,37 @@
 """A folder that a sync tool or a mount shares, with a log for each writer: no file has two writers."""
 
+import errno
 import json
 import os
 import re
 import secrets
 import stat
 import time
+from contextlib import suppress
 from dataclasses import dataclass
+from typing import IO
 
-from mgr_front.channels import Post
+from mgr_front.channels import Post, shown
 from mgr_front.channels.worker import Worker
 from mgr_front.copies import digest, machine, state_folder, user
 from mgr_front.shared import SharedNote, text_of
-from mgr_front.wire import operations
-
+from mgr_front.wire import LONGEST
 # The name of a log, and that of another state of it, which a sync tool keeps beside it.
 NAME = re.compile(r"[0-9a-f]{32}.*\.ops")
 LEAST_POLL, MOST_POLL, SLOWER = 0.5, 5.0, 1.25
 # How many bytes before what is new are read once more: if they differ, the file is another one.
 OVERLAP = 4096
+# So many bytes are read at once, and a file may have: no note needs more.
+PIECE, MOST, BLOCK = 1 << 20, 1 << 27, 512
+# What has just taken the place of a file is no link that is followed, nor a pipe that is waited for.
+OPENED = os.O_RDONLY | os.O_NONBLOCK | os.O_NOFOLLOW | os.O_CLOEXEC
 
-# How a file looks from outside: size, inode and date. One that was written to looks different.
-Stamp = tuple[int, int, int]
+# How a file looks from outside: size, inode and dates. One that was written to, or may be read since, looks different.
+Stamp = tuple[int, int, int, int]
 
 
 def stamp_of(seen: os.stat_result) -> Stamp:
-    return seen.st_size, seen.st_ino, seen.st_mtime_ns
+    return seen.st_size, seen.st_ino, seen.st_mtime_ns, seen.st_ctime_ns
 
 
 @dataclass(frozen=True)
@@ -37,7 +43,7 @@ class Taken:
     tail: bytes = b""
 
     def after(self, stamp: Stamp, lines: bytes) -> "Taken":
-        return Taken(stamp, self.size + len(lines), (self.tail + lines)[-OVERLAP:])
+        return Taken(stamp, self.size + len(lines), (self.tail + lines[-OVERLAP:])[-OVERLAP:])
 
 
 def whole_lines(data: bytes) -> bytes:
@@ -73,7 +79,7 @@ class Folder(Worker):
             self.join_all()
             return self.poll
         news = b"".join(self._read(name, stamp) for name, stamp in changed.items())
-        self.take(operations(news.splitlines()))
+        self.take(news.splitlines())
         self.poll = LEAST_POLL if news or self.told else min(self.poll * SLOWER, MOST_POLL)
         left = self.last_append + LEAST_POLL - time.monotonic()
         if self.told and left > 0 and not self.is_leaving:
@@ -106,19 +112,47 @@ class Folder(Worker):
         if name not in self.files:
             return False
         taken = self.files[name]
-        return self._bytes(name, taken.size - len(taken.tail), len(taken.tail)) == taken.tail
+        with suppress(OSError), self._open(name, taken.size - len(taken.tail)) as file:
+            return file.read(len(taken.tail)) == taken.tail
+        return True  # It is left out.
 
-    def _bytes(self, name: str, start: int, size: int = -1) -> bytes:
-        with open(os.path.join(self.folder, name), "rb") as file:
-            file.seek(start)
-            return file.read(size)
+    def _open(self, name: str, place: int) -> IO[bytes]:
+        file = open(os.open(os.path.join(self.folder, name), OPENED), "rb")
+        file.seek(place)
+        return file
 
     def _read(self, name: str, stamp: Stamp) -> bytes:
-        """Returns the whole lines of a file that were not taken, and takes note of them."""
-        taken = self.files.get(name, Taken(stamp))
-        lines = whole_lines(self._bytes(name, taken.size))
+        """Returns the whole lines of a file that were not taken, and takes note of them.
+
+        One that cannot be read, or is too large, is left out until it looks different.
+        """
+        taken, lines = self.files.get(name, Taken(stamp)), b""
+        try:
+            lines = self._new_lines(name, taken.size)
+        except OSError as error:
+            self.leave_out(f"{shown(name)}: {error.strerror or error}")
+            if name == self.own:
+                self.own = self._draw_name()
         self.files[name] = taken.after(stamp, lines)
         return lines
+
+    def _new_lines(self, name: str, place: int) -> bytes:
+        """Returns the whole lines of a file from a place on, up to one that is too long."""
+        found, rest, size = [b""], b"", place
+        with self._open(name, place) as file:
+            seen = os.fstat(file.fileno())
+            while piece := file.read(PIECE):
+                # Of a file with holes only what is written counts.
+                if max(size, min(seen.st_size, seen.st_blocks * BLOCK)) > MOST:
+                    raise OSError(errno.EFBIG, "more than a note can have")
+                found.append(whole_lines(rest + piece))
+                rest = (rest + piece)[len(found[-1]) :]
+                size += len(found[-1])
+                if b"\0" in rest or b"\n" not in piece:
+                    break
+        if len(rest.partition(b"\0")[0]) > LONGEST:
+            self.leave_out(f"{shown(name)}: a line that is too long")
+        return b"".join(found)
 
     # ---- the own file
 
@@ -157,7 +191,7 @@ class Folder(Worker):
         if not lines:
             return
         path, text = os.path.join(self.folder, self.own), text_of(lines)
-        taken = self.files.get(self.own, Taken((0, 0, 0)))
+        taken = self.files.get(self.own, Taken((0, 0, 0, 0)))
         with open(path, "r+b" if self.own in self.files else "xb") as file:
             file.truncate(taken.size)
             file.seek(taken.size)

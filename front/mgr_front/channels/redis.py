@@ -1,7 +1,7 @@
 """A stream of Redis that carries a note between many writers."""
 
-import json
 import time
+from collections import deque
 from collections.abc import Iterator
 from contextlib import contextmanager, suppress
 from typing import Any
@@ -12,10 +12,12 @@ from mgr_front.channels.stream import ANSWER, BY, FIRST, LINES, Stream, lines_of
 from mgr_front.channels.worker import Descriptors, Worker
 from mgr_front.copies import digest
 from mgr_front.shared import SharedNote, text_of
-from mgr_front.wire import operations
+from mgr_front.wire import Broken, saying
 
 # Seconds: for one writer to give what the stream lacks, and for which claims may differ since something is under way.
 GIVING, UNDER_WAY = 10.0, 10.0
+# So much of what is said is taken at once, and so much of it may have entries to come.
+MOST_SAID, MOST_EARLY = 1000, 100
 
 
 class RedisStream(Worker):
@@ -30,8 +32,8 @@ class RedisStream(Worker):
         self.heard = 0.0
         # How many entries of the stream were read, and the last one; when something came or was told.
         self.count, self.last, self.changed = 0, FIRST, 0.0
-        # What was heard on the channel before its entry was read.
-        self.early: set[bytes] = set()
+        # Digests of what was heard on the channel, whose entries need not be taken.
+        self.early: deque[str] = deque(maxlen=MOST_EARLY)
 
     @contextmanager
     def connected(self) -> Iterator[None]:
@@ -67,7 +69,6 @@ class RedisStream(Worker):
         """Takes all of the stream that the note lacks, and returns what the stream lacks."""
         entries = self.stream.after(FIRST)
         self.last, self.count = entries[0][-1][0] if entries[0] else FIRST, entries[1]
-        self.early.clear()
         given, _ = self.compare(lines_of(entries), mends=True)
         self.changed = time.monotonic()
         return given
@@ -83,29 +84,32 @@ class RedisStream(Worker):
             self.stream.add(lines)
             self.passed(count)
             self.changed = time.monotonic()
-        digests = {told.get("digest") for told in said if told.get("op") == "alive"}
+        digests = {str(told.get("digest")) for told in said if told.get("op") == "alive"}
         if digests or any(told.get("op") == "entry" for told in said):
             self._look()
         # Where others have something else, all is compared, unless something is under way.
         if time.monotonic() > self.changed + UNDER_WAY and digests - {digest(self.note.claims())}:
             self.join_all()
-        return min(self.presence.turn(self.stream.say, self.note.claims), ANSWER)
+        seconds = min(self.presence.turn(self.stream.say, self.note.claims), ANSWER)
+        return 0.0 if len(said) == MOST_SAID else seconds
 
     def _said(self) -> list[dict[str, Any]]:
         """Returns what was said on the channel. Lines, and who is where, are taken."""
-        said = []
-        while message := self.ear.get_message():
-            with suppress(ValueError, RecursionError, TypeError):
-                if isinstance(told := json.loads(message["data"]), dict):
-                    said.append(told)
+        said: list[dict[str, Any]] = []
+        while len(said) < MOST_SAID and (message := self.ear.get_message()):
+            told = {}
+            with suppress(Broken):
+                told = saying(message["data"] if isinstance(message["data"], bytes) else b"")
+            said.append(told)
         for told in said:
             self.presence.take(told)
             if told.get("by") == self.stream.by:
                 self.heard = time.monotonic()
             elif told.get("op") == "lines":
-                lines = str(told.get("lines")).encode("utf-8", "replace")
-                self.early.add(lines)
-                self.take(operations(lines.splitlines()))
+                # Half a character makes no operation.
+                lines = str(told.get("lines")).encode("utf-8", "surrogatepass")
+                self.early.append(digest(lines))
+                self.take(lines.splitlines())
         return said
 
     def _look(self) -> None:
@@ -116,6 +120,5 @@ class RedisStream(Worker):
         elif entries:
             self.last, self.count, self.changed = entries[-1][0], size, time.monotonic()
             others = [members.get(LINES, b"") for _, members in entries if members.get(BY) != self.stream.by.encode()]
-            news = [lines for lines in others if lines not in self.early]
-            self.take(operations(b"\n".join(news).splitlines()))
-            self.early.difference_update(others)
+            news = [lines for lines in others if digest(lines) not in self.early]
+            self.take(b"\n".join(news).splitlines())

@@ -48,13 +48,13 @@ class Stream:
     def check(self) -> None:
         """Another version of this program may write otherwise: it is `Apart` if the stream is one of that."""
         self.link.set(self.version, VERSION, nx=True)
-        if not self.link.get(self.version).startswith(VERSION):
+        if not (self.link.get(self.version) or VERSION).startswith(VERSION):
             raise Apart("another version of mgr-live writes there", "refused")
 
     def after(self, last: bytes) -> Entries:
         """Returns the entries that stand after one, and how many there are in all at that moment."""
         size, found = self.link.pipeline().xlen(self.key).xread({self.key: last}).execute()
-        return found[0][1] if found else [], size
+        return [each for each in found[0][1] if each[1]] if found else [], size
 
     def add(self, lines: bytes, before: bytes | None = None) -> None:
         """Adds an entry, which takes the place of all up to one if that is given, and says so: all or nothing."""
@@ -73,7 +73,9 @@ class Stream:
 
 
 def lines_of(entries: Entries) -> bytes:
-    return b"".join(members.get(LINES, b"") for _, members in entries[0])
+    """Returns the lines of entries. Whoever added one may have left out the end of its last line."""
+    found = [members.get(LINES, b"") for _, members in entries[0]]
+    return b"".join(lines if lines.endswith(b"\n") else lines + b"\n" for lines in found if lines)
 
 
 def trim(url: str, mgr: str) -> tuple[int, int]:

@@ -14,12 +14,16 @@ from mgr_front.channels import Apart, Place, Post, State, Took
 from mgr_front.channels.presence import Presence
 from mgr_front.mailbox import Mailbox
 from mgr_front.shared import SharedNote
+from mgr_front.wire import is_operation
 
 # Seconds before it is tried again after a break: at first, and at most.
 FIRST_PAUSE, MOST_PAUSE = 1.0, 30.0
 FINAL = "refused", "conflict"
 # Seconds that keys may wait for the thread of a channel each time, while much comes there.
 SWITCH = 0.0005
+
+# So much is said at once of what is left out.
+MOST_SAID = 3
 
 # What is to be read and written, as select has it.
 Descriptors = tuple[Sequence[Any], Sequence[Any]]
@@ -38,9 +42,10 @@ class Worker(ABC):
         self.is_accepted = False
         # Who is where, if the channel carries that.
         self.presence: Presence | None = None
-        # What was told and is not passed on, and what is to be said of others' lines.
+        # What was told and is not passed on; what was left out of what others have, and what of that was not said.
         self.told: list[bytes] = []
-        self.remark = ""
+        self.left_out: dict[str, int] = {}
+        self.unsaid: list[str] = []
         self._given: Mailbox[Sequence[bytes]] = Mailbox()
         self._state = State("")
         # Seconds until it is tried again after a break.
@@ -109,7 +114,9 @@ class Worker(ABC):
 
     def compare(self, log: bytes, mends: bool = False) -> tuple[list[bytes], bytes]:
         """Takes what the note lacks of a log of others; returns what that lacks, and what they have, in short."""
-        lines, claims, self.remark = self.note.others(log, mends)
+        lines, claims, refused = self.note.others(log, mends)
+        if refused:
+            self.leave_out(refused)
         return self.accept(lines, claims), claims
 
     def accept(self, lines: list[bytes], claims: bytes) -> list[bytes]:
@@ -120,8 +127,25 @@ class Worker(ABC):
         return given
 
     def take(self, lines: Iterable[bytes]) -> None:
-        if made := tuple(lines):
+        """Posts lines of others, but for those that are no operations."""
+        came = tuple(lines)
+        made = tuple(filter(is_operation, came))
+        if len(made) < len(came):
+            self.leave_out("lines that are no operations", len(came) - len(made))
+        if made:
             self.post(Took(made))
+
+    def leave_out(self, what: str, count: int = 0) -> None:
+        """Takes note of what is left out of what others have, and how much. It is said once of each."""
+        self.unsaid += [what] * (what not in self.left_out)
+        self.left_out[what] = self.left_out.get(what, 0) + count
+
+    def _say_live(self) -> None:
+        """Says that the channel is live, and what was left out."""
+        counts = {what: f" ({self.left_out[what]})" * bool(self.left_out[what]) for what in self.unsaid[:MOST_SAID]}
+        said = "; ".join(what + count for what, count in counts.items())
+        self.unsaid = []
+        self.say(State("live", said and f"left out: {said}"))
 
     def say(self, state: State) -> None:
         """Says how the channel stands, if that is news."""
@@ -134,7 +158,7 @@ class Worker(ABC):
         count = len(self.told)
         self.join()
         self.passed(count)
-        self.say(State("live", self.remark))
+        self._say_live()
 
     def _run(self) -> None:
         self.say(State("joining"))
@@ -169,6 +193,8 @@ class Worker(ABC):
             is_last = self.is_leaving
             self.wait(0.0 if is_last else seconds)
             seconds = self.turn()
+            if self.unsaid:
+                self._say_live()
             if is_last and not self.told:
                 self.leave()
                 return
