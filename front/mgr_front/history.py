@@ -7,7 +7,7 @@ import re
 import subprocess
 from collections.abc import Iterator
 
-from mgr_front.channels import shown
+from mgr_front.cells import clean
 from mgr_front.channels.git import GitBranch
 from mgr_front.notes import Note, read
 from mgr_front.options import GIT, Options
@@ -27,11 +27,6 @@ def _run(*command: str) -> bytes:
     return subprocess.run(command, capture_output=True).stdout
 
 
-def _printable(text: str) -> str:
-    """Returns a text as a terminal may be given it."""
-    return "\n".join(shown(line.replace("\t", " "), len(line)) for line in text.split("\n"))
-
-
 def _commits(mgr: str, folder: str, tip: str, path: str) -> Iterator[Step]:
     """The texts of the last commits of a log, the first one first, in the repository of a folder."""
     git = ["git", "-C", folder]
@@ -44,7 +39,7 @@ def steps(mgr: str, note: Note, options: Options) -> list[Step]:
     """Returns the texts that a note had, of commits and after so many lines of its log; the last is that of now."""
     folder, log = os.path.split(os.path.abspath(note.log))
     made = [*_commits(mgr, folder, "HEAD", f"./{log}")]
-    kind, place = options.way
+    kind, place = options.way[:2]
     if kind == GIT:
         branch = GitBranch(SharedNote(mgr, note, 0), print, place)
         made += _commits(mgr, branch.clone, branch.ref, branch.file)
@@ -61,7 +56,7 @@ def choose(mgr: str, note: Note, options: Options) -> str:
     found = steps(mgr, note, options)
     for number, (what, text) in enumerate(found, 1):
         line = text.rstrip().rpartition("\n")[2]
-        print(f"{number:3}  {_printable(what)}: {len(text):,} characters, .. {_printable(line)[-SHOWN:]}")
+        print(f"{number:3}  {clean(what)}: {len(text):,} characters, .. {clean(line)[-SHOWN:]}")
     while (answered := answer(ASKED)) != "q":
         asked = re.fullmatch(r"([dp]?) *([0-9]+)", answered)
         if not asked or not 0 < int(asked[2]) <= len(found):
@@ -72,5 +67,5 @@ def choose(mgr: str, note: Note, options: Options) -> str:
         if asked[1] == "d":
             now = found[-1][1]
             text = "\n".join(difflib.unified_diff(text.split("\n"), now.split("\n"), "then", "now", lineterm=""))
-        pydoc.pager(_printable(text))
+        pydoc.pager(clean(text, "\n\t"))
     stop("nothing was done", 0)

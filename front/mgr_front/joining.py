@@ -31,7 +31,7 @@ SHOWN = 60
 
 def channel(options: Options, note: SharedNote, post: Post) -> Worker:
     """Returns the channel that the command line asks for; `Refused` says what it lacks."""
-    kind, rest = options.way
+    kind, rest, *path = options.way
     person = options.person or user()
     if kind == GIT:
         return GitBranch(note, post, rest, options.person)
@@ -39,7 +39,7 @@ def channel(options: Options, note: SharedNote, post: Post) -> Worker:
         return Folder(note, post, rest)
     if kind not in (PORTS, HOSTS, HERE):
         return RedisStream(note, post, f"{kind}:{rest}", person)
-    way = by_note(rest) if kind == HERE else by_port(int(rest)) if kind == PORTS else by_ssh(*rest.split(":", 1))
+    way = by_note(rest) if kind == HERE else by_port(int(rest)) if kind == PORTS else by_ssh(rest, *path)
     return Hub(note, post, way, person)
 
 

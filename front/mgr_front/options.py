@@ -2,8 +2,10 @@
 
 import argparse
 import os
+import re
 from argparse import ArgumentTypeError as Wrong
 from collections.abc import Callable, Sequence
+from urllib.parse import urlsplit
 
 from mgr_front import VERSION
 from mgr_front.notes import LOG
@@ -12,6 +14,8 @@ from mgr_front.notes import LOG
 # words that stand before the colon.
 PORTS, HOSTS, HERE = "port", "host", "here"
 GIT, FOLDER, REDIS, SECURE_REDIS = "git", "dir", "redis", "rediss"
+# A machine, by its name or, in brackets, an address of IPv6, with a login before it or not; and what follows.
+WAY = re.compile(r"(?s)(?!-)([^:@\[\]]*@)?(?:\[((?!-)[^\[\]]+)\]|((?!-)[^:\[\]]+)):(.+)")
 
 WAYS = (
     "write with all others at the mgr-hub that has NOTE on that machine, by ssh; or at a port of this one; or by "
@@ -47,14 +51,21 @@ def number_to(most: int) -> Callable[[str], int]:
     return read
 
 
-def way(word: str) -> tuple[str, str]:
-    """Reads a way to others: its kind, and what follows."""
-    begin, colon, rest = word.partition(":")
+def way(word: str) -> tuple[str, ...]:
+    """Reads a way to others: its kind, and what follows; that is a machine and a note if it is by ssh."""
     if word.isdigit():
         return PORTS, str(number_to(65535)(word))
-    if begin.startswith("-") or not (begin and colon and rest):
+    found = WAY.fullmatch(word)
+    if not found:
         raise Wrong(f"{word!r} is neither a port nor HOST:NOTE")
-    return (begin, rest) if begin in (GIT, FOLDER, REDIS, SECURE_REDIS) else (HOSTS, word)
+    user, address, name, rest = found.groups("")
+    kind = user + address + name
+    if kind in (REDIS, SECURE_REDIS):
+        try:
+            urlsplit(word).port
+        except ValueError as error:
+            raise Wrong(f"{kind}://HOST:PORT/KEY: {error}") from None
+    return (kind, rest) if kind in (GIT, FOLDER, REDIS, SECURE_REDIS) else (HOSTS, kind, rest)
 
 
 def _parser(program: str, description: str, epilog: str = "") -> argparse.ArgumentParser:

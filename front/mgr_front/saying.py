@@ -5,6 +5,7 @@ from collections.abc import Callable, Sequence
 from contextlib import suppress
 from typing import NoReturn
 
+from mgr_front.cells import clean
 from mgr_front.screen import write_all
 
 # Statuses of the front's own: a text that is refused; a failed device, or none.
@@ -24,7 +25,7 @@ def speak_for(program: str, choose: Callable[[str, Sequence[str], str], str]) ->
 def tell(what: str, program: str = "") -> None:
     # If the terminal is gone, so is whoever would read this.
     with suppress(OSError):
-        write_all(f"{program or speaker}: {what}\n".encode("utf-8", "surrogateescape"), to=2)
+        write_all(clean(f"{program or speaker}: {what}\n", "\n").encode(), to=2)
 
 
 def stop(what: str, status: int = FAILED, program: str = "") -> NoReturn:
@@ -47,7 +48,7 @@ def choice(question: str, *letters: str, default: str = "") -> str:
     """Asks for one of these letters until it is given. An empty answer is the default, if there is one."""
     if chooser:
         return chooser(question, letters, default)
-    print(question, end="")
+    print(clean(question, "\n"), end="")
     asked = f"{', '.join(letters[:-1])} or {letters[-1]}? "
     while (answered := answer(asked).lower() or default) not in letters:
         pass

@@ -1,10 +1,11 @@
 """What a terminal of some size shows of a frame: its rows, as they are sent, and its cursor."""
 
 import functools
+import re
 from collections.abc import Sequence
 from dataclasses import dataclass
 
-from mgr_front.cells import beginning, cells, part, shift
+from mgr_front.cells import TURNING, beginning, cells, clean, part, shift
 from mgr_front.statuses import PROMPT, Status
 
 # So many rows are kept as they were made: most are the same in the next picture.
@@ -16,8 +17,7 @@ LEAST_NOTE = 20
 CLEAR, REVERSE, RESET = "\x1b[K", "\x1b[7m", "\x1b[m"
 # How many colours writers have.
 COLOURS = 6
-# Control characters that an answer may have beside TAB are shown so.
-CONTROLS = dict.fromkeys(range(0x80, 0xA0), "?")
+HIDING, BEGIN = re.compile(f"[{TURNING}]"), re.compile(f"^([{TURNING}]+)(.?)")
 
 
 @dataclass(frozen=True)
@@ -56,7 +56,7 @@ def echo_line(status: Status, said: str | None = None, remarks: Sequence[str] = 
     what is `said` in its place, and the remarks in brackets after what stands before them.
     """
     message = status.message if said is None else said
-    prompt = (status.label + status.answer).expandtabs().translate(CONTROLS)
+    prompt = clean((status.label + status.answer).expandtabs())
     prompt = f"Failing {prompt}{failing}" if failing else prompt
     shown = [text for text in (prompt, message) if text]
     shown += [remark for remark in remarks if remark != message]
@@ -92,7 +92,7 @@ def picture(
         mode_row(text, columns, note if i == current else "")
         if i in mode_rows
         else text_row(text, left if i == row else 0, columns, tuple(mark for mark in marks if mark.row == i))
-        for i, text in enumerate((*frame[:-1], echo.text))
+        for i, text in enumerate((*frame[:-1], clean(echo.text)))
     ]
     if len(shown) > rows:
         top = max(0, min(row, len(shown) - 2) - rows + 2)
@@ -103,10 +103,19 @@ def picture(
 @functools.lru_cache(maxsize=KEPT)
 def text_row(text: str, left: int, columns: int, marks: tuple[Mark, ...] = ()) -> str:
     """Returns a row of the text, or the echo line."""
-    row = cells(text)
+    row = text_cells(text)
     for mark in marks:
         _put(mark, row)
     return sent(part(row, left, columns), columns)
+
+
+def text_cells(text: str) -> list[str]:
+    """Returns what stands in each column of a row of a text.
+
+    What turns its direction has no column, and could hide what others wrote: what it stands after is in reverse.
+    """
+    row = cells(BEGIN.sub(lambda found: (found[2] or " ") + found[1], text), TURNING)
+    return [f"{REVERSE}{HIDING.sub('', sign)}{RESET}" if HIDING.search(sign) else sign for sign in row]
 
 
 def sent(row: Sequence[str], columns: int, before: str = "", after: str = "") -> str:

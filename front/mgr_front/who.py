@@ -4,7 +4,6 @@ import json
 from collections.abc import Callable, Mapping
 
 from mgr_front.cells import beginning, cells
-from mgr_front.channels import shown
 from mgr_front.errands import Errand
 from mgr_front.keys import CANCEL
 from mgr_front.minibuffer import Page, Question
@@ -33,7 +32,7 @@ def row(line: list[tuple[int, str]], names: Mapping[int, str], has_colours: bool
     """Returns how a line is shown: who wrote in it, and what, each in a colour."""
 
     def styled(replica: int, text: str, is_text: bool) -> list[str]:
-        signs = cells(shown(text, len(text)))
+        signs = cells(text)
         colour = style(replica, True, is_text)
         return [f"{colour}{sign}{RESET}" if sign else "" for sign in signs] if has_colours else signs
 

@@ -1,10 +1,12 @@
 """What is asked before an edit with others, and who joins whom."""
 
+import io
 import os
 import pathlib
 import subprocess
 import sys
 import unittest
+from contextlib import redirect_stderr
 from unittest import mock
 
 from context import InFolder
@@ -174,6 +176,28 @@ class TestChannels(unittest.TestCase):
             made = self.made("--with", f"git:{word}")
             assert isinstance(made, GitBranch)
             self.assertEqual((made.url, made.branch), (place, branch))
+
+    def test_machines(self) -> None:
+        for word, host, path in (
+            ("host:note", "host", "note"),
+            ("[fe80::6]:a:b", "fe80::6", "a:b"),
+            ("bob@[::1]:note", "bob@::1", "note"),
+            ("bob@host:/a b", "bob@host", "/a b"),
+        ):
+            with mock.patch.object(joining, "by_ssh") as by_ssh:
+                self.made("--with", word)
+            by_ssh.assert_called_once_with(host, path)
+
+    def test_an_address_of_redis(self) -> None:
+        with mock.patch.object(stream, "library", mock.Mock()) as library:
+            self.made("--with", "redis://[::1]:6380/k")
+        self.assertEqual([library().Redis.call_args[1][name] for name in ("host", "port")], ["::1", 6380])
+
+    def test_what_is_wrong(self) -> None:
+        for word in ("redis://h:99999/k", "redis://[::1/k", "rediss://h:abc/k", "[-x]:n", "-x:n", "[::1]n", "[::1]:", ":n", "h:", "0"):
+            with self.assertRaises(SystemExit, msg=word), redirect_stderr(io.StringIO()) as said:
+                self.made("--with", word)
+            self.assertRegex(said.getvalue(), "argument --with: .")
 
     def test_what_is_refused(self) -> None:
         with mock.patch.object(stream, "library", mock.Mock()):

@@ -9,6 +9,7 @@ from unittest import mock
 
 import context  # noqa: F401
 
+from mgr_front.cells import cells
 from mgr_front.screen import CLOSE, Screen, change, until_done
 from mgr_front.statuses import Status
 from mgr_front.view import CLEAR, Echo, Mark, Picture, echo_line, mode_row, picture, style, text_row
@@ -125,6 +126,31 @@ class TestRows(unittest.TestCase):
         ]:
             with self.subTest(text=text):
                 self.assertEqual(text_row(text, 0, columns), wanted)
+
+
+    def test_what_turns_the_direction_of_a_text_is_not_sent_and_seen(self) -> None:
+        for text, wanted in [
+            ("ab\u202ecd", "a<b>cd"),
+            ("\u202eab", "<a>b"),
+            ("\u2066\u202e漢b", "<漢>b"),
+            ("漢\u200fb\u2069", "<漢><b>"),
+            ("\u061c", "< >"),
+            ("a\u2028b\u2029", "a?b?"),
+            ("👨\u200d👩 \u202ex", "👨\u200d👩< >x"),
+        ]:
+            with self.subTest(text=text):
+                shown = text_row(text, 0, 20)
+                self.assertEqual(shown.replace("\x1b[7m", "<").replace("\x1b[m", ">").replace(CLEAR, ""), wanted)
+
+    def test_no_row_sends_what_others_have_a_terminal_do(self) -> None:
+        foreign = "\x1b[2J\x9b1m\u202ex\u2066\ud800\n\x07"
+        status = Status(("text", foreign, f"----Mg: {foreign}", ""), (0, 0), (2,), message=foreign, label="x", answer=foreign)
+        shown = picture(status, echo_line(status, None, [foreign]), 4, 80, foreign)
+        sent = re.sub("\x1b\\[7?m|\x1b\\[K", "", "".join(shown.rows))
+        self.assertRegex(sent, "^[ -~]*$")
+        sent.encode()
+        asked = Echo(foreign, len(cells(foreign)))
+        self.assertEqual(picture(status, asked, 4, 80).column, len(foreign))
 
 
 class TestModes(unittest.TestCase):
