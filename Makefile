@@ -23,7 +23,7 @@ NEED_RT = command -v rt >/dev/null || { \
 
 NEED_PYTHON = command -v python3 >/dev/null || { echo "python3 is not installed" >&2; exit 1; }
 
-.PHONY: build try scenes test-front try-live try-hub try-exchange try-sharing try-engines try-emacs crash hostile files test gate wrong-bodies other-store contracts bench bench-growth bench-beside bench-live pictures install uninstall dist try-install clean help
+.PHONY: build try scenes test-front hostile-front try-live try-hub try-exchange try-sharing try-engines try-emacs crash hostile files test gate wrong-bodies other-store contracts bench bench-growth bench-beside bench-live pictures install uninstall dist try-install clean help
 
 build: build/mgr
 	@echo "build/mgr is up to date"
@@ -45,6 +45,10 @@ test-front:
 	@python3 -m unittest discover -s front/tests
 	@if command -v mypy > /dev/null; then cd front && mypy --strict mgr_front; else echo "mypy is not installed"; fi
 	@if command -v pyflakes3 > /dev/null; then pyflakes3 front/mgr_front; else echo "pyflakes3 is not installed"; fi
+
+# Ten times as many random lines of others as test-front has, for the front and for mgr, which are to take the same ones. A minute or two.
+hostile-front: build/mgr
+	@HOSTILE=10000 MGR=$(CURDIR)/build/mgr python3 -m unittest discover -s front/tests -p test_hostile.py
 
 # The front, in a terminal of tmux, and the picture of two people. It takes one to five minutes.
 try-live: build/mgr
@@ -179,6 +183,9 @@ help:
 	@echo "               Where mgr is built, two of them exchange a note"
 	@echo "make test-front"
 	@echo "               tests the parts of the front, each by itself (needs python3)"
+	@echo "make hostile-front"
+	@echo "               gives the front 10,000 random lines of others by each way that they may come, and mgr the same (needs"
+	@echo "               python3)"
 	@echo "make try-live  runs mgr-live in a terminal of tmux, and looks at what it shows (needs python3 and tmux)"
 	@echo "make try-hub   looks at who joins a mgr-hub late, with another note or under a number that is taken (needs python3 and"
 	@echo "               tmux)"

@@ -1,6 +1,5 @@
 """A folder that a sync tool or a mount shares, with a log for each writer: no file has two writers."""
 
-import errno
 import json
 import os
 import re
@@ -16,6 +15,7 @@ from mgr_front.channels.worker import Worker
 from mgr_front.copies import digest, machine, state_folder, user
 from mgr_front.shared import SharedNote, text_of
 from mgr_front.wire import LONGEST
+
 # The name of a log, and that of another state of it, which a sync tool keeps beside it.
 NAME = re.compile(r"[0-9a-f]{32}.*\.ops")
 LEAST_POLL, MOST_POLL, SLOWER = 0.5, 5.0, 1.25
@@ -144,7 +144,7 @@ class Folder(Worker):
             while piece := file.read(PIECE):
                 # Of a file with holes only what is written counts.
                 if max(size, min(seen.st_size, seen.st_blocks * BLOCK)) > MOST:
-                    raise OSError(errno.EFBIG, "more than a note can have")
+                    raise OSError("more than a note can have")
                 found.append(whole_lines(rest + piece))
                 rest = (rest + piece)[len(found[-1]) :]
                 size += len(found[-1])

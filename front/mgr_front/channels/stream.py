@@ -54,7 +54,10 @@ class Stream:
     def after(self, last: bytes) -> Entries:
         """Returns the entries that stand after one, and how many there are in all at that moment."""
         size, found = self.link.pipeline().xlen(self.key).xread({self.key: last}).execute()
-        return [each for each in found[0][1] if each[1]] if found else [], size
+        entries = found[0][1] if found else []
+        # Whoever added one may have given it anything.
+        texts = [{of: text for of, text in (members or {}).items() if isinstance(text, bytes)} for _, members in entries]
+        return [(name, text) for (name, _), text in zip(entries, texts)], size
 
     def add(self, lines: bytes, before: bytes | None = None) -> None:
         """Adds an entry, which takes the place of all up to one if that is given, and says so: all or nothing."""

@@ -21,8 +21,7 @@ FIRST_PAUSE, MOST_PAUSE = 1.0, 30.0
 FINAL = "refused", "conflict"
 # Seconds that keys may wait for the thread of a channel each time, while much comes there.
 SWITCH = 0.0005
-
-# So much is said at once of what is left out.
+# So much is said at once of what was left out.
 MOST_SAID = 3
 
 # What is to be read and written, as select has it.
@@ -142,8 +141,8 @@ class Worker(ABC):
 
     def _say_live(self) -> None:
         """Says that the channel is live, and what was left out."""
-        counts = {what: f" ({self.left_out[what]})" * bool(self.left_out[what]) for what in self.unsaid[:MOST_SAID]}
-        said = "; ".join(what + count for what, count in counts.items())
+        counts = [(what, self.left_out[what]) for what in self.unsaid[:MOST_SAID]]
+        said = "; ".join(what + f" ({count})" * bool(count) for what, count in counts)
         self.unsaid = []
         self.say(State("live", said and f"left out: {said}"))
 
