@@ -2,8 +2,11 @@
 
 import os
 import pathlib
+import shutil
+import stat
 import subprocess
 import threading
+import time
 import unittest
 from unittest import mock
 
@@ -194,6 +197,130 @@ class TestGit(WithWriters):
         with mock.patch.dict(os.environ, GIT_DIR=str(self.folder / "else"), GIT_INDEX_FILE="else"):
             self.pair()
         self.assertFalse((self.folder / "else").exists())
+
+    # ---- the clone, which is a cache
+
+    def clone(self, cache: str = "cache") -> pathlib.Path:
+        return next((self.folder / cache / "mgr" / "git").iterdir())
+
+    def reopen(self, writer: Writer) -> list[State]:
+        """Returns how one stands who joins again, up to where all is well."""
+        writer.states.clear()
+        self.open(writer, self.make)
+        self.wait("live", writer.word)
+        return writer.states
+
+    def test_a_clone_that_is_spoiled_is_made_anew_once(self) -> None:
+        def no_clone(clone: pathlib.Path) -> None:
+            shutil.rmtree(clone)
+            clone.mkdir()
+
+        def no_head(clone: pathlib.Path) -> None:
+            (clone / "HEAD").write_text("")
+
+        def locked(clone: pathlib.Path) -> None:
+            (clone / f"{one_ref}.lock").touch()
+
+        def corrupt(clone: pathlib.Path) -> None:
+            for path in clone.glob("objects/??/*"):
+                path.chmod(stat.S_IRWXU)
+                path.write_bytes(b"")
+
+        one = self.first()
+        assert isinstance(one.channel, GitBranch)
+        one_ref, known = one.channel.ref, "a"
+        for spoil, sign in ((no_clone, "b"), (no_head, "c"), (locked, "d"), (corrupt, "e")):
+            with self.subTest(spoil.__name__):
+                self.close(one)
+                spoil(self.clone())
+                one.type(sign)
+                words = [state.word for state in self.reopen(one)]
+                self.assertEqual(words, ["joining", "alone", "live"])
+                self.assertIn("git's cache is made anew", one.states[1].why)
+                known += sign
+                self.wait(True, lambda: f'"char":"{sign}"' in self.tip())
+        self.assertEqual(len(list(self.clone().parent.iterdir())), 1)
+
+    def test_a_clone_that_could_not_be_made_is_made_once_it_can_be(self) -> None:
+        caches = self.folder / "cache" / "mgr" / "git"
+        caches.parent.mkdir(parents=True)
+        caches.write_text("a file where the folder has to be")
+        one = self.expect_apart("alone")
+        caches.unlink()
+        self.wait("live", one.word)
+        self.assertEqual(self.authors(), ["Writer 1|Writer 1"])
+
+    def test_a_fault_of_the_others_leaves_the_clone(self) -> None:
+        one = self.first()
+        made = self.clone().stat().st_ino
+        self.close(one)
+        self.shared.rename(self.folder / "away")
+        self.open(one, self.make)
+        self.wait("alone", one.word)
+        (self.folder / "away").rename(self.shared)
+        self.wait("live", one.word)
+        self.assertEqual((self.clone().stat().st_ino, len(one.states)), (made, 5), one.states)
+
+    def with_a_file_beside(self) -> str:
+        """Puts another file into the branch, and returns its name as an object."""
+        folder = self.folder / "clone"
+        self.git("clone", "-q", str(self.shared), str(folder))
+        (folder / "beside").write_bytes(os.urandom(100_000))
+        self.git("add", ".", folder=folder)
+        self.git("commit", "-qm", "else", folder=folder)
+        self.git("push", "-q", "origin", "HEAD:notes", folder=folder)
+        return self.git("rev-parse", "HEAD:beside", folder=folder)
+
+    def has(self, name: str, cache: str) -> bool:
+        """Whether the clone in a cache has an object; this git fetches nothing."""
+        command = ["git", f"--git-dir={self.clone(cache)}", "cat-file", "-e", name]
+        return not subprocess.run(command, capture_output=True).returncode
+
+    def test_only_the_files_of_notes_are_fetched(self) -> None:
+        for allowed, version, wanted in (("true", "2", False), ("false", "2", True), ("true", "0", True)):
+            with self.subTest(allowed=allowed, version=version):
+                self.setUp()
+                self.git("config", "uploadpack.allowFilter", allowed)
+                (self.folder / "settings").write_text(f"[protocol]\nversion = {version}\n")
+                beside = self.with_a_file_beside()
+                with mock.patch.dict(os.environ, GIT_CONFIG_GLOBAL=str(self.folder / "settings")):
+                    # On one machine both go by one clone.
+                    one = self.first()
+                    with mock.patch.dict(os.environ, XDG_CACHE_HOME=str(self.folder / "another")):
+                        other = self.begin(2, self.make)
+                    for sign in "bcd":
+                        self.wait("live", other.word)
+                        self.wait("a", lambda: other.signs()[:1])
+                        other.type(sign)
+                        self.wait(True, lambda: f'"char":"{sign}"' in self.tip())
+                    self.wait("abcd", one.signs)
+                    self.assertEqual([self.has(beside, name) for name in ("cache", "another")], [wanted] * 2)
+                    self.assertEqual(self.git("ls-tree", "--name-only", "notes").split(), ["beside", "note.ops"])
+                    self.close(one)
+                    self.close(other)
+
+    # ---- git that is slow, silent or ended
+
+    def test_the_time_of_git_runs_while_nothing_comes(self) -> None:
+        path, found = self.folder / "git", shutil.which("git")
+        cases = (
+            ("for i in 1 2 3 4 5 6 7 8; do echo $i >&2; sleep 0.25; done", "live", ""),
+            ("sleep 30", "alone", "git fetch: nothing came for 1 seconds"),
+            ("kill -9 $$", "alone", "git fetch: signal 9 ended it"),
+            ("exit 7", "alone", "status 7"),
+        )
+        self.close(self.first())
+        for number, (done, word, why) in enumerate(cases, 2):
+            with self.subTest(done), mock.patch.object(git, "LONGEST", 1):
+                path.write_text(f'#!/bin/sh\ncase " $* " in *" fetch "*) {done};; esac\nexec {found} "$@"\n')
+                path.chmod(stat.S_IRWXU)
+                with mock.patch.dict(os.environ, PATH=f"{self.folder}:{os.environ['PATH']}"):
+                    one = self.begin(number, self.make)
+                    self.wait(word, one.word)
+                    self.assertEqual(one.states[-1].why, why)
+                    begun = time.monotonic()
+                    one.channel and one.channel.close(0.1)
+                    self.assertLess(time.monotonic(), begun + 1)
 
 
 if __name__ == "__main__":

@@ -3,24 +3,36 @@
 It goes by a bare clone in the user's cache, and git's own commands. Nobody's working tree is touched.
 """
 
+import glob
 import os
 import random
+import shutil
 import signal
 import socket
 import subprocess
+import tempfile
 import time
+from contextlib import suppress
+from typing import IO
 
-from mgr_front.channels import Apart, Post, shown
+from mgr_front.channels import Apart, Post, State, shown
 from mgr_front.channels.worker import Worker
 from mgr_front.copies import digest, user
 from mgr_front.shared import SharedNote, joined, text_of
 
 # Seconds between two commits, and between two looks at the branch: soon after a change, and later; how long soon is.
 COMMITS, SOON, LATER, LIVELY = 30.0, 2.0, 60.0, 600.0
-# Seconds before another push if others pushed, and how often it is tried; those that a command may take.
-AGAIN, TRIES, LONGEST = (0.1, 1.0), 10, 60
+# Seconds before another push if others pushed, and how often it is tried.
+AGAIN, TRIES = (0.1, 1.0), 10
+# Seconds for which nothing may come of a command, between two looks at that, and for one that nobody looks at.
+LONGEST, LOOK, ORPHAN = 60, 0.5, 3600
 # Git's own variables, as within a hook, name another repository.
 FOREIGN = ("GIT_DIR", "GIT_WORK_TREE", "GIT_INDEX_FILE", "GIT_OBJECT_DIRECTORY", "GIT_COMMON_DIR", "GIT_NAMESPACE")
+# Git fetches no files but those that it reads, if the other side agrees; and what it says if that does not give them.
+LAZY = ("remote.mgr.promisor=true", "remote.mgr.partialclonefilter=blob:none")
+NOT_GIVEN = "from promisor remote"
+# The command that reads nothing of the clone.
+LOOK_UP = "ls-remote"
 # What git adds to why it could not reach a repository.
 ADVICE = ("fatal: Could not read from remote", "Please make sure you have", "and the repository exists.")
 # How a line begins that speaks of a branch that was not pushed.
@@ -30,6 +42,10 @@ UNBORN = "main"
 
 class Outrun(Apart):
     """A push was refused, as when another one was quicker."""
+
+
+class Away(Apart):
+    """The repository does not say what it has."""
 
 
 def fault_of(said: bytes) -> Apart:
@@ -59,6 +75,8 @@ class GitBranch(Worker):
         cache = cache if os.path.isabs(cache) else os.path.expanduser("~/.cache")
         self.clone = os.path.join(cache, "mgr", "git", digest(self.url.encode()))
         self.ref = f"refs/mgr/{digest(os.path.realpath(note.log).encode())}"
+        # Whether the clone lacks files, and whether it was made anew since all was well.
+        self.is_lazy, self.is_renewed = True, False
         # The tip that was taken last, its log and the claims of that, and whether the note has more.
         self.tip: str | None = None
         self.tip_log = self.claims = b""
@@ -66,6 +84,23 @@ class GitBranch(Worker):
         self.changed = self.next_look = self.next_commit = 0.0
 
     def join(self) -> None:
+        """Joins, with a new clone if the old one is spoiled: it is a cache."""
+        try:
+            self._join()
+        except Away:
+            raise
+        except Apart as apart:
+            if self.is_lazy and NOT_GIVEN in apart.state.why:
+                self.is_lazy = False
+            elif self.is_renewed or not self._is_spoiled():
+                raise
+            self.is_renewed = True
+            self.say(State("alone", f"{apart}: git's cache is made anew"))
+            shutil.rmtree(self.clone, ignore_errors=True)
+            self._join()
+        self.is_renewed = False
+
+    def _join(self) -> None:
         self.tip = None
         self._open()
         self._look()
@@ -83,13 +118,13 @@ class GitBranch(Worker):
     def _look(self) -> None:
         """Takes what the tip has, if it is another one, also one that was forced back."""
         ref = f"refs/heads/{self.branch}"
-        found = self._word("ls-remote", "--", self.url, ref).splitlines()
+        found = self._word(LOOK_UP, "mgr", ref).splitlines()
         tip = next((line.split("\t")[0] for line in found if line.endswith(f"\t{ref}")), "")
         if tip != self.tip:
             self.tip = tip
             if tip:
-                fetch = ("fetch", "--quiet", "--no-tags", "--no-write-fetch-head", "--")
-                self._git(*fetch, self.url, f"+{ref}:{self.ref}")
+                fetch = ("fetch", "--progress", "--no-tags", "--no-write-fetch-head", "mgr")
+                self._git(*fetch, f"+{ref}:{self.ref}")
                 self.tip = self._word("rev-parse", "--verify", self.ref)
             entry = self._word("ls-tree", self.tip, "--", self.file) if tip else ""
             self.tip_log = self._git("cat-file", "blob", entry.split()[2]) if entry else b""
@@ -135,7 +170,7 @@ class GitBranch(Worker):
             b"data %d\n%b" % (len(log), log),
         ]
         self._git("fast-import", "--quiet", "--force", given=b"\n".join(commit))
-        self._git("push", "--quiet", "--porcelain", "--", self.url, f"{self.ref}:refs/heads/{self.branch}")
+        self._git("push", "--progress", "--porcelain", "mgr", f"{self.ref}:refs/heads/{self.branch}")
         self._git("gc", "--auto", "--quiet")
         self.tip, self.tip_log = self._word("rev-parse", "--verify", self.ref), log
         self.claims = self.note.claims_of(log)
@@ -147,32 +182,69 @@ class GitBranch(Worker):
     def _open(self) -> None:
         """Makes the clone if it is not there, and asks for the names of the writer and of the branch."""
         if not os.path.isdir(self.clone):
-            os.makedirs(self.clone, mode=0o700)
-            self._git("init", "--quiet", "--bare", "--template=", self.clone)
+            caches = os.path.dirname(self.clone)
+            os.makedirs(caches, mode=0o700, exist_ok=True)
+            # A clone is there once all of it is.
+            with tempfile.TemporaryDirectory(dir=caches) as folder:
+                made = os.path.join(folder, "clone")
+                self._git("init", "--quiet", "--bare", "--template=", made)
+                os.rename(made, self.clone)
+        self._git("rev-parse")
         if not self.person:
             self.person = self._word("config", "--default", user(), "user.name")
         if not self.branch:
-            head = self._word("ls-remote", "--symref", "--", self.url, "HEAD")
+            head = self._word(LOOK_UP, "--symref", "mgr", "HEAD")
             self.branch = head.partition("ref: refs/heads/")[2].partition("\t")[0] or UNBORN
+
+    def _is_spoiled(self) -> bool:
+        """Whether the clone was left locked, or lacks what it should have."""
+        with suppress(Apart):
+            self._git("fsck", "--progress")
+            return bool(glob.glob(os.path.join(glob.escape(self.clone), "**", "*.lock"), recursive=True))
+        return True
 
     def _git(self, *words: str, given: bytes = b"") -> bytes:
         """Runs git apart from the terminal, on which it asks nothing, and returns what it writes."""
         kept = {name: value for name, value in os.environ.items() if name not in FOREIGN}
         kept.setdefault("EMAIL", f"{user()}@{socket.gethostname()}")
         kept |= {"GIT_COMMITTER_NAME": self.person} if self.person else {}
-        done = subprocess.run(
-            # It ends what git began, too.
-            ["timeout", "--signal=KILL", str(LONGEST), "git", f"--git-dir={self.clone}", *words],
-            input=given,
-            env=kept | {"GIT_TERMINAL_PROMPT": "0", "LC_ALL": "C"},
-            start_new_session=True,
-            capture_output=True,
-        )
-        if done.returncode == -signal.SIGKILL:
-            raise Apart(f"git {words[0]} took more than {LONGEST} seconds")
-        if done.returncode:
-            raise fault_of(done.stdout + done.stderr)
-        return done.stdout
+        kept |= {"GIT_TERMINAL_PROMPT": "0", "LC_ALL": "C"}
+        settings = [word for each in (f"remote.mgr.url={self.url}", *LAZY * self.is_lazy) for word in ("-c", each)]
+        command = ["timeout", "--signal=KILL", str(ORPHAN), "git", f"--git-dir={self.clone}", *settings, *words]
+        # In files, not by pipes: who leaves leaves git to its end.
+        with tempfile.TemporaryFile() as taken, tempfile.TemporaryFile() as told, tempfile.TemporaryFile() as said:
+            taken.write(given)
+            taken.seek(0)
+            git = subprocess.Popen(command, env=kept, stdin=taken, stdout=told, stderr=said, start_new_session=True)
+            why = ended(git, said, os.path.join(self.clone, "objects", "pack"))
+            told.seek(0)
+            said.seek(0)
+            came = told.read()
+            if git.returncode:
+                fault = Apart(f"git {words[0]}: {why}") if why else fault_of(came + said.read() or b"status %d" % git.returncode)
+                raise Away(fault.state.why) if words[0] == LOOK_UP else fault
+        return came
 
     def _word(self, *words: str) -> str:
         return self._git(*words).decode().strip()
+
+
+def ended(git: "subprocess.Popen[bytes]", said: IO[bytes], packs: str) -> str:
+    """Waits for the end of git, and returns what ended it if that was a signal.
+
+    It is killed once for too long neither a word nor a byte of a pack came.
+    """
+    before, until = 0, time.monotonic() + LONGEST
+    while git.poll() is None:
+        with suppress(subprocess.TimeoutExpired):
+            git.wait(LOOK)
+        seen = os.fstat(said.fileno()).st_size
+        with suppress(OSError), os.scandir(packs) as files:
+            seen += sum(file.stat().st_size for file in files)
+        if seen != before:
+            before, until = seen, time.monotonic() + LONGEST
+        elif time.monotonic() > until:
+            os.killpg(git.pid, signal.SIGKILL)
+            git.wait()
+            return f"nothing came for {LONGEST} seconds"
+    return f"signal {-git.returncode} ended it" if git.returncode < 0 else ""
