@@ -9,7 +9,7 @@ import time
 from mgr_front.channels import Post, shown
 from mgr_front.channels.folder import Folder
 from mgr_front.channels.git import GitBranch
-from mgr_front.channels.hub import Hub, by_note, by_port, by_ssh
+from mgr_front.channels.hub import IN_USE, Hub, by_note, by_port, by_ssh
 from mgr_front.channels.redis import RedisStream
 from mgr_front.channels.worker import Worker
 from mgr_front.company import Company
@@ -56,17 +56,19 @@ def meet(opening: Opening) -> Company | None:
     company = Company(note, lambda post: channel(options, note, post))
     company.channel.start()
     _wait(company, SSH if options.way[0] == HOSTS else PATIENCE)
-    if company.state.word != "refused":
+    why = company.state.why
+    if company.state.word != "refused" and IN_USE not in why:
         if len(company.lines) > MANY * (options.text is None) and note.merge(tuple(company.lines)):
             company.lines.clear()
         return company
+    company.channel.close(0.0)
     if note.refused:
         _settle(opening, note)
-    elif "number" in company.state.why and options.replica is None:
+    elif "number" in why and options.replica is None:
         # Somebody writes under the number that this copy had.
         opening.copy.keep_number(opening.copy.new_number(None))
     else:
-        stop(company.state.why, REFUSED)
+        stop(why, REFUSED)
     return None
 
 

@@ -187,12 +187,38 @@ class TestWriters(Hubs):
         self.expect(bob.who, {})
         self.begin()
 
-    def test_a_number_in_use_is_refused(self) -> None:
-        self.join("alice", 1)
-        for replica in (1, 9):
+    def test_a_number_in_use_is_tried_again_until_it_is_not(self) -> None:
+        self.open.enter_context(mock.patch.multiple("mgr_front.channels.worker", MOST_PAUSE=0.1, FIRST_PAUSE=0.1))
+        alice = self.join("alice", 1)
+        for replica in (9, 1):
             other = Writer(self, f"other{replica}", replica, by_note(self.path))
-            self.expect(other.state, "refused")
+            self.expect(other.state, "alone")
             self.assertIn(f"number {replica} is in use", other.why())
+        self.assertTrue(alice.channel.close(10))
+        self.expect(other.state, "live")
+
+    def test_one_that_was_killed_joins_again_while_its_line_is_still_there(self) -> None:
+        made = "Hub(SharedNote('mgr', Note(sys.argv[1]), 1), lambda event: None, lambda is_first: None)"
+        program = f"import sys; from test_hub import Channel as Hub, Note, SharedNote; print({made}.token, flush=True); input()"
+        command = [sys.executable, "-c", program, str(self.folder / "alice" / "note")]
+
+        def begin() -> "tuple[subprocess.Popen[str], str]":
+            """Begins a program that writes in this copy, and returns the token that it has."""
+            begun = subprocess.Popen(command, cwd=TESTS, stdin=subprocess.PIPE, stdout=subprocess.PIPE, text=True)
+            assert begun.stdout
+            return begun, begun.stdout.readline().strip()
+
+        (first, known), (second, other) = begin(), begin()
+        self.assertNotEqual(known, other)
+        away = socket.create_connection((meeting.HOST, self.port), 60)
+        away.sendall(said("hello", version=VERSION, replica=1, name="alice", token=known))
+        self.expect(lambda: self.printed, ["alice (1) joined"])
+        for each in (first, second):
+            each.kill()
+            each.communicate()
+        with away:
+            self.join("alice", 1)
+        self.assertEqual(self.printed, ["alice (1) joined", "alice (1) left: it joins again", "alice (1) joined"])
 
     def test_a_conflict_is_told_to_both(self) -> None:
         alice = self.join("alice", 1)

@@ -127,9 +127,14 @@ class TestMeeting(InFolder):
         stop.assert_called_once_with("another version", 1)
 
     def test_a_number_in_use_is_another_one_next_time(self) -> None:
-        opening, company = self.meet(State("refused", "the number 1001 is in use"))
-        self.assertIsNone(company)
-        self.assertNotEqual(Opening(self.mgr, opening.note, opening.options).number, opening.number)
+        in_use, lost = "the number 1001 is in use by somebody who writes now", "others have words of the number 1001"
+        for state in (State("alone", in_use), State("refused", lost)):
+            opening, company = self.meet(state)
+            self.assertIsNone(company)
+            self.assertNotEqual(Opening(self.mgr, opening.note, opening.options).number, opening.number)
+        with self.assertRaises(SystemExit), mock.patch.object(joining, "stop", side_effect=SystemExit) as stop:
+            self.meet(State("alone", in_use), "--replica", "1001")
+        stop.assert_called_once_with(in_use, 1)
 
     def test_another_note(self) -> None:
         lines = (b"theirs",)

@@ -1,5 +1,8 @@
 """The way to a hub: by its note's socket, by a port of this machine, or by ssh to another one."""
 
+import fcntl
+import json
+import os
 import secrets
 import shlex
 import socket
@@ -7,14 +10,14 @@ import subprocess
 import tempfile
 import time
 from collections.abc import Callable, Iterator
-from contextlib import AbstractContextManager, contextmanager
+from contextlib import AbstractContextManager, contextmanager, suppress
 from typing import Any
 
 from mgr_front import meeting
 from mgr_front.channels import Apart, Post, State
 from mgr_front.channels.presence import Presence
 from mgr_front.channels.worker import Descriptors, Worker
-from mgr_front.copies import digest
+from mgr_front.copies import digest, machine, state_folder, user
 from mgr_front.shared import SharedNote, text_of
 from mgr_front.signals import held_back
 from mgr_front.wire import VERSION, Broken, Wire, claims_said
@@ -24,6 +27,8 @@ FIRST, LOOK = 60.0, 10.0
 # So that a machine that is away is noticed, and nobody is asked for a word while the terminal shows a note.
 SETTINGS = ("ConnectTimeout=5", "ServerAliveInterval=5", "ServerAliveCountMax=2", "ControlPath=none")
 SILENT = "BatchMode=yes"
+# What a hub says of a number that is that of somebody else, be it a link of this copy that it has not left yet.
+IN_USE = "is in use by somebody"
 
 # Opens a connection; the first one may ask the person for a word.
 Way = Callable[[bool], AbstractContextManager[socket.socket]]
@@ -65,6 +70,20 @@ def by_ssh(host: str, path: str) -> Way:
     return way
 
 
+def token_of(log: str) -> str:
+    """Returns by what a hub knows a copy of a note again that was killed; of two that run at once each has its own."""
+    token, owner = secrets.token_hex(8), [machine(), user(), os.path.realpath(log)]
+    place = os.path.join(state_folder(), "tokens", digest(json.dumps(owner).encode()))
+    with suppress(OSError):
+        os.makedirs(os.path.dirname(place), mode=0o700, exist_ok=True)
+        held = os.open(place, os.O_RDWR | os.O_CREAT, 0o600)
+        # It is this program's up to its end, and whoever takes it finds what is written there.
+        fcntl.lockf(held, fcntl.LOCK_EX | fcntl.LOCK_NB)
+        token = os.pread(held, len(token), 0).decode("ascii", "replace") or token
+        os.pwrite(held, token.encode(), 0)
+    return token
+
+
 class Hub(Worker):
     """What is written at a hub, which passes it on to all others."""
 
@@ -74,7 +93,7 @@ class Hub(Worker):
         self.presence: Presence = Presence(note.replica, person, post)
         self.wire: Wire | None = None
         # By this the hub knows it again, if it has not noticed a break yet.
-        self.token = secrets.token_hex(8)
+        self.token = token_of(note.log)
         self.is_first, self.is_joined = True, False
         # What came of this connection and was not taken.
         self.came: list[bytes] = []
@@ -154,7 +173,9 @@ class Hub(Worker):
         elif op == "claims":
             wire.answer(text_of(self._lacked(wire, told["claims"])))
         elif op in ("refused", "conflict"):
-            raise Apart(str(told.get("why")), op)
+            why = str(told.get("why"))
+            # It is tried again until the hub has left whoever has the number.
+            raise Apart(why, "alone" if IN_USE in why else op)
         elif op == "bye":
             self.is_taken = True
         elif op in ("place", "leave"):
