@@ -4,11 +4,10 @@ mgr reads the log alone. So what another program wrote to the text would be put 
 save, unless it comes into the log first.
 """
 
-import json
 import os
 import tempfile
 import time
-from collections.abc import Iterator, Sequence
+from collections.abc import Sequence
 from contextlib import suppress
 
 from mgr_front.copies import Copy
@@ -24,7 +23,7 @@ from mgr_front.shared import counters
 LARGE, TIMES = 1_000_000, 20
 # How many lines of a log may have come between its text and the note that was taken of its length.
 LATE = 20
-# At most so many texts of the log are held against one that was put before a kill.
+# So many texts of the log are held against the one in the file; if there are more, first those at even distances.
 TRIED = 50
 NEW = "New: C-x C-s saves, C-x C-c leaves, C-_ undoes, C-h helps"
 
@@ -79,72 +78,75 @@ class Opening:
             self.copy.note_put(read(self.note.name), log.bytes, log.operations)
         if not differ(self.mgr, self.note, log, self.number):
             return
-        text, begin = read(self.note.name), None
+        text, lines = read(self.note.name), None
         is_put = self.copy.is_put(text)
         if not (is_put and self.copy.has_grown(log)):
-            begin = self._begin()
-            is_put = is_put and begin is not None
-            is_put = is_put or (not self.options.takes_file and self._is_made(text))
-        if is_put or self.options.keeps_file or not self._takes_file(begin):
+            lines, count = self._nearest(text.decode("utf-8", "replace"))
+            is_put = is_put and lines is not None
+            # A text from before was put back by somebody, and so may be any if this copy never wrote.
+            is_put = is_put or not (count or self.options.takes_file or not self.copy.kept["counters"])
+        if is_put or self.options.keeps_file or not self._takes_file(lines):
             self.remarks += mend(self.mgr, self.note)[0]
         self.put()
 
-    def _begin(self) -> bytes | None:
-        """Returns the beginning of the log that made the text that was put last, if the log still has it.
+    def _nearest(self, text: str) -> tuple[int | None, int]:
+        """Returns how many lines of the log made the text from which this one differs least, and by how much that is.
 
-        It is some lines shorter than was noted if further keys came to the log before that.
+        They made the text that was noted as put, or a later one: a kill may have come before that was noted. If the
+        log does not make the noted text any more, it is not known how many.
         """
-        begin = read(self.note.log)[: self.copy.kept["put"]] + b"\n"
-        for _ in range(LATE):
-            begin = begin[: begin.rfind(b"\n", 0, -1) + 1]
-            lines = str(begin.count(b"\n"))
-            if self.copy.is_put(ask(self.mgr, self.note, "show", "--lines", lines) if begin else b""):
-                return begin
-        return None
+        log = read(self.note.log)
+        noted = log[: self.copy.kept["put"]].count(b"\n")
+        # Further keys may have come to the log before its length was noted.
+        begins = (lines for lines in range(noted, max(noted - LATE, -1), -1) if self.copy.is_put(self._made(lines)))
+        begin = next(begins, None)
+        tried: Sequence[int] = range(noted if begin is None else begin, log.count(b"\n") + 1)
+        while True:
+            step = -(-len(tried) // TRIED)
+            count, lines = min((self._differs(lines, text), lines) for lines in tried[::step])
+            if step == 1:
+                return lines if begin is not None else None, count
+            at = tried.index(lines)
+            tried = tried[max(0, at - step) : at + step + 1]
 
-    def _is_made(self, text: bytes) -> bool:
-        """Whether the log made this text after the one that was put last: then a kill came before that was noted.
+    def _differs(self, lines: int, text: str) -> int:
+        """Returns in how many characters a text differs from that which so many lines make."""
+        return sum(gone + len(put) for _, gone, put in changes(self._made(lines).decode(), text))
 
-        A text from before that was put back by somebody, and so may be any if this copy never wrote.
-        """
-        log, made = read(self.note.log), []
-        # Another program may have written in the log, too.
-        with suppress(ValueError, KeyError, TypeError):
-            count, begun = len(text.decode()), log[: self.copy.kept["put"]].count(b"\n")
-            made += [line for line, length in enumerate(lengths(log), 1) if line > begun and length == count]
-        tried = made[-TRIED:] if self.copy.kept["counters"] else []
-        return any(ask(self.mgr, self.note, "show", "--lines", str(line)) == text for line in reversed(tried))
+    def _made(self, lines: int | None) -> bytes:
+        """Returns the text that so many lines of the log make, or all of them."""
+        words = [] if lines is None else ["--lines", str(lines)]
+        return ask(self.mgr, self.note, "show", *words) if lines != 0 else b""
 
-    def _takes_file(self, begin: bytes | None) -> bool:
+    def _takes_file(self, lines: int | None) -> bool:
         """Has mgr merge what another program changed in the text, if the person wants that: all of it, or nothing.
 
-        `begin` is the beginning of the log that made the text before; if it is not known, all of it is compared.
+        So many lines of the log made the text before; if it is not known how many, all of it is compared.
         """
         try:
             new = read(self.note.name).decode()
         except UnicodeDecodeError:
             raise Refused(f"{self.note.name}: not UTF-8: see --keep-file") from None
-        if not self.options.takes_file and choice(self._question(begin, new), "f", "l") == "l":
+        if not self.options.takes_file and choice(self._question(lines, new), "f", "l") == "l":
             return False
         with tempfile.TemporaryDirectory() as folder:
             copy = Note(os.path.join(folder, "copy"))
             with open(copy.log, "wb") as file:
-                file.write(read(self.note.log) if begin is None else begin)
+                file.write(b"".join(read(self.note.log).splitlines(keepends=True)[:lines]))
             # Under its own number this copy may have written what this part of the log lacks.
             if not put_text(self.mgr, copy, self.copy.new_number(log_of(self.mgr, self.note)), new):
                 raise Refused(f"{self.note.log}: has no room for the changes of {self.note.name}: see --keep-file")
             ask(self.mgr, self.note, "merge", "--adopt", logs=[copy.log])
         return True
 
-    def _question(self, begin: bytes | None, new: str) -> str:
+    def _question(self, lines: int | None, new: str) -> str:
         """Returns what the person is asked."""
-        lines = [] if begin is None else ["--lines", str(begin.count(b"\n"))]
-        made = changes(ask(self.mgr, self.note, "show", *lines).decode(), new)
+        made = changes(self._made(lines).decode(), new)
         deleted, put = sum(count for _, count, _ in made), sum(len(put) for _, _, put in made)
         name, log = self.note.name, self.note.log
         file, then = (time.strftime("%Y-%m-%d %H:%M", time.localtime(os.stat(path).st_mtime)) for path in (name, log))
         taken = f"the file, of {file}: {deleted:,} characters of the log deleted, {put:,} new"
-        if begin is not None:
+        if lines is not None:
             taken = f"both: as in the file, of {file}, {deleted:,} characters deleted, {put:,} new"
         asked = f"{name} and its log {log} differ. Go on with which?\nf  {taken}\n"
         said = "".join(f"{remark}\n" for remark in self.remarks)
@@ -176,25 +178,6 @@ class Opening:
             pass  # There is no text, or this person may not read it.
         except Refused as refused:
             tell(f"{self.note.log} was not compacted: {refused}")
-
-
-def lengths(log: bytes) -> Iterator[int]:
-    """Returns how many characters the text has after each line of a log, if none waits."""
-    put: set[tuple[int, int]] = set()
-    gone: set[tuple[int, int]] = set()
-    shown = 0
-    for line in log[: log.rfind(b"\n") + 1].splitlines():
-        told = json.loads(line)
-        counter, replica = told["id"]
-        count = len(told["text"]) if told["op"] == "run" else told.get("count", 1)
-        named = {(counter + step, replica) for step in range(count)}
-        if told["op"] in ("del", "dels"):
-            shown -= len((named & put) - gone)
-            gone |= named
-        else:
-            shown += len(named - put - gone)
-            put |= named
-        yield shown
 
 
 def differ(mgr: str, note: Note, log: Log, replica: int) -> bool:

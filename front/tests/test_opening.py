@@ -2,21 +2,25 @@
 
 import contextlib
 import io
+import itertools
+import json
 import os
 import pathlib
+import random
 import shutil
 import unittest
-from collections.abc import Iterator
+from collections.abc import Iterator, Sequence
 from unittest import mock
 
 from context import InFolder
 
 from mgr_front import opening
 from mgr_front.copies import Copy
+from mgr_front.difference import changes
 from mgr_front.notes import Note, Refused
 from mgr_front.opening import Opening
 from mgr_front.options import read
-from mgr_front.program import log_of
+from mgr_front.program import Log, log_of
 
 
 class Openings(InFolder):
@@ -102,12 +106,12 @@ class TestDifferences(Openings):
         self.put(note_ops="one\ntwo\nand more\n")
         opened = self.open()
         self.put(note="one\n2\n")
-        for begin, wanted in (
+        for lines, wanted in (
             (None, "f  the file, of ..: 12 characters of the log deleted, 1 new\n"),
-            (b"one\ntwo\n", "f  both: as in the file, of .., 3 characters deleted, 1 new\n"),
+            (2, "f  both: as in the file, of .., 3 characters deleted, 1 new\n"),
         ):
             with mock.patch.object(opening.time, "strftime", return_value=".."):
-                self.assertIn(wanted, opened._question(begin, "one\n2\n"))
+                self.assertIn(wanted, opened._question(lines, "one\n2\n"))
         (self.folder / "note").write_bytes(b"\xff")
         with self.assertRaises(Refused):
             opened._takes_file(None)
@@ -155,9 +159,6 @@ class TestDifferences(Openings):
                 (self.folder / "note.~1~").unlink(missing_ok=True)
 
     def test_it_is_without_a_question_after_a_kill_before_the_put_was_noted(self) -> None:
-        def counts(log: bytes) -> list[int]:
-            return [log.find(line) + len(line) for line in log.splitlines(keepends=True)]
-
         for noted, text, answers, words, kept in (
             ("one\n", "one\ntwo\n", "", (), "note~"),
             ("", "one\ntwo\n", "", (), "note~"),
@@ -165,7 +166,7 @@ class TestDifferences(Openings):
             ("one\ntwo\n", "one\n", "l", (), "note.~1~"),
             ("one\n", "one\ntwo\n", "l", ("--replica", "7"), "note.~1~"),
         ):
-            with self.subTest(noted=noted, text=text), mock.patch.object(opening, "lengths", counts):
+            with self.subTest(noted=noted, text=text):
                 shutil.rmtree(self.folder / "state", ignore_errors=True)
                 self.put(note_ops="one\n", note="one\n")
                 opened = self.open(words=words)
@@ -178,25 +179,143 @@ class TestDifferences(Openings):
                 self.assertEqual((self.text("note"), self.text(kept)), ("one\ntwo\nthree\n", text))
                 (self.folder / "note.~1~").unlink(missing_ok=True)
 
-    def test_how_long_the_texts_of_a_log_are(self) -> None:
-        log = (
-            b'{"id":[1,2],"op":"run","parent":[0,0],"text":"abc"}',
-            b'{"char":"d","id":[4,2],"op":"ins","parent":[3,2]}',
-            b'{"count":2,"id":[2,2],"op":"dels"}',
-            b'{"id":[3,2],"op":"del"}',
-            b'{"id":[9,3],"op":"del"}',
-            b'{"char":"x","id":[9,3],"op":"ins","parent":[4,2]}',
-            b'{"char":"d","id":[4,2],"op":"ins","parent":[3,2]}',
-            b'{"id":[4,2],"op":"d',
-        )
-        self.assertEqual(list(opening.lengths(b"\n".join(log))), [3, 4, 2, 2, 2, 2, 2])
-
     def test_what_was_put_before_the_first_key_is_kept_with_it(self) -> None:
         self.put(note_ops="one\n", note="one\n")
         opened = self.open()
         self.assertEqual(Copy(self.note.name).kept["put"], 0)
         opened.keep(())
         self.assertEqual(Copy(self.note.name).kept["put"], 4)
+
+
+Identifier = tuple[int, int]
+
+
+class Text:
+    """A replicated text, as the lines of a log make it: what is inserted stands after its parent, the newest first."""
+
+    def __init__(self, lines: Sequence[str]) -> None:
+        self.lines, self.gone = list(lines), set[Identifier]()
+        self.after: dict[Identifier, list[tuple[Identifier, str]]] = {}
+        for told in map(json.loads, dict.fromkeys(lines)):
+            if told["op"] == "del":
+                self.gone.add(tuple(told["id"]))
+            else:
+                self.after.setdefault(tuple(told["parent"]), []).append((tuple(told["id"]), told["char"]))
+
+    def shown(self) -> list[tuple[Identifier, str]]:
+        """Returns the characters, with their names."""
+        waiting, made = sorted(self.after.get((0, 0), [])), []
+        while waiting:
+            each = waiting.pop()
+            made += [each] * (each[0] not in self.gone)
+            waiting += sorted(self.after.get(each[0], []))
+        return made
+
+    def __str__(self) -> str:
+        return "".join(char for _, char in self.shown())
+
+    def splice(self, replica: int, lo: int, count: int, put: str) -> None:
+        """Deletes characters and puts others there."""
+        counter = max((told["id"][0] for told in map(json.loads, self.lines)), default=0)
+        names = [(0, 0), *[name for name, _ in self.shown()]]
+        made = [{"id": name, "op": "del"} for name in names[lo + 1 : lo + 1 + count]]
+        for at, char in enumerate(put):
+            parent = (counter + at, replica) if at else names[lo]
+            made.append({"char": char, "id": (counter + at + 1, replica), "op": "ins", "parent": parent})
+        self.__init__([*self.lines, *[json.dumps(told, separators=(",", ":")) for told in made]])  # type: ignore[misc]
+
+
+class TestChangesOfOthers(Openings):
+    """A text that another program changed after mgr put it, while its log grew."""
+
+    def setUp(self) -> None:
+        super().setUp()
+        for name, done in (("ask", self.ask), ("log_of", self.log_of), ("put_text", self.put_text), ("mend", self.mend)):
+            patch = mock.patch.object(opening, name, done)
+            patch.start()
+            self.addCleanup(patch.stop)
+        patch = mock.patch.object(opening, "differ", lambda mgr, note, log, number: log.text == "other")
+        patch.start()
+        self.addCleanup(patch.stop)
+        self.signs = map(chr, range(0x4E00, 0x20000))
+
+    # ---- what is asked of mgr
+
+    def lines(self, note: Note) -> list[str]:
+        return pathlib.Path(note.log).read_text().splitlines()
+
+    def ask(self, mgr: str, note: Note, *words: str, logs: Sequence[str] = ()) -> bytes:
+        if words[0] == "show":
+            return str(Text(self.lines(note)[: int(words[2]) if words[1:] else None])).encode()
+        self.assertEqual(words, ("merge", "--adopt"))
+        pathlib.Path(note.log).write_text("".join(f"{line}\n" for line in dict.fromkeys(self.lines(note) + self.lines(Note(logs[0][:-4])))))
+        self.mend(mgr, note)
+        return b""
+
+    def log_of(self, mgr: str, note: Note) -> "Log | None":
+        lines = self.lines(note)
+        counters = {replica: counter for counter, replica in sorted(json.loads(line)["id"] for line in lines)}
+        is_same = pathlib.Path(note.name).exists() and pathlib.Path(note.name).read_text() == str(Text(lines))
+        return Log(os.path.getsize(note.log), len(lines), 0, "same" if is_same else "other", counters)
+
+    def put_text(self, mgr: str, note: Note, replica: int, text: str) -> bool:
+        made = Text(self.lines(note))
+        for lo, count, put in reversed(changes(str(made), text)):
+            made.splice(replica, lo, count, put)
+        pathlib.Path(note.log).write_text("".join(f"{line}\n" for line in made.lines))
+        return str(made) == text
+
+    def mend(self, mgr: str, note: Note) -> "tuple[list[str], bytes]":
+        pathlib.Path(note.name).write_text(str(Text(self.lines(note))))
+        return [], b""
+
+    # ---- what people do
+
+    def write(self, chance: random.Random, text: Text, replica: int) -> None:
+        """Writes or deletes a little; no character is put twice."""
+        length = len(str(text))
+        lo = min(length, max(0, chance.choice([length, chance.randrange(length + 1)])))
+        count = chance.choice([0, 0, 0, 1, 3])
+        text.splice(replica, lo, min(count, length - lo), "".join(chance.choice([next(self.signs)] * 6 + ["\n"]) for _ in range(chance.randrange(1, 6))))
+
+    def log(self, text: Text) -> None:
+        pathlib.Path(self.note.log).write_text("".join(f"{line}\n" for line in text.lines))
+
+    def round(self, chance: random.Random) -> None:
+        """Two write, mgr puts the text, another program changes that, and the file is taken at the next start."""
+        shutil.rmtree(self.folder / "state", ignore_errors=True)
+        text = Text([])
+        for _ in range(chance.randrange(1, 6)):
+            self.write(chance, text, 1)
+        self.log(text)
+        self.mend("", self.note)
+        opened = self.open()
+        opened.put()
+        noted = str(text).replace("\n", "")
+        for _ in range(chance.randrange(8)):
+            begun = len(text.lines)
+            self.write(chance, text, chance.choice([opened.number, 2]))
+            self.log(text)
+            # Own words are told at once.
+            opened.keep([line.encode() for line in text.lines[begun:]])
+        # It was killed before it noted that this was put.
+        put = str(text)
+        lo = chance.randrange(len(put) + 1)
+        gone = "".join(itertools.takewhile(noted.__contains__, put[lo : lo + chance.choice([0, 0, 1, 4])]))
+        new = "".join(next(self.signs) for _ in range(chance.randrange(1, 5)))
+        (self.folder / "note").write_text(put[:lo] + new + put[lo + len(gone) :])
+        for _ in range(chance.randrange(4)):
+            self.write(chance, text, 2)
+        self.log(text)
+        self.open("f")
+        signs, wanted = (self.folder / "note").read_text().replace("\n", ""), str(text).replace("\n", "")
+        self.assertEqual(len(signs), len(set(signs)), "nothing comes twice")
+        self.assertEqual(set(signs), set(wanted) - set(gone) | set(new), "all else is as the log and the file have it")
+
+    def test_only_what_the_other_program_changed_is_taken(self) -> None:
+        for seed in range(100):
+            with self.subTest(seed=seed):
+                self.round(random.Random(seed))
 
 
 class TestLargeLogs(Openings):
