@@ -1,28 +1,29 @@
 """The program mgr-hub: a note in which many write at the same time, each with a copy of their own."""
 
+import hashlib
 import os
+import resource
 import select
 import socket
-import sys
 import tempfile
 import time
 from collections import deque
-from collections.abc import Callable, Sequence
-from concurrent.futures import ThreadPoolExecutor
-from functools import partial
-from typing import Any
+from collections.abc import Container, Sequence
+from operator import attrgetter
+from typing import IO, Any
 
 from mgr_front import meeting
 from mgr_front.channels import CONFLICT, FAULTS, Apart, shown
 from mgr_front.channels.presence import ALIVE, place_of
-from mgr_front.copies import Copy, digest
+from mgr_front.copies import Copy
 from mgr_front.editor import Editor
 from mgr_front.guests import take_back
-from mgr_front.mailbox import Mailbox
+from mgr_front.lookups import Lookup, Steps, answer
 from mgr_front.notes import KeptFiles, Note, Refused
 from mgr_front.opening import differ, mend
 from mgr_front.options import HubOptions, read_hub
 from mgr_front.peers import Peer
+from mgr_front.printing import log
 from mgr_front.program import edit, explained, find, log_of, shell_status
 from mgr_front.saving import REST, SAVE
 from mgr_front.saying import FAILED, stop, tell
@@ -30,11 +31,19 @@ from mgr_front.screen import write_all
 from mgr_front.shared import SharedNote, text_of
 from mgr_front.signals import Signals
 from mgr_front.statuses import Status
-from mgr_front.wire import VERSION, Broken, claims_said
+from mgr_front.wire import BLOCK, VERSION, Broken
 
 PROGRAM = "mgr-hub"
 ROWS = 3
-MOST_PEERS = 200
+# So many others at most, and so many of them who have not said who they are.
+MOST_PEERS, MOST_UNKNOWN = 200, 8
+# Of so many characters that were said mgr is given operations at once: a word of somebody else waits for these.
+TURN = 16384
+# So many answers are looked up at once; what is larger passes as runs.
+LOOKUPS, LARGE = 2, 32768
+# So many bytes are held of all peers and for them, and so many of answers that they have not taken, in files.
+MOST_HELD, MOST_LEFT = 1 << 26, 1 << 28
+HELD, LEFT = attrgetter("held"), attrgetter("size")
 # Seconds between two savings, and until mgr is said to save at the end.
 REST_AFTER, PATIENCE = 1.0, 5.0
 # Two places of a peer that come within so many seconds are one.
@@ -53,56 +62,81 @@ class Hub:
         self.saving: tuple[int, int] | None = None
         self.fails = False
         self.rested = self.signed = time.monotonic()
-        # What is to be done with what programs say that look at the log.
-        self.pool = ThreadPoolExecutor(2)
-        self.answers: Mailbox[Callable[[], None]] = Mailbox()
+        # Who waits for what is looked up in the log; None stands for all.
+        self.lookups: dict[Peer | None, Lookup] = {}
+        # How many others there may be: half of the descriptors that are left are for their answers.
+        left = resource.getrlimit(resource.RLIMIT_NOFILE)[0] - len(os.listdir("/proc/self/fd"))
+        self.most, self.is_full, self.is_closed_until = min(MOST_PEERS, left // 2), False, 0.0
         self.kept = KeptFiles()
         self.kept.since(note.name)
 
     def run(self) -> None:
         """Goes on until a signal comes; `EOFError` if mgr ends before."""
-        while self.signals.first is None:
-            self._step()
-        for peer in self.peers:
-            peer.link.close()
+        try:
+            while self.signals.first is None:
+                self._step()
+        finally:
+            for lookup in self.lookups.values():
+                lookup.end()
+            for peer in self.peers:
+                peer.link.close()
 
     def _step(self) -> None:
         """Waits for what is ready, and does that; nobody is waited for.
 
-        A block is read of each peer once mgr has answered all blocks before.
+        Peers are heard once mgr has answered all before, first those who have said least.
         """
-        heard = [peer for peer in self.peers if peer.is_heard and self.editor.is_answered]
-        reading = [self.signals.woken, self.editor.written, self.answers.woken, *self.listeners, *heard]
-        writing = [*[peer for peer in self.peers if peer.waiting], *[self.editor.keys] * bool(self.editor.waiting)]
-        ready, free, _ = select.select(reading, writing, [], REST_AFTER if self.unsaved or self.peers else ALIVE)
+        heard = {peer for peer in self.peers if peer.is_heard and self.editor.is_answered}
+        open_to = self.listeners if time.monotonic() > self.is_closed_until else ()
+        reading = [self.signals.woken, self.editor.written, *self.lookups.values(), *open_to, *heard]
+        writing = [*[peer for peer in self.peers if peer.has_more], *[self.editor.keys] * bool(self.editor.waiting)]
+        rest = REST_AFTER if self.unsaved or self.peers or not open_to else ALIVE
+        lines = {peer for peer in heard if peer.lines}
+        ready, free, _ = select.select(reading, writing, [], 0.0 if lines else rest)
         if self.editor.keys in free:
             self.editor.write()
         for status in self.editor.read() if self.editor.written in ready else ():
             self._note(status)
-        for answer in self.answers.take():
-            answer()
         for listener in self.listeners:
             if listener in ready:
-                self._accept(listener.accept()[0])
-        for peer in [*self.peers]:
+                self._accept(listener)
+        self.room = TURN
+        for peer in sorted(self.peers, key=lambda peer: peer.due):
             if peer in self.peers:
-                self._serve(peer, peer in ready, peer in free)
+                self._serve(peer, peer in ready or peer in lines, peer in free)
         self._rest()
+        self._look_up(ready)
 
-    def _accept(self, link: socket.socket) -> None:
-        if len(self.peers) < MOST_PEERS:
+    def _accept(self, listener: socket.socket) -> None:
+        """Lets one more in; of those who have not said who they are the first one goes if they are too many."""
+        try:
+            link, why = listener.accept()[0], f"{len(self.peers)} are here"
+        except OSError as error:
+            # It would be ready again and again.
+            link, why, self.is_closed_until = None, str(error.strerror), time.monotonic() + REST_AFTER
+        unknown = [peer for peer in self.peers if not peer.replica]
+        if unknown and (len(unknown) >= MOST_UNKNOWN or len(self.peers) >= self.most):
+            self._drop(unknown[0], "")
+        if link and len(self.peers) < self.most:
             self.peers.append(Peer(link))
-        else:
+            self.is_full = False
+            return
+        if link:
             link.close()
+        if not self.is_full:
+            self.is_full = True
+            log(f"nobody else is let in: {why}")
 
     def _serve(self, peer: Peer, is_ready: bool, is_free: bool) -> None:
         """Reads of a peer and writes to it what can be now; one that breaks is left."""
         try:
             if is_free:
                 peer.write()
-            for told in peer.take() if is_ready else ():
-                if not peer.is_cut:
-                    self._hear(peer, told)
+            for told in peer.take() if is_ready and self.room > 0 else ():
+                self._hear(peer, told)
+                self.room -= peer.count(told)
+                if self.room <= 0 or not peer.is_heard:
+                    break
             if peer.is_leaving and not any(giver is peer for _, giver, _ in self.given):
                 peer.cut("bye")
             peer.check(time.monotonic())
@@ -116,6 +150,8 @@ class Hub:
         """Leaves a peer."""
         self.peers.remove(peer)
         peer.link.close()
+        if peer in self.lookups:
+            self.lookups.pop(peer).end()
         for other in self._others(peer) if peer.replica else ():
             other.say("leave", replica=peer.replica)
         if peer.replica and (peer.is_leaving or not peer.is_cut):
@@ -133,11 +169,12 @@ class Hub:
             for other in self._others(peer):
                 other.say("place", replica=peer.replica, name=peer.name, place=place)
         elif told["op"] == "claims":
-            self._look(partial(self._missing, told["claims"]), peer.answer)
+            peer.asked = told["claims"]
         elif told["op"] == "bye":
             peer.is_leaving = True
         elif told["op"] == "refused":
             log(f"{peer.title}: {shown(str(told.get('why')))}")
+            peer.cut("bye")
 
     def _greet(self, peer: Peer, told: dict[str, Any] | bytes) -> None:
         """Lets a peer in, unless somebody else has its number, and gives it what is not in the log yet."""
@@ -156,21 +193,34 @@ class Hub:
         peer.pass_on(text_of(self.unsaved))
         log(f"{peer.title} joined")
 
-    def _look(self, look: Callable[[], bytes], then: Callable[[bytes], None]) -> None:
-        """Looks at the log in a program, and does something with what comes of it: nobody waits for that."""
-
-        def work() -> None:
+    def _look_up(self, ready: Container[object]) -> None:
+        """Goes on with what is looked up in the log, and begins it for those who were answered longest ago."""
+        asking = [peer for peer in self.peers if peer.is_asking and peer not in self.lookups]
+        for asked in sorted(asking, key=lambda peer: peer.answered)[: max(0, LOOKUPS - len(self.lookups))]:
+            self.lookups[asked] = Lookup(self.note.mgr, self._answer(asked))
+        for peer, lookup in [*self.lookups.items()]:
             try:
-                found = look()
-                self.answers.post(lambda: then(found))
+                if (lookup in ready or not lookup.process) and lookup.go_on():
+                    del self.lookups[peer]
             except (Apart, OSError) as fault:
-                log(f"the log was not read: {fault}")
+                if peer:
+                    self._drop(peer, f"the log was not read: {fault}")
+                else:
+                    self.lookups.pop(None).end()
 
-        self.pool.submit(work)
-
-    def _missing(self, claims: bytes) -> bytes:
-        """Returns what somebody with these claims lacks of the log, and then what that has, in short."""
-        return text_of(self.note.missing(claims)) + claims_said(self.note.claims())
+    def _answer(self, peer: Peer) -> Steps:
+        """Looks up what a peer lacks of the log, by its claims, and then what that has, in short."""
+        name = self.note.name if self.note.note.has_log else "-"
+        lacked: IO[bytes] = tempfile.TemporaryFile()
+        if name != "-":
+            lacked.write(peer.asked or b"")
+            lacked.flush()
+            lacked = yield ["missing", "--", name], lacked
+        peer.asked = None
+        if os.path.getsize(lacked.fileno()) > LARGE:
+            lacked = yield ["join", "-"], lacked
+        has = yield ["claims", "--", name], tempfile.TemporaryFile()
+        peer.give(answer(lacked, has), sum(os.path.getsize(file.fileno()) for file in (lacked, has)))
 
     def _note(self, status: Status) -> None:
         """Passes on what mgr took, and takes note of what it saved."""
@@ -206,22 +256,22 @@ class Hub:
             self.rested, self.saving = now, (self.editor.report(REST), len(self.unsaved))
         if now > self.signed + ALIVE and self.peers:
             self.signed = now
-            self._look(self.note.claims, self._sign)
+            self.lookups.setdefault(None, Lookup(self.note.mgr, self._sign()))
+        for size, most in (HELD, MOST_HELD), (LEFT, MOST_LEFT):
+            if sum(map(size, self.peers)) > most:
+                self._drop(max(self.peers, key=size), "too much is kept for it")
 
-    def _sign(self, claims: bytes) -> None:
+    def _sign(self) -> Steps:
         """Gives a sign of life, with what the log has if all is saved."""
+        name = self.note.name if self.note.note.has_log else "-"
+        has = yield ["claims", "--", name], tempfile.TemporaryFile()
+        digest = hashlib.sha256()
+        with has:
+            while block := has.read(BLOCK):
+                digest.update(block)
         for peer in self.peers:
             if peer.replica:
-                peer.say("alive", digest=None if self.unsaved else digest(claims))
-
-
-def log(said: str) -> None:
-    """Prints what happened, and when."""
-    try:
-        if sys.stdout:  # Else it was closed at the start, and its number may be another file's.
-            write_all(f"{time.strftime('%Y-%m-%d %H:%M:%S')} {said}\n".encode("utf-8", "replace"))
-    except OSError:
-        pass  # The disk is full, or nobody reads it any more: peers are served all the same.
+                peer.say("alive", digest=None if self.unsaved else digest.hexdigest())
 
 
 def serve(mgr: str, note: Note, number: int, port: int | None) -> int:

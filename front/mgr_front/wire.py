@@ -7,6 +7,7 @@ import json
 import re
 import socket
 import time
+from collections import deque
 from collections.abc import Iterable, Iterator
 from typing import Any, NamedTuple
 
@@ -124,10 +125,10 @@ class Wire:
     def __init__(self, link: socket.socket) -> None:
         self.link = link
         link.setblocking(False)
-        # A line that was begun, and claims.
-        self.begun, self.claims = b"", ""
-        # What waits, and how many of its bytes were asked for, and may be many.
-        self.waiting, self.asked = bytearray(), 0
+        # A line that was begun, lines that nobody asked for yet, and claims.
+        self.begun, self.lines, self.claims = b"", deque[bytes](), bytearray()
+        # What waits to be written.
+        self.waiting = bytearray()
         # When something was read, and when something was written or nothing waited; how many bytes were read.
         self.heard = self.written = self.begun_at = time.monotonic()
         self.total = 0
@@ -144,17 +145,16 @@ class Wire:
             self.written = time.monotonic()
         self.waiting += lines
 
-    def answer(self, lines: bytes) -> None:
-        """Has lines wait that were asked for, however many."""
-        self.pass_on(lines)
-        self.asked += len(lines)
+    answer = pass_on
 
     def take(self) -> Iterator[dict[str, Any] | bytes]:
         """Reads what came, and yields what is said, claims once they are whole, and operations.
 
-        Anything else is `Broken`, and so is the end.
+        Anything else is `Broken`, and so is the end. What is not asked for comes the next time, before more is read.
         """
-        for line in self._lines():
+        self.lines += self._lines() if not self.lines else ()
+        while self.lines:
+            line = self.lines.popleft()
             told = line if is_operation(line) else self._whole(saying(line))
             if told:
                 yield told
@@ -181,20 +181,19 @@ class Wire:
         text = told.get("text")
         if not isinstance(text, str) or len(self.claims) + len(text) > MOST_CLAIMS:
             raise Broken("claims that are none")
-        self.claims += text
+        self.claims += text.encode("ascii", "replace")
         if told.get("more"):
             return None
-        claims, self.claims = self.claims, ""
-        return {"op": "claims", "claims": claims.encode("ascii", "replace")}
+        claims, self.claims = bytes(self.claims), bytearray()
+        return {"op": "claims", "claims": claims}
 
     def write(self) -> None:
-        """Writes as much as is taken now. What was asked for counts as written first."""
+        """Writes as much as is taken now."""
         try:
             count = self.link.send(self.waiting[:BLOCK])
         except BlockingIOError:
             return
         del self.waiting[:count]
-        self.asked = max(0, self.asked - count)
         self.written = time.monotonic()
 
     def check(self, now: float) -> None:

@@ -1,0 +1,65 @@
+"""What commands of mgr find in a log, one after the other, while a loop does all else."""
+
+import os
+import subprocess
+import tempfile
+from collections.abc import Generator, Iterator, Sequence
+from typing import IO, Any
+
+from mgr_front.shared import written
+from mgr_front.wire import BLOCK, PIECE, said
+
+# Yields commands, each with what it reads, and is sent what it wrote: files, since a log may be large.
+Steps = Generator[tuple[Sequence[str], IO[bytes]], IO[bytes], None]
+
+
+class Lookup:
+    """Commands that run. It is ready to be read once one of them says something, or has ended."""
+
+    def __init__(self, mgr: str, steps: Steps) -> None:
+        self.mgr, self.steps, self.fault = mgr, steps, b""
+        self.process: Any = None
+        self.files: list[Any] = [None]
+
+    def fileno(self) -> int:
+        return int(self.process.stderr.fileno())
+
+    def go_on(self) -> bool:
+        """Begins the next command if one has ended; answers whether that was the last. `Apart` if it failed."""
+        if self.process and (said := os.read(self.fileno(), BLOCK)):
+            self.fault = said
+            return False
+        made = self.files.pop()
+        if self.process:
+            self.end()
+            written(subprocess.CompletedProcess([], self.process.returncode, b"", self.fault))
+            made.seek(0)
+        try:
+            words, given = self.steps.send(made)
+        except StopIteration:
+            return True
+        os.lseek(given.fileno(), 0, os.SEEK_SET)
+        self.files = [given, tempfile.TemporaryFile()]
+        ends = dict(zip(("stdin", "stdout", "stderr"), (*self.files, subprocess.PIPE)))
+        self.process = subprocess.Popen([self.mgr, *words], bufsize=0, start_new_session=True, **ends)
+        return False
+
+    def end(self) -> None:
+        """Ends the command, be it that nobody waits for it any more."""
+        if self.process:
+            self.process.kill()
+            self.process.wait()
+            self.process.stderr.close()
+        for file in filter(None, self.files):
+            file.close()
+
+
+def answer(lacked: IO[bytes], has: IO[bytes]) -> Iterator[bytes]:
+    """Yields lines that were lacking, some at a time, and then claims as they are said."""
+    with lacked, has:
+        lacked.seek(0)
+        while lines := lacked.readlines(BLOCK):
+            yield b"".join(lines)
+        size = os.path.getsize(has.fileno())
+        while piece := has.read(PIECE):
+            yield said("claims", text=piece.decode("ascii", "replace"), more=has.tell() < size)
