@@ -1,6 +1,5 @@
 """The program mgr-hub: a note in which many write at the same time, each with a copy of their own."""
 
-import hashlib
 import os
 import resource
 import select
@@ -9,16 +8,15 @@ import tempfile
 import time
 from collections import deque
 from collections.abc import Container, Sequence
-from operator import attrgetter
 from typing import IO, Any
 
 from mgr_front import meeting
 from mgr_front.channels import CONFLICT, FAULTS, Apart, shown
 from mgr_front.channels.presence import ALIVE, place_of
-from mgr_front.copies import Copy
+from mgr_front.copies import Copy, digest
 from mgr_front.editor import Editor
 from mgr_front.guests import take_back
-from mgr_front.lookups import Lookup, Steps, answer
+from mgr_front.lookups import Lookup, Steps
 from mgr_front.notes import KeptFiles, Note, Refused
 from mgr_front.opening import differ, mend
 from mgr_front.options import HubOptions, read_hub
@@ -31,19 +29,16 @@ from mgr_front.screen import write_all
 from mgr_front.shared import SharedNote, text_of
 from mgr_front.signals import Signals
 from mgr_front.statuses import Status
-from mgr_front.wire import BLOCK, VERSION, Broken
+from mgr_front.wire import MOST_CLAIMS, VERSION, Broken, claims_said
 
 PROGRAM = "mgr-hub"
 ROWS = 3
 # So many others at most, and so many of them who have not said who they are.
 MOST_PEERS, MOST_UNKNOWN = 200, 8
-# Of so many characters that were said mgr is given operations at once: a word of somebody else waits for these.
-TURN = 16384
-# So many answers are looked up at once; what is larger passes as runs.
-LOOKUPS, LARGE = 2, 32768
-# So many bytes are held of all peers and for them, and so many of answers that they have not taken, in files.
-MOST_HELD, MOST_LEFT = 1 << 26, 1 << 28
-HELD, LEFT = attrgetter("held"), attrgetter("size")
+# So much is heard of all together before mgr has answered that, by bytes; a line counts as so many more.
+TURN, LINE = 16384, 64
+# So many answers are looked up at once; one that is larger passes as runs. So much is held for all.
+LOOKUPS, LARGE, MOST_HELD = 2, 32768, 1 << 26
 # Seconds between two savings, and until mgr is said to save at the end.
 REST_AFTER, PATIENCE = 1.0, 5.0
 # Two places of a peer that come within so many seconds are one.
@@ -62,11 +57,14 @@ class Hub:
         self.saving: tuple[int, int] | None = None
         self.fails = False
         self.rested = self.signed = time.monotonic()
-        # Who waits for what is looked up in the log; None stands for all.
+        # What is looked up in the log for whom; None stands for all.
         self.lookups: dict[Peer | None, Lookup] = {}
-        # How many others there may be: half of the descriptors that are left are for their answers.
+        # How much is heard in this turn, and how much whoever was heard last had said before.
+        self.room, self.said = 0, 0
+        # How many others there may be: of the descriptors that are left half are for answers. If there are as many,
+        # that was said, and others wait for some time.
         left = resource.getrlimit(resource.RLIMIT_NOFILE)[0] - len(os.listdir("/proc/self/fd"))
-        self.most, self.is_full, self.is_closed_until = min(MOST_PEERS, left // 2), False, 0.0
+        self.most, self.is_full, self.open_at = min(MOST_PEERS, left // 2), False, 0.0
         self.kept = KeptFiles()
         self.kept.since(note.name)
 
@@ -84,15 +82,15 @@ class Hub:
     def _step(self) -> None:
         """Waits for what is ready, and does that; nobody is waited for.
 
-        Peers are heard once mgr has answered all before, first those who have said least.
+        More is heard once mgr has answered all before, and first of those who have said least.
         """
-        heard = {peer for peer in self.peers if peer.is_heard and self.editor.is_answered}
-        open_to = self.listeners if time.monotonic() > self.is_closed_until else ()
-        reading = [self.signals.woken, self.editor.written, *self.lookups.values(), *open_to, *heard]
-        writing = [*[peer for peer in self.peers if peer.has_more], *[self.editor.keys] * bool(self.editor.waiting)]
-        rest = REST_AFTER if self.unsaved or self.peers or not open_to else ALIVE
-        lines = {peer for peer in heard if peer.lines}
-        ready, free, _ = select.select(reading, writing, [], 0.0 if lines else rest)
+        heard = [peer for peer in self.peers if peer.is_heard and self.editor.is_answered]
+        listeners = self.listeners if time.monotonic() > self.open_at else ()
+        reading = [self.signals.woken, self.editor.written, *self.lookups.values(), *listeners, *heard]
+        writing = [peer for peer in self.peers if peer.waiting or peer.left]
+        came = {peer for peer in heard if peer.lines}
+        rest = 0.0 if came else REST_AFTER if self.unsaved or self.peers or not listeners else ALIVE
+        ready, free, _ = select.select(reading, [*writing, *[self.editor.keys] * bool(self.editor.waiting)], [], rest)
         if self.editor.keys in free:
             self.editor.write()
         for status in self.editor.read() if self.editor.written in ready else ():
@@ -101,47 +99,53 @@ class Hub:
             if listener in ready:
                 self._accept(listener)
         self.room = TURN
-        for peer in sorted(self.peers, key=lambda peer: peer.due):
+        for peer in sorted(self.peers, key=lambda peer: peer.said):
             if peer in self.peers:
-                self._serve(peer, peer in ready or peer in lines, peer in free)
+                self._serve(peer, peer in came or peer in ready, peer in free)
         self._rest()
         self._look_up(ready)
 
     def _accept(self, listener: socket.socket) -> None:
-        """Lets one more in; of those who have not said who they are the first one goes if they are too many."""
-        try:
-            link, why = listener.accept()[0], f"{len(self.peers)} are here"
-        except OSError as error:
-            # It would be ready again and again.
-            link, why, self.is_closed_until = None, str(error.strerror), time.monotonic() + REST_AFTER
+        """Lets one more in. If those are too many who have not said who they are, the first of them goes."""
         unknown = [peer for peer in self.peers if not peer.replica]
         if unknown and (len(unknown) >= MOST_UNKNOWN or len(self.peers) >= self.most):
             self._drop(unknown[0], "")
-        if link and len(self.peers) < self.most:
-            self.peers.append(Peer(link))
-            self.is_full = False
-            return
-        if link:
+        try:
+            link, why = listener.accept()[0], f"{self.most} are here"
+            if len(self.peers) < self.most:
+                self.peers.append(Peer(link))
+                self.is_full = False
+                return
             link.close()
+        except OSError as error:
+            why = str(error.strerror)
+        self.open_at = time.monotonic() + REST_AFTER
         if not self.is_full:
-            self.is_full = True
             log(f"nobody else is let in: {why}")
+        self.is_full = True
 
     def _serve(self, peer: Peer, is_ready: bool, is_free: bool) -> None:
         """Reads of a peer and writes to it what can be now; one that breaks is left."""
         try:
             if is_free:
                 peer.write()
-            for told in peer.take() if is_ready and self.room > 0 else ():
-                self._hear(peer, told)
-                self.room -= peer.count(told)
-                if self.room <= 0 or not peer.is_heard:
-                    break
+            if is_ready and self.room > 0:
+                self._take_turn(peer)
             if peer.is_leaving and not any(giver is peer for _, giver, _ in self.given):
                 peer.cut("bye")
             peer.check(time.monotonic())
         except OSError as error:
             self._drop(peer, str(error.strerror or error))
+
+    def _take_turn(self, peer: Peer) -> None:
+        """Hears a peer while there is room for that. Who said nothing for long has no more room than others for it."""
+        self.said = peer.said = max(self.said, peer.said)
+        for told in peer.take():
+            self._hear(peer, told)
+            peer.said += len(told) + LINE
+            self.room -= len(told) + LINE
+            if self.room <= 0 or not peer.is_heard:
+                return
 
     def _others(self, peer: Peer) -> list[Peer]:
         return [other for other in self.peers if other is not peer and other.replica]
@@ -150,6 +154,7 @@ class Hub:
         """Leaves a peer."""
         self.peers.remove(peer)
         peer.link.close()
+        peer.end_answer()
         if peer in self.lookups:
             self.lookups.pop(peer).end()
         for other in self._others(peer) if peer.replica else ():
@@ -195,7 +200,7 @@ class Hub:
 
     def _look_up(self, ready: Container[object]) -> None:
         """Goes on with what is looked up in the log, and begins it for those who were answered longest ago."""
-        asking = [peer for peer in self.peers if peer.is_asking and peer not in self.lookups]
+        asking = [peer for peer in self.peers if peer.asked is not None and not peer.left and peer not in self.lookups]
         for asked in sorted(asking, key=lambda peer: peer.answered)[: max(0, LOOKUPS - len(self.lookups))]:
             self.lookups[asked] = Lookup(self.note.mgr, self._answer(asked))
         for peer, lookup in [*self.lookups.items()]:
@@ -210,17 +215,25 @@ class Hub:
 
     def _answer(self, peer: Peer) -> Steps:
         """Looks up what a peer lacks of the log, by its claims, and then what that has, in short."""
-        name = self.note.name if self.note.note.has_log else "-"
         lacked: IO[bytes] = tempfile.TemporaryFile()
-        if name != "-":
-            lacked.write(peer.asked or b"")
+        claims, peer.asked = peer.asked or b"", None
+        if self.note.note.has_log:
+            lacked.write(claims)
             lacked.flush()
-            lacked = yield ["missing", "--", name], lacked
-        peer.asked = None
-        if os.path.getsize(lacked.fileno()) > LARGE:
+            lacked = yield ["missing", "--", self.note.name], lacked
+        if lacked.seek(0, os.SEEK_END) > LARGE:
             lacked = yield ["join", "-"], lacked
-        has = yield ["claims", "--", name], tempfile.TemporaryFile()
-        peer.give(answer(lacked, has), sum(os.path.getsize(file.fileno()) for file in (lacked, has)))
+        claims = yield from self._claims()
+        lacked.seek(0, os.SEEK_END)
+        lacked.write(claims_said(claims))
+        peer.left, peer.size, peer.answered = lacked, lacked.tell(), time.monotonic()
+        lacked.seek(0)
+
+    def _claims(self) -> Steps:
+        """Looks up what the log has, in short, and returns as much of it as anybody takes."""
+        name = self.note.name if self.note.note.has_log else "-"
+        with (yield ["claims", "--", name], tempfile.TemporaryFile()) as claims:
+            return claims.read(MOST_CLAIMS + 1)
 
     def _note(self, status: Status) -> None:
         """Passes on what mgr took, and takes note of what it saved."""
@@ -257,21 +270,15 @@ class Hub:
         if now > self.signed + ALIVE and self.peers:
             self.signed = now
             self.lookups.setdefault(None, Lookup(self.note.mgr, self._sign()))
-        for size, most in (HELD, MOST_HELD), (LEFT, MOST_LEFT):
-            if sum(map(size, self.peers)) > most:
-                self._drop(max(self.peers, key=size), "too much is kept for it")
+        if sum(peer.held for peer in self.peers) > MOST_HELD:
+            self._drop(max(self.peers, key=lambda peer: peer.held), "too much is held for it")
 
     def _sign(self) -> Steps:
         """Gives a sign of life, with what the log has if all is saved."""
-        name = self.note.name if self.note.note.has_log else "-"
-        has = yield ["claims", "--", name], tempfile.TemporaryFile()
-        digest = hashlib.sha256()
-        with has:
-            while block := has.read(BLOCK):
-                digest.update(block)
+        claims = yield from self._claims()
         for peer in self.peers:
             if peer.replica:
-                peer.say("alive", digest=None if self.unsaved else digest.hexdigest())
+                peer.say("alive", digest=None if self.unsaved else digest(claims))
 
 
 def serve(mgr: str, note: Note, number: int, port: int | None) -> int:

@@ -3,14 +3,14 @@
 import os
 import subprocess
 import tempfile
-from collections.abc import Generator, Iterator, Sequence
+from collections.abc import Generator, Sequence
 from typing import IO, Any
 
 from mgr_front.shared import written
-from mgr_front.wire import BLOCK, PIECE, said
+from mgr_front.wire import BLOCK
 
 # Yields commands, each with what it reads, and is sent what it wrote: files, since a log may be large.
-Steps = Generator[tuple[Sequence[str], IO[bytes]], IO[bytes], None]
+Steps = Generator[tuple[Sequence[str], IO[bytes]], IO[bytes], Any]
 
 
 class Lookup:
@@ -19,6 +19,7 @@ class Lookup:
     def __init__(self, mgr: str, steps: Steps) -> None:
         self.mgr, self.steps, self.fault = mgr, steps, b""
         self.process: Any = None
+        # What the command reads, and what it writes.
         self.files: list[Any] = [None]
 
     def fileno(self) -> int:
@@ -50,16 +51,5 @@ class Lookup:
             self.process.kill()
             self.process.wait()
             self.process.stderr.close()
-        for file in filter(None, self.files):
+        while self.files and (file := self.files.pop()):
             file.close()
-
-
-def answer(lacked: IO[bytes], has: IO[bytes]) -> Iterator[bytes]:
-    """Yields lines that were lacking, some at a time, and then claims as they are said."""
-    with lacked, has:
-        lacked.seek(0)
-        while lines := lacked.readlines(BLOCK):
-            yield b"".join(lines)
-        size = os.path.getsize(has.fileno())
-        while piece := has.read(PIECE):
-            yield said("claims", text=piece.decode("ascii", "replace"), more=has.tell() < size)
