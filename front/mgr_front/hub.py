@@ -98,10 +98,11 @@ class Hub:
         for listener in self.listeners:
             if listener in ready:
                 self._accept(listener)
-        self.room = TURN
+        came.update(peer for peer in heard if peer in ready)
+        self.room, share = TURN, TURN // (len(came) or 1)
         for peer in sorted(self.peers, key=lambda peer: peer.said):
             if peer in self.peers:
-                self._serve(peer, peer in came or peer in ready, peer in free)
+                self._serve(peer, share * (peer in came), peer in free)
         self._rest()
         self._look_up(ready)
 
@@ -124,27 +125,27 @@ class Hub:
             log(f"nobody else is let in: {why}")
         self.is_full = True
 
-    def _serve(self, peer: Peer, is_ready: bool, is_free: bool) -> None:
-        """Reads of a peer and writes to it what can be now; one that breaks is left."""
+    def _serve(self, peer: Peer, share: int, is_free: bool) -> None:
+        """Hears so much of a peer and writes to it what can be now; one that breaks is left."""
         try:
             if is_free:
                 peer.write()
-            if is_ready and self.room > 0:
-                self._take_turn(peer)
+            if share and self.room > 0:
+                self._take_turn(peer, share)
             if peer.is_leaving and not any(giver is peer for _, giver, _ in self.given):
                 peer.cut("bye")
             peer.check(time.monotonic())
         except OSError as error:
             self._drop(peer, str(error.strerror or error))
 
-    def _take_turn(self, peer: Peer) -> None:
-        """Hears a peer while there is room for that. Who said nothing for long has no more room than others for it."""
+    def _take_turn(self, peer: Peer, share: int) -> None:
+        """Hears so much of a peer, if there is room for that. Who said nothing for long has no more room than others."""
         self.said = peer.said = max(self.said, peer.said)
         for told in peer.take():
             self._hear(peer, told)
             peer.said += len(told) + LINE
             self.room -= len(told) + LINE
-            if self.room <= 0 or not peer.is_heard:
+            if self.room <= 0 or peer.said > self.said + share or not peer.is_heard:
                 return
 
     def _others(self, peer: Peer) -> list[Peer]:

@@ -3,6 +3,7 @@
 import contextlib
 import os
 import pathlib
+import signal
 import socket
 import subprocess
 import sys
@@ -238,8 +239,8 @@ class TestWriters(Hubs):
         self.expect(lambda: "other (2): another note" in self.printed, True)
 
 
-class TestStrangers(Hubs):
-    """Those who say something else: nobody waits for them."""
+class Strangers(Hubs):
+    """Tests with those who speak for themselves."""
 
     def stranger(self, *said: bytes) -> socket.socket:
         link = self.open.enter_context(socket.create_connection((meeting.HOST, self.port), 60))
@@ -256,6 +257,10 @@ class TestStrangers(Hubs):
 
     def hello(self, **members: object) -> bytes:
         return said("hello", **{"version": VERSION, "replica": 5, "name": "eve", "token": "t", **members})
+
+
+class TestStrangers(Strangers):
+    """Those who say something else: nobody waits for them."""
 
     def test_other_versions_and_numbers_are_refused(self) -> None:
         for members, wanted in [({"version": 2}, b"version"), ({"replica": 0}, b"number"), ({"replica": "x"}, b"hello")]:
@@ -315,6 +320,98 @@ class TestStrangers(Hubs):
         second.close()
 
 
+class TestCrowds(Strangers):
+    """What others do does not keep anybody who writes."""
+
+    def slow(self, command: str, begins: str = "sleep 0.2") -> pathlib.Path:
+        """Has mgr do something before this command; returns a file that has a line for each time, its process."""
+        begun = self.folder / "begun"
+        begun.touch()
+        path = pathlib.Path(self.mgr)
+        does = f'if [ "$1" = {command} ]; then echo $$ >> {begun}; {begins}; fi\n'
+        path.write_text(path.read_text().replace("exec", does + "exec"))
+        return begun
+
+    def crowd(self, count: int, *said: bytes) -> list[socket.socket]:
+        return [self.stranger(self.hello(replica=100 + i), *said) for i in range(count)]
+
+    def live(self, seconds: float = 60) -> Writer:
+        alice = Writer(self, "alice", 1, by_note(self.path))
+        self.expect(alice.state, "live", seconds)
+        return alice
+
+    def test_requests_of_one_do_not_keep_others(self) -> None:
+        self.live().write(line(1))
+        self.expect(lambda: len(self.log()), 1)
+        begun = self.slow("missing")
+        asks = said("claims", text='{"op":"claims","version":1}\n', more=False)
+        self.stranger(self.hello(), asks * 100)
+        self.expect(lambda: begun.read_text() > "", True)
+        begins = time.monotonic()
+        bob = Writer(self, "bob", 2, by_note(self.path))
+        self.expect(bob.state, "live")
+        self.assertLess(time.monotonic() - begins, 5)
+
+    def test_what_nobody_will_read_is_not_looked_up(self) -> None:
+        self.live().write(line(1))
+        self.expect(lambda: len(self.log()), 1)
+        asks = said("claims", text='{"op":"claims","version":1}\n', more=False)
+        begun = self.slow("missing", "exec sleep 60")
+        for ends in (lambda link: link.shutdown(socket.SHUT_RDWR), lambda _: self.end()):
+            link = self.stranger(self.hello(), asks)
+            self.expect(lambda: len(begun.read_text()) > 0, True)
+            process = pathlib.Path("/proc", begun.read_text().strip())
+            self.assertTrue(process.exists())
+            ends(link)
+            self.expect(process.exists, False, 5)
+            begun.write_text("")
+        self.begin()
+
+    def test_who_has_most_held_for_it_is_left(self) -> None:
+        with mock.patch.object(hub, "MOST_HELD", 100_000):
+            pieces = [said("claims", text="x" * 10_000, more=True) * count for count in (4, 7)]
+            self.stranger(self.hello(replica=6), pieces[0])
+            self.assertTrue(self.answer(self.stranger(self.hello(replica=7), pieces[1])))
+            self.expect(lambda: self.printed[-1:], ["eve (7) left: too much is held for it"])
+            self.live()
+
+    def test_a_word_comes_before_what_many_others_say(self) -> None:
+        crowd = self.crowd(10)
+        alice = self.live()
+        process = self.hub.editor.process.pid
+        os.kill(process, signal.SIGSTOP)
+        for link in crowd:
+            link.sendall(b"".join(line(i, 2) + b"\n" for i in range(200)))
+        alice.write(line(1))
+        time.sleep(0.5)
+        os.kill(process, signal.SIGCONT)
+        self.expect(lambda: len(self.log()), 2001)
+        # What mgr was given before, and a turn of another.
+        self.assertLess(self.log().index(line(1)), 500)
+
+    def test_those_who_say_nothing_give_way(self) -> None:
+        with mock.patch.object(hub, "MOST_PEERS", 10):
+            self.end()
+            self.begin()
+            silent = [self.stranger() for _ in range(30)]
+            self.live(5)
+            self.expect(lambda: len(self.hub.peers) <= hub.MOST_UNKNOWN + 1, True)
+            self.assertEqual(self.answer(silent[0]), b"")
+
+    def test_who_has_joined_stays(self) -> None:
+        with mock.patch.object(hub, "MOST_PEERS", 5):
+            self.end()
+            self.begin()
+            crowd = self.crowd(5)
+            self.expect(lambda: len(self.printed), 5)
+            self.assertEqual(self.answer(self.stranger(self.hello())), b"")
+            self.stranger(self.hello())
+            self.expect(lambda: self.printed[5:], ["nobody else is let in: 5 are here"])
+            self.assertEqual(len(self.hub.peers), len(crowd))
+            crowd[0].close()
+            self.live(10)
+
+
 class TestMeeting(Hubs):
     def test_the_socket_is_the_persons_alone(self) -> None:
         place = pathlib.Path(meeting.folder(), meeting.socket_name(self.path))
@@ -353,10 +450,69 @@ class TestMeeting(Hubs):
         self.begin()
 
 
+class TestScarcity(Hubs):
+    """A hub as a program of its own, which lacks something."""
+
+    def begin(self) -> None:
+        """Begins no other hub."""
+
+    def end(self) -> None:
+        """Ends none."""
+
+    def serve(self, out: int, before: str = "true") -> "subprocess.Popen[bytes]":
+        """Begins the program after something in a shell, and waits until it serves."""
+        program = f"import context, sys; from mgr_front.hub import main; sys.exit(main([{self.path!r}], ''))"
+        command = ["sh", "-c", f'{before}; exec "$0" "$@"', sys.executable, "-c", program]
+        process = subprocess.Popen(command, cwd=TESTS, env={**os.environ, "MGR": self.mgr}, stdout=out)
+        self.addCleanup(process.wait)
+        self.addCleanup(process.kill)
+        self.expect(lambda: meeting.is_served(self.path), True)
+        return process
+
+    def greet(self, replica: int) -> socket.socket:
+        link = self.open.enter_context(meeting.connect(self.path))
+        with contextlib.suppress(BrokenPipeError):
+            link.sendall(said("hello", version=VERSION, replica=replica, name="eve", token="t"))
+        return link
+
+    def hears(self, link: socket.socket, op: bytes) -> bool:
+        """Whether somebody is told this before the end."""
+        came = b""
+        with contextlib.suppress(ConnectionError):
+            while b'"op":"%b"' % op not in came and (block := link.recv(65536)):
+                came += block
+        return b'"op":"%b"' % op in came
+
+    def test_few_descriptors(self) -> None:
+        process = self.serve(subprocess.DEVNULL, "ulimit -n 32")
+        first = self.greet(1)
+        self.assertTrue(self.hears(first, b"hello"))
+        for link in [self.greet(replica) for replica in range(2, 60)]:
+            link.close()
+        first.sendall(line(1) + b"\n" + said("claims", text='{"op":"claims","version":1}\n', more=False))
+        self.assertTrue(self.hears(first, b"claims"))
+        self.expect(self.log, [line(1)])
+        self.assertIsNone(process.poll())
+        # Those who went made room.
+        self.expect(lambda: self.hears(self.greet(7), b"hello"), True)
+
+    def test_nobody_reads_what_it_prints(self) -> None:
+        reader, writer = os.pipe()
+        process = self.serve(writer)
+        os.close(writer)
+        # As much as the pipe takes, and the lines that wait.
+        for i in range(2500):
+            with self.greet(i + 1) as link:
+                self.assertTrue(self.hears(link, b"hello"))
+        process.terminate()
+        self.assertEqual(process.wait(5), 0)
+        os.close(reader)
+
+
 class TestPrinting(unittest.TestCase):
     def log(self, out: int) -> "subprocess.CompletedProcess[bytes]":
         """Prints a line in a program of its own."""
-        program = "import context; from mgr_front.hub import log; log('eve joined')"
+        program = "import context; from mgr_front.printing import log; log('eve joined')"
         return subprocess.run([sys.executable, "-c", program], cwd=TESTS, stdout=out, stderr=subprocess.PIPE)
 
     def test_a_line(self) -> None:
@@ -371,6 +527,18 @@ class TestPrinting(unittest.TestCase):
             for out in (writer, full.fileno()):
                 done = self.log(out)
                 self.assertEqual((done.returncode, done.stderr), (0, b""))
+
+    def test_what_finds_no_room_is_counted(self) -> None:
+        program = "import context, sys; from mgr_front.printing import log; [log('x' * 100) for _ in range(5000)]; sys.stdin.read()"
+        with subprocess.Popen([sys.executable, "-c", program], cwd=TESTS, stdin=subprocess.PIPE, stdout=subprocess.PIPE) as process:
+            assert process.stdin and process.stdout
+            time.sleep(1)
+            printed: list[bytes] = []
+            while b"dropped" not in (printed or [b""])[-1]:
+                printed.append(process.stdout.readline())
+            self.assertEqual(len(printed) - 1 + int(printed[-1].split()[0]), 5000)
+            self.assertLess(len(printed), 2500)
+            process.stdin.close()
 
 
 if __name__ == "__main__":
