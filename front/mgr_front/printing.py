@@ -23,15 +23,13 @@ class Printer:
     def put(self, line: str) -> None:
         if not self.thread.ident:
             self.thread.start()
-            atexit.register(self.end)
+            # Done in the other order.
+            atexit.register(self.thread.join, LAST)
+            atexit.register(self.put, "")
         try:
             self.lines.put_nowait(line)
         except queue.Full:
             self.dropped += 1
-
-    def end(self) -> None:
-        self.put("")
-        self.thread.join(LAST)
 
     def _run(self) -> None:
         told = 0
