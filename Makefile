@@ -18,10 +18,15 @@ MAKEFLAGS += --no-print-directory
 SOURCES := crates.txt HANDLES \
 	$(shell find $(wildcard crates/*/src crates/*/specs crates/*/proofs))
 
-NEED_RT = command -v rt >/dev/null || { \
-	echo "rt, the Rattle toolchain, is not installed: put KIT/bin on PATH" >&2; exit 1; }
-
-NEED_PYTHON = command -v python3 >/dev/null || { echo "python3 is not installed" >&2; exit 1; }
+# What ends a target if a program is not there, with how one gets it.
+need = command -v $(1) >/dev/null || { echo "$(1) is not installed: $(2)" >&2; exit 1; }
+NEED_PYTHON = $(call need,python3,apt install python3)
+# It is a program of Python.
+NEED_RT = $(NEED_PYTHON); $(call need,rt,put KIT/bin of Rattle on PATH; docs/building.md says what that is)
+# What says, before all else, which parts of the tests are left out.
+without = command -v $(1) >/dev/null || echo "$(1) is not installed (apt install $(2)): $(3)"
+SAY_LEFT_OUT = $(call without,strace,strace,scenes in which calls of the system fail are left out); \
+	$(call without,cc,gcc libc6-dev,no growth of memory is refused)
 
 .PHONY: build try scenes test-front hostile-front try-live try-hub try-exchange try-sharing try-engines try-emacs crash hostile files test gate wrong-bodies other-store contracts bench bench-growth bench-beside bench-live pictures install uninstall dist try-install clean help
 
@@ -29,7 +34,7 @@ build: build/mgr
 	@echo "build/mgr is up to date"
 
 build/mgr: $(SOURCES)
-	@$(NEED_RT); $(NEED_PYTHON)
+	@$(NEED_RT)
 	@scripts/build.py
 
 # The program, if it was built from these sources: then it is proved.
@@ -100,12 +105,12 @@ files: build/mgr
 
 # The last line is the verdict, so nothing may follow it.
 test:
-	@$(NEED_RT); $(NEED_PYTHON)
+	@$(NEED_RT); $(SAY_LEFT_OUT)
 	@scripts/documents.py && scripts/made_refusals.py && exec scripts/gate.py
 
 # The same, and the named wrong bodies.
 gate:
-	@$(NEED_RT); $(NEED_PYTHON)
+	@$(NEED_RT); $(SAY_LEFT_OUT)
 	@scripts/documents.py && scripts/made_refusals.py && exec scripts/gate.py --wrong-bodies
 
 # What one does with mgr, and what is to be seen of it: all, or those of one file.
@@ -119,7 +124,7 @@ wrong-bodies:
 
 # The tests that the gate runs over one store, over the other one.
 other-store:
-	@$(NEED_RT); $(NEED_PYTHON)
+	@$(NEED_RT)
 	@scripts/other_store.py
 
 # What each public call promises, from the sources.
@@ -151,7 +156,7 @@ pictures: build/mgr
 	@scripts/pictures.py beside
 
 build/generate build/paged: build/%: bench/%.rs
-	@command -v rustc >/dev/null || { echo "rustc is not installed" >&2; exit 1; }
+	@$(call need,rustc,apt install rustc)
 	@mkdir -p build
 	@rustc --edition 2021 -O -o $@ $<
 
@@ -166,7 +171,7 @@ uninstall:
 
 # For machines without the prover: an archive and a package of Debian, in build/dist.
 dist: build/mgr
-	@$(NEED_RT); $(NEED_PYTHON)
+	@$(NEED_RT)
 	@scripts/dist.py build/mgr
 
 # Both, in a fresh root of Debian. It takes three to ten minutes, and needs root and a network.
