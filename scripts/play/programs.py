@@ -20,6 +20,9 @@ SECONDS = 60
 # The system's name of a process that waits for its first descriptor to be read from.
 WAITS_FOR_KEYS = "0 0x0 "
 
+# The same of one that is in a call which may be delayed.
+DELAYED = {"flock": "73 ", "fsync": "74 "}
+
 # The calls that are noted, and how a scene names them.
 CHANGES = {"write": "write", "pwrite64": "write", "writev": "write", "fsync": "sync", "fdatasync": "sync"}
 CHANGES |= {"rename": "rename", "renameat": "rename", "renameat2": "rename", "link": "link", "linkat": "link"}
@@ -123,7 +126,6 @@ class Session:
         self.process = start([*command, "edit", *words, self.SWITCH], folder, takes, **pipes)
         self.shown = b""
         self.error = b""
-        self._settle()
 
     def press(self, keys):
         """Hands keys to mgr, and waits until it waits for more, or for a peer."""
@@ -164,13 +166,14 @@ class Session:
     def reads_keys(self):
         return self._syscall().startswith(WAITS_FOR_KEYS) and self._has_shown_all()
 
-    def await_delay(self):
-        """Waits until a call is delayed: what is traced stops for moments alone else."""
-        end, stopped = time.monotonic() + SECONDS, 0
-        while stopped < 50:
+    def await_delay(self, call):
+        """Waits until that call is delayed: what is traced stops in others for moments alone."""
+        end, stopped = time.monotonic() + SECONDS, None
+        while stopped is None or time.monotonic() - stopped < 0.1:
             if self.has_ended() or time.monotonic() > end:
                 raise Unexpected("no call of mgr is delayed")
-            stopped = stopped + 1 if self._state() == "t" else 0
+            is_there = self._state() == "t" and self._syscall().startswith(DELAYED[call])
+            stopped = (stopped or time.monotonic()) if is_there else None
             time.sleep(0.002)
 
     def _sleeps(self):

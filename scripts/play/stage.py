@@ -45,8 +45,8 @@ class Person:
         self.under = []
         # Where their calls are noted.
         self.noted = None
-        # What is done while a call of the session is delayed, as a line of a scene.
-        self.meanwhile = None
+        # At its `start`, or at `keys`: which call of the session is delayed, and what is done meanwhile, as a line of a scene.
+        self.meanwhile = {}
         self.await_job()
 
     def await_job(self):
@@ -65,6 +65,8 @@ class Stage:
         self.root = tempfile.mkdtemp(prefix="mgr-scene-")
         self.people = {}
         self.peer = None
+        # What another program has locked.
+        self.locked = None
         self.compared = 0
         self._port = None
         self.meet("one")
@@ -101,6 +103,8 @@ class Stage:
             session.kill()
         if self.peer:
             self.peer.end()
+        if self.locked:
+            self.locked.close()
         for person in self.people.values():
             # It may be one that nobody may write.
             os.chmod(person.folder, 0o700)

@@ -1,6 +1,7 @@
 """Files: those that are there before, what other programs do to them, and what they hold."""
 
 import decimal
+import fcntl
 import os
 import pathlib
 import shutil
@@ -121,6 +122,16 @@ def twin(stage, about):
 def pipe(stage, about):
     """A pipe of that name, which nobody writes to."""
     os.mkfifo(stage.path(about))
+
+
+@word
+def locks(stage, about):
+    """Another program has a file locked, and not the one before any more; `locks nothing` has none."""
+    if stage.locked:
+        stage.locked.close()
+    stage.locked = None if about == "nothing" else open(stage.path(about), "rb")
+    if stage.locked:
+        fcntl.flock(stage.locked, fcntl.LOCK_EX | fcntl.LOCK_NB)
 
 
 @word

@@ -7,13 +7,16 @@ import resource
 import shutil
 
 from play.notation import Unreadable, keys_of, text_of
-from play.programs import Live, Session, Unexpected, delaying, ends_well, failing, limits, makes_calls_fail, noted, noting
+from play.programs import DELAYED, Live, Session, Unexpected, delaying, ends_well, failing, limits, makes_calls_fail, noted, noting
 from play.stage import LeftOut
 from play.words.table import WORDS, parted, word
 
 # An ordinary user and a group, and the words of a command that are in front of one of hers.
 NOBODY, NOGROUP = "nobody", "nogroup"
 AS_NOBODY = ["setpriv", f"--reuid={NOBODY}", f"--regid={NOGROUP}", "--clear-groups"]
+
+# Those that mount a file by itself, which ends with what they run.
+MOUNTED = ["unshare", "--mount", "sh", "-c", 'mount --bind "$0" "$0" && exec "$@"']
 
 
 @word
@@ -42,21 +45,26 @@ def _begin(stage, about, kind):
     words = [str(stage.port) if it == "PORT" else text_of(it).decode() for it in about.split()]
     person.has_begun = True
     person.session, person.job = kind([*person.under, stage.mgr], person.folder, words, person.takes), None
+    _press(stage, b"", "start")
 
 
 @word
 def keys(stage, about):
+    _press(stage, keys_of(about), "keys")
+
+
+def _press(stage, keys, when):
+    """Hands keys to the session, and does what is to be done while a call is delayed, if anything is."""
     with concurrent.futures.ThreadPoolExecutor() as beside:
-        done = beside.submit(_do_meanwhile, stage)
-        session_of(stage).press(keys_of(about))
+        done = beside.submit(_do_meanwhile, stage, when)
+        session_of(stage).press(keys)
         done.result()
 
 
-def _do_meanwhile(stage):
-    """Does what is to be done while a call is delayed, if anything is."""
-    line, stage.person.meanwhile = stage.person.meanwhile, None
-    if line:
-        session_of(stage).await_delay()
+def _do_meanwhile(stage, when):
+    if when in stage.person.meanwhile:
+        call, line = stage.person.meanwhile.pop(when)
+        session_of(stage).await_delay(call)
         name, _, about = line.partition(" ")
         WORDS[name](stage, about.strip())
 
@@ -84,12 +92,18 @@ def fails(stage, about):
 
 @word
 def delays(stage, about):
-    """`delays CALL N | LINE`: that call of the session that is begun next takes a second, in which another program does the line."""
+    """`delays CALL N | LINE`: that call of the session that is begun next takes a second, in which another program does the line.
+
+    `delays start CALL N | LINE`: the same of a call that comes before any key.
+    """
     if not makes_calls_fail():
         raise LeftOut("there is no strace that may trace")
     call, line = parted(about)
-    stage.person.under = delaying(*call.split())
-    stage.person.meanwhile = line
+    *when, call, number = call.split()
+    if call not in DELAYED:
+        raise Unreadable(f"{call} is not delayed")
+    stage.person.under = delaying(call, number)
+    stage.person.meanwhile = {"start" if when == ["start"] else "keys": (call, line)}
 
 
 @word
@@ -122,6 +136,15 @@ def ordinary(stage, about):
     for path in (stage.person.folder, *stage.person.folder.rglob("*")):
         shutil.chown(path, NOBODY, NOGROUP)
     stage.person.under = AS_NOBODY
+
+
+@word
+def mounted(stage, about):
+    """From here on a file is mounted by itself in sessions and jobs, as in a container. Root alone can do so."""
+    under = [*MOUNTED, stage.path(about)]
+    if not ends_well((*under, "true")):
+        raise LeftOut("no file can be mounted by itself here")
+    stage.person.under = under
 
 
 @word
