@@ -28,6 +28,8 @@ without = command -v $(1) >/dev/null || echo "$(1) is not installed (apt install
 SAY_LEFT_OUT = $(call without,strace,strace,scenes in which calls of the system fail are left out); \
 	$(call without,cc,gcc libc6-dev,no growth of memory is refused)
 
+NEED_PYTHON = command -v python3 >/dev/null || { echo "python3 is not installed" >&2; exit 1; }
+
 .PHONY: build try scenes test-front hostile-front try-live try-hub try-exchange try-sharing try-engines try-emacs crash hostile files test gate wrong-bodies other-store contracts bench bench-growth bench-beside bench-live pictures install uninstall dist try-install clean help
 
 build: build/mgr
@@ -54,6 +56,7 @@ test-front:
 # Ten times as many random lines of others as test-front has, for the front and for mgr, which are to take the same ones. A minute or two.
 hostile-front: build/mgr
 	@HOSTILE=10000 MGR=$(CURDIR)/build/mgr python3 -m unittest discover -s front/tests -p test_hostile.py
+	@scripts/attackers.py build/mgr
 
 # The front, in a terminal of tmux, and the picture of two people. It takes one to five minutes.
 try-live: build/mgr
