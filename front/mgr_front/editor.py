@@ -52,10 +52,12 @@ class Talk:
         # The newest status, and how many keys it was the first to tell of. One is to come at the start, as if
         # it were the answer to a report.
         self.status, self.taken = Status(reports=-1), 0
-        # What is still to be given; the keys that no status told of, how many reports there were, and which of
-        # these were texts of the person.
+        # What is still to be given; the keys that no status told of, how many reports there were. Of reports of texts
+        # of the person the pieces up to the last one; and the texts of those that were refused.
         self.waiting, self.untold, self.reports = bytearray(), bytearray(), 0
-        self.pasted: set[int] = set()
+        self.pasted: dict[int, list[str]] = {}
+        self.refused: dict[int, str] = {}
+        self.pieces: list[str] = []
 
     def hand_on(self, keys: bytes) -> None:
         """Has these keys wait for mgr, after those that do; one that would begin a report is left out."""
@@ -71,7 +73,9 @@ class Talk:
 
     def paste(self, text: str, more: bool = False) -> None:
         """Has a text be put in, as one command with what comes after it if that is more of it."""
-        self.pasted.update([self.report(line) for line in with_text(text, more, op="paste")])
+        self.pieces.append(text)
+        self.pasted |= dict.fromkeys([self.report(line) for line in with_text(text, more, op="paste")], self.pieces)
+        self.pieces = self.pieces if more else []
 
     def resize(self, rows: int) -> None:
         """Gives the screen so many rows."""
@@ -84,6 +88,8 @@ class Talk:
         self.taken = status.keys - self.status.keys
         del self.untold[: self.taken]
         self.status = status
+        self.refused |= {number: "".join(self.pasted[number]) for number in self.pasted.keys() & status.refused}
+        self.pasted = {number: pieces for number, pieces in self.pasted.items() if number > status.reports}
 
     @property
     def is_settled(self) -> bool:

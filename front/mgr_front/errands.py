@@ -11,7 +11,7 @@ from mgr_front.statuses import Status
 
 Errand = Generator[bytes, Status, str | None]
 
-COPY_ALL, YANK, FIND = b"\x18h\x1bw", b"\x19", b"\x18\x06"
+COPY_ALL, YANK, FIND, REMOVE = b"\x18h\x1bw", b"\x19", b"\x18\x06", b"\x18k"
 SET_MARK, KILL_REGION, NEXT_LINE, FORWARD_CHAR, ARGUMENT = b"\x00", b"\x17", b"\x0e", b"\x06", b"\x15"
 LEAVE = b"\x18\x03"
 BACKWARD_WORD, BUFFER_BEGIN, BUFFER_END = b"\x1bb", b"\x1b<", b"\x1b>"

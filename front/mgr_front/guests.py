@@ -11,7 +11,7 @@ import subprocess
 import tempfile
 from collections.abc import Generator
 
-from mgr_front.copies import Copy, state_folder
+from mgr_front.copies import Copy, own_folder, state_folder
 from mgr_front.errands import COPY_ALL, FIND, YANK, switch_to
 from mgr_front.meeting import socket_name
 from mgr_front.notes import Note, Refused, read
@@ -33,8 +33,7 @@ def copies_of(path: str) -> str:
 def guest_of(path: str) -> Note:
     """Returns a copy of the note whose text has this path, in which nobody else writes while this program runs."""
     for number in itertools.count(1):
-        folder = os.path.join(copies_of(path), str(number))
-        os.makedirs(folder, mode=0o700, exist_ok=True)
+        folder = own_folder("guests", socket_name(path), str(number))
         held = os.open(os.path.join(folder, "lock"), os.O_RDWR | os.O_CREAT, 0o600)
         try:
             fcntl.flock(held, fcntl.LOCK_EX | fcntl.LOCK_NB)
@@ -47,9 +46,8 @@ def guest_of(path: str) -> Note:
 def place_apart(name: str) -> str:
     """Returns a place for a buffer's text, in a folder beside the copies of that note; "" if there is none."""
     try:
-        os.makedirs(copies_of(name), mode=0o700, exist_ok=True)
-        return os.path.join(tempfile.mkdtemp(prefix=APART, dir=copies_of(name)), "text")
-    except OSError:
+        return os.path.join(tempfile.mkdtemp(prefix=APART, dir=own_folder("guests", socket_name(name))), "text")
+    except (OSError, Refused):
         return ""
 
 

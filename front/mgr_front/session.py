@@ -3,6 +3,7 @@
 import math
 import os
 import select
+import shutil
 import signal
 import time
 from collections.abc import Callable, Generator, Sequence
@@ -14,8 +15,8 @@ from mgr_front.company import Company
 from mgr_front.completion import ANSWERED, KILL_EMACS, NAMED, accept, complete
 from mgr_front.dispatch import Dispatcher
 from mgr_front.editor import BLOCK, LEAST_ROWS, MOST_ROWS, Editor
-from mgr_front.errands import LEAVE, Errand, switch_to
-from mgr_front.guests import put_apart
+from mgr_front.errands import COPY_ALL, FIND, LEAVE, REMOVE, Errand, switch_to
+from mgr_front.guests import place_apart, put_apart
 from mgr_front.keys import CANCEL, NO_KEY, RETURN, TAB, Keys, Typed
 from mgr_front.minibuffer import Page, Question
 from mgr_front.notes import KeptFiles, found, why_not_written
@@ -24,7 +25,7 @@ from mgr_front.remarks import Remarks
 from mgr_front.saving import AGAIN, FAILING, IDLE, REST, SAVE, SAVED, UNSAVED
 from mgr_front.screen import Screen
 from mgr_front.signals import Signals
-from mgr_front.statuses import COMMAND, Status
+from mgr_front.statuses import COMMAND, PLAIN, Status
 from mgr_front.view import Echo, echo_line, picture
 from mgr_front.who import WHO
 
@@ -77,6 +78,8 @@ class Session:
         self.put: Callable[[], None] = lambda: None
         self.errand: Errand | None = None
         self.question: Question | None = None
+        # A text of the person that mgr did not take, and why.
+        self.unput = "", ""
         # What the front says in place of mgr's message; what was drawn last beside the status, and when; and when
         # that is to be drawn which was not yet.
         self.said: str | None = None
@@ -163,6 +166,13 @@ class Session:
             # Each try may keep a copy of a log that may not be written.
             if not (self.fault and any(map(why_not_written, {self.names[0], *self.made}))):
                 self.rest()
+        if self.unput[1] and self._is_free():
+            self.start(self.keep_words())
+
+    def _is_free(self) -> bool:
+        """Whether nothing is asked, begun, typed ahead or under way."""
+        begun = self.errand or self.question or self.is_ending or self.dispatcher.prefix or self.editor.status.begun
+        return not begun and self.editor.is_answered and self.editor.status.mode == PLAIN
 
     def rest(self) -> None:
         """Has mgr save all that was made or taken, log and text."""
@@ -242,15 +252,16 @@ class Session:
         is_made = status.is_changed and (status.is_changed, status.unsaved) != self.opened[name]
         if is_made and (self.fault or name != self.names[0]):
             self.made.add(name)
-        for number in self.editor.pasted & status.refused.keys():
-            self.remark(f"Not put in: {status.refused[number]}")
+        for number in self.editor.refused.keys() & status.refused.keys():
+            self.unput = self.editor.refused[number], f"Not put in: {status.refused[number]}"
+            self.editor.refused[number] = ""
 
     def _tell(self, status: Status) -> None:
         """Tells others what was made, once note is taken of that."""
         if status.operations:
             self.keep(status.operations)
         if self.company:
-            others = {number: fault for number, fault in status.refused.items() if number not in self.editor.pasted}
+            others = {number: fault for number, fault in status.refused.items() if number not in self.editor.refused}
             self.company.note_status(replace(status, refused=others))
 
     def note(self, status: Status) -> None:
@@ -402,6 +413,24 @@ class Session:
             else:
                 failed.append(name)
         return failed
+
+    def keep_words(self) -> Errand:
+        """Has the kill buffer take a text that mgr did not put in, by a buffer of its own, which goes again."""
+        (text, said), self.unput, shown = self.unput, ("", ""), self.editor.status.buffer
+        if not (text and (place := place_apart(self.names[0]))):
+            return said
+        yield FIND + place.encode() + b"\r"
+        self.editor.paste(text)
+        status = yield b""
+        if status.is_changed and not status.refused:
+            yield COPY_ALL + SAVE
+            said += "; C-y puts it elsewhere"
+        yield switch_to(shown) + REMOVE + place.encode() + b"\r"
+        self.unput = "", ""
+        self.made.discard(place)
+        del self.buffers[place]
+        shutil.rmtree(os.path.dirname(place), ignore_errors=True)
+        return said
 
     def rescue(self) -> Errand:
         """Puts apart what could not be saved, if nobody is asked any more."""

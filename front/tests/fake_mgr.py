@@ -22,7 +22,7 @@ from typing import Any
 
 from context import BUFFER, written
 
-LABELS = {"\x1bx": "M-x ", "\x18b": "Switch to buffer: ", "\x18\x06": "Find file: "}
+LABELS = {"\x1bx": "M-x ", "\x18b": "Switch to buffer: ", "\x18\x06": "Find file: ", "\x18k": "Kill buffer: "}
 
 
 class Live:
@@ -74,6 +74,8 @@ class Live:
             self.message = ""
         elif told["op"] == "places":
             self.places = [[*place, 0, place[0]] for place in told["places"]]
+        elif told["op"] == "paste" and self.name.endswith("full"):
+            self.refused.append([self.reports, "Full"])
         elif told["op"] == "paste":
             self.text, self.is_changed = self.text + told["text"], True
         elif told["id"][1] == 13:
@@ -92,6 +94,8 @@ class Live:
         self.message = ""
         if key in LABELS or key == "\x07":
             self.asks, self.answer, self.label = key in LABELS, "", LABELS.get(key, "")
+        elif key == "\x1bw":
+            self.copied = self.text
         elif key == "\x19":
             self.text, self.is_changed = self.copied, True
         elif key == "y" and self.is_quitting:
@@ -100,6 +104,8 @@ class Live:
             self.asks = False
             if self.label == "Find file: ":
                 self.copied, self.name, self.text, self.saved = self.text, self.answer, "", ""
+            elif self.label == "Switch to buffer: " and self.answer != self.name:
+                self.name, self.text, self.is_changed = self.answer, "", False
         elif self.asks:
             self.answer += key
         elif key == "\x18\x13":

@@ -360,6 +360,23 @@ class TestEnds(Sessions):
                 self.assertEqual((pathlib.Path(place).read_text(), edit.discards), ("ab", False))
                 tell.assert_called_once_with("apart")
 
+    def test_a_text_that_is_not_put_in_can_be_yanked(self) -> None:
+        for text in ("words", "more words " * 2000):
+            with self.subTest(text=text[:9]):
+                edit = self.begin("full")
+                edit.names = self.note.name, "full"
+                self.settle(edit)
+                self.type(edit, b"\x1b[200~" + text.encode() + b"\x1b[201~")
+                self.leave(edit, b"")
+                while edit.errand or edit.unput[1]:
+                    self.assertTrue(edit.step())
+                self.assertEqual(edit.said, "Not put in: Full; C-y puts it elsewhere")
+                self.assertEqual((edit.editor.status.buffer, edit.made), (self.note.name, set()))
+                self.assertEqual(os.listdir(guests.copies_of(self.note.name)), [])
+                self.leave(edit, b"\x19")
+                self.assertEqual(edit.editor.status.frame[0], text)
+                ending.finish(edit, self.note)
+
     def test_the_command_that_leaves_asks_as_its_key_does(self) -> None:
         edit = self.begin("note")
         edit.names = self.note.name, "note"

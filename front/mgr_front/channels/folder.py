@@ -12,7 +12,8 @@ from typing import IO
 
 from mgr_front.channels import Post, shown
 from mgr_front.channels.worker import Worker
-from mgr_front.copies import digest, machine, state_folder, user
+from mgr_front.copies import digest, machine, own_folder, state_folder, user
+from mgr_front.notes import Refused
 from mgr_front.shared import SharedNote, text_of
 from mgr_front.wire import LONGEST
 
@@ -168,11 +169,11 @@ class Folder(Worker):
         """Returns a new name; if it can't be kept, the next edit begins another log."""
         name = secrets.token_hex(16) + ".ops"
         try:
-            os.makedirs(os.path.dirname(self.kept), mode=0o700, exist_ok=True)
+            own_folder("folders")
             with open(self.kept + ".new", "w", encoding="ascii") as file:
                 file.write(name)
             os.replace(self.kept + ".new", self.kept)
-        except OSError:
+        except (OSError, Refused):
             pass
         return name
 

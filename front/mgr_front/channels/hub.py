@@ -17,7 +17,8 @@ from mgr_front import meeting
 from mgr_front.channels import Apart, Post, State
 from mgr_front.channels.presence import Presence
 from mgr_front.channels.worker import Descriptors, Worker
-from mgr_front.copies import digest, machine, state_folder, user
+from mgr_front.copies import digest, machine, own_folder, user
+from mgr_front.notes import Refused
 from mgr_front.shared import SharedNote, text_of
 from mgr_front.signals import held_back
 from mgr_front.wire import VERSION, Broken, Wire, claims_said
@@ -73,9 +74,8 @@ def by_ssh(host: str, path: str) -> Way:
 def token_of(log: str) -> str:
     """Returns by what a hub knows a copy of a note again that was killed; of two that run at once each has its own."""
     token, owner = secrets.token_hex(8), [machine(), user(), os.path.realpath(log)]
-    place = os.path.join(state_folder(), "tokens", digest(json.dumps(owner).encode()))
-    with suppress(OSError):
-        os.makedirs(os.path.dirname(place), mode=0o700, exist_ok=True)
+    with suppress(OSError, Refused):
+        place = os.path.join(own_folder("tokens"), digest(json.dumps(owner).encode()))
         held = os.open(place, os.O_RDWR | os.O_CREAT, 0o600)
         # It is this program's up to its end, and whoever takes it finds what is written there.
         fcntl.lockf(held, fcntl.LOCK_EX | fcntl.LOCK_NB)
