@@ -41,7 +41,7 @@ class Broken(OSError):
 
 
 class Operation(NamedTuple):
-    """What a line does: so many operations with rising counters; the text that they put, which is none if they delete."""
+    """What a line does: so many operations of rising counters; the text that they put, or none if they delete."""
 
     counter: int
     replica: int
@@ -100,7 +100,7 @@ def said(op: str, **members: Any) -> bytes:
 
 
 def saying(line: bytes) -> dict[str, Any]:
-    """Returns what a line says, its members texts, whole numbers and lists of these; one that says nothing is `Broken`."""
+    """Returns what a line says, in texts, whole numbers and lists of these; one that says nothing is `Broken`."""
     try:
         made: dict[str, Any] = json.loads(line.decode() if line.startswith(SAYING) else "")
         # What stands within each other need not end.

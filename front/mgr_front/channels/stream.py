@@ -56,8 +56,8 @@ class Stream:
         size, found = self.link.pipeline().xlen(self.key).xread({self.key: last}).execute()
         entries = found[0][1] if found else []
         # Whoever added one may have given it anything.
-        texts = [{of: text for of, text in (members or {}).items() if isinstance(text, bytes)} for _, members in entries]
-        return [(name, text) for (name, _), text in zip(entries, texts)], size
+        made = [(name, members if isinstance(members, dict) else {}) for name, members in entries]
+        return [(name, {of: text for of, text in had.items() if isinstance(text, bytes)}) for name, had in made], size
 
     def add(self, lines: bytes, before: bytes | None = None) -> None:
         """Adds an entry, which takes the place of all up to one if that is given, and says so: all or nothing."""
