@@ -1,7 +1,6 @@
 """The program mgr-hub: a note in which many write at the same time, each with a copy of their own."""
 
 import os
-import resource
 import select
 import socket
 import tempfile
@@ -35,6 +34,8 @@ PROGRAM = "mgr-hub"
 ROWS = 3
 # So many others at most, and so many of them who have not said who they are.
 MOST_PEERS, MOST_UNKNOWN = 200, 8
+# No more descriptors can be waited for.
+MOST_OPEN = 1024
 # So much is heard of all together before mgr has answered that, by bytes; a line counts as so many more.
 TURN, LINE = 16384, 64
 # So many answers are looked up at once; one that is larger passes as runs. So much is held for all.
@@ -61,10 +62,10 @@ class Hub:
         self.lookups: dict[Peer | None, Lookup] = {}
         # How much is heard in this turn, and how much whoever was heard last had said before.
         self.room, self.said = 0, 0
-        # How many others there may be: of the descriptors that are left half are for answers. If there are as many,
-        # that was said, and others wait for some time.
-        left = resource.getrlimit(resource.RLIMIT_NOFILE)[0] - len(os.listdir("/proc/self/fd"))
-        self.most, self.is_full, self.open_at = min(MOST_PEERS, left // 2), False, 0.0
+        # How many others there may be: half of the descriptors that are left are for their answers. When the next one
+        # is let in, if that failed, and whether it was said.
+        left = min(os.sysconf("SC_OPEN_MAX"), MOST_OPEN) - len(os.listdir("/proc/self/fd"))
+        self.most, self.open_at, self.is_full = min(MOST_PEERS, left // 2), 0.0, False
         self.kept = KeptFiles()
         self.kept.since(note.name)
 

@@ -65,7 +65,7 @@ class Peer(Wire):
     def cut(self, op: str, why: str = "") -> None:
         """Says why nothing more is taken of it."""
         if not self.is_cut:
-            self.is_cut, self.end = True, time.monotonic() + LAST
+            self.is_cut, self.asked, self.end = True, None, time.monotonic() + LAST
             self.end_answer()
             self.say(op, why=why)
 

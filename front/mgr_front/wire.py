@@ -179,7 +179,7 @@ class Wire:
         if told["op"] != "claims":
             return told
         text = told.get("text")
-        if not isinstance(text, str) or len(self.claims) + len(text) > MOST_CLAIMS:
+        if not isinstance(text, str) or not 0 < len(self.claims) + len(text) <= MOST_CLAIMS:
             raise Broken("claims that are none")
         self.claims += text.encode("ascii", "replace")
         if told.get("more"):

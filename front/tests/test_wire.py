@@ -109,12 +109,14 @@ class TestWire(unittest.TestCase):
             self.wire._lines()
 
     def test_claims_come_whole(self) -> None:
-        for size in (0, 1, 16384, 100000):
+        for size in (1, 16384, 100000):
             claims = os.urandom(size).hex().encode()
             came = [self.wire._whole(saying(line)) for line in claims_said(claims).splitlines()]
             self.assertEqual(came, [*[None] * (len(came) - 1), {"op": "claims", "claims": claims}])
 
-    def test_claims_without_an_end(self) -> None:
+    def test_claims_without_an_end_or_without_anything(self) -> None:
+        with self.assertRaises(Broken):
+            self.wire._whole({"op": "claims", "text": ""})
         with self.assertRaises(Broken):
             for _ in range(10000):
                 self.wire._whole({"op": "claims", "text": "x" * 16384, "more": True})
