@@ -274,7 +274,7 @@ def open_twice(terminal):
     other.begin("notes --replica 2")
     other.see("open elsewhere", {0: "one"}, (0, 0))
     terminal.begin("notes --replica 1")
-    said = "mgr-live: notes: another mgr has it open, or a file of it cannot be read"
+    said = f"mgr-live: notes: mgr-live (process {other.programs()[0]}) has it open"
     terminal.left("open once more", *terminal.wrapped(said), "status 3")
     other.leave()
     other.left("left", "status 0")

@@ -7,13 +7,15 @@ import subprocess
 from collections.abc import Sequence
 from dataclasses import dataclass
 
-from mgr_front.notes import Note, Refused
+from mgr_front.notes import Note, Refused, found
 from mgr_front.saying import REFUSED
 
 # What mgr is asked to fill: a terminal has fewer columns, and the rows are cut for it.
 COLUMNS = 500
 # What mgr says if it opens nothing since a file is locked or cannot be read.
 DEVICE = "device fault"
+# The programs that begin an mgr and have it keep a note open.
+FRONTS = "mgr-live", "mgr-channel", "mgr-hub"
 
 
 @dataclass(frozen=True)
@@ -70,6 +72,19 @@ def edit(mgr: str, note: Note, replica: int, keys: bytes = b"") -> int:
     return subprocess.run(command, input=keys, capture_output=True).returncode
 
 
+def holder(note: Note) -> tuple[str, int]:
+    """Returns which program has a note open, and its process, as far as this machine says; else "" and 0."""
+    files = {os.stat(path).st_ino for path in (note.log, f"{note.log}.new") if os.path.exists(path)}
+    for line in (found("/proc/locks") or b"").decode().splitlines():
+        _, kind, _, _, process, file, *_ = line.split()
+        if kind == "FLOCK" and int(file.rpartition(":")[2]) in files:
+            parent = int((found(f"/proc/{process}/stat") or b") ? 0").rpartition(b")")[2].split()[1])
+            words = os.fsdecode(found(f"/proc/{parent}/cmdline") or b"").split("\0")
+            fronts = [name for word in words if (name := os.path.basename(word)) in FRONTS]
+            return (fronts[0], parent) if fronts else ("mgr", int(process))
+    return "", 0
+
+
 def shell_status(status: int) -> int:
     """Returns what a shell has for a status; one below 0 is a signal."""
     return status if status >= 0 else 128 - status
@@ -83,7 +98,9 @@ def explained(status: int, said: str, note: Note, was_open: bool) -> str:
     if was_open or not said:
         return said or f"mgr ended with status {status}"
     if said == DEVICE:
-        return f"{note.name}: another mgr has it open, or a file of it cannot be read"
+        who, process = holder(note)
+        other = f"{who} (process {process})" if who else "another mgr"
+        return f"{note.name}: {other} has it open" + ", or a file of it cannot be read" * (not who)
     if status == REFUSED and note.has_log:
         return f"{note.log}: {said}: see `mgr mend {note.name}`"
     return f"{note.name}: {said}"
