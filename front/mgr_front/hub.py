@@ -7,6 +7,7 @@ import tempfile
 import time
 from collections import deque
 from collections.abc import Container, Sequence
+from contextlib import suppress
 from typing import IO, Any
 
 from mgr_front import meeting
@@ -21,12 +22,12 @@ from mgr_front.opening import differ, mend
 from mgr_front.options import HubOptions, read_hub
 from mgr_front.peers import Peer
 from mgr_front.printing import log
-from mgr_front.program import edit, explained, find, log_of, shell_status
+from mgr_front.program import edit, explained, find, holder, log_of, shell_status
 from mgr_front.saving import REST, SAVE
 from mgr_front.saying import FAILED, stop, tell
 from mgr_front.screen import write_all
 from mgr_front.shared import SharedNote, text_of
-from mgr_front.signals import Signals
+from mgr_front.signals import JOIN, Signals
 from mgr_front.statuses import Status
 from mgr_front.wire import MOST_CLAIMS, VERSION, Broken, claims_said
 
@@ -42,6 +43,8 @@ TURN, LINE = 16384, 64
 LOOKUPS, LARGE, MOST_HELD = 2, 32768, 1 << 26
 # Seconds between two savings, and until mgr is said to save at the end.
 REST_AFTER, PATIENCE = 1.0, 5.0
+# Seconds between two looks whether a note is still open elsewhere.
+LOOK = 1.0
 # Two places of a peer that come within so many seconds are one.
 MOVE = 0.1
 
@@ -283,7 +286,21 @@ class Hub:
                 peer.say("alive", digest=None if self.unsaved else digest(claims))
 
 
-def serve(mgr: str, note: Note, number: int, port: int | None) -> int:
+def awaited(note: Note) -> socket.socket | None:
+    """Waits until no other program has a note open. An mgr-live is asked to join, by the listener that is returned."""
+    listener, asked = None, 0
+    while (other := holder(note))[1]:
+        listener = listener or meeting.listen(note.name)
+        if other[1] != asked:
+            asked = other[1]
+            log(f"{note.name} is open in {other[0]} (process {asked}), which is asked to join: this waits for it")
+            with suppress(OSError):
+                os.kill(asked, JOIN)
+        time.sleep(LOOK)
+    return listener
+
+
+def serve(mgr: str, note: Note, number: int, port: int | None, listener: socket.socket | None = None) -> int:
     """Keeps a note for others until a signal comes, and returns the status."""
     signals = Signals()
     listeners: list[socket.socket] = []
@@ -297,7 +314,7 @@ def serve(mgr: str, note: Note, number: int, port: int | None) -> int:
             # Once mgr has the note it has the lock: a socket that is there is a stale one.
             while not editor.is_settled:
                 list(editor.read())
-            listeners.append(meeting.listen(note.name))
+            listeners.append(listener or meeting.listen(note.name))
             log(_served(note, port))
             Hub(editor, SharedNote(mgr, note, number), listeners, signals).run()
         except (EOFError, BrokenPipeError):
@@ -349,7 +366,11 @@ def main(words: Sequence[str], folder: str) -> int:
     if mgr is None:
         stop(f"the program {os.environ.get('MGR') or 'mgr'} is not there", FAILED, PROGRAM)
     try:
-        return serve(mgr, note, _opened(mgr, note, options), options.port)
+        note.check()
+        if meeting.is_served(note.name):
+            raise Refused(f"another hub has {note.name}")
+        listener = awaited(note)
+        return serve(mgr, note, _opened(mgr, note, options), options.port, listener)
     except Refused as refused:
         stop(str(refused), refused.status, PROGRAM)
     except OSError as error:
@@ -358,9 +379,6 @@ def main(words: Sequence[str], folder: str) -> int:
 
 def _opened(mgr: str, note: Note, options: HubOptions) -> int:
     """Does what is to be done before a note is served, and returns the number of this copy."""
-    note.check()
-    if meeting.is_served(note.name):
-        raise Refused(f"another hub has {note.name}")
     if said := take_back(mgr, note):
         tell(said, PROGRAM)
     found, copy = log_of(mgr, note), Copy(note.name)

@@ -21,7 +21,7 @@ from mgr_front.program import explained, find, shell_status, text_of
 from mgr_front.saying import stop, tell
 from mgr_front.screen import Screen
 from mgr_front.session import Session
-from mgr_front.signals import Signals
+from mgr_front.signals import JOIN, Signals
 
 LEAST_COLUMNS = 20
 
@@ -45,7 +45,8 @@ def terminal_rows() -> int:
 def edit(opening: Opening, company: Company | None) -> int:
     """Edits a note until the person leaves, or something ends it, and returns the status for the shell."""
     mgr, note, options, rows = opening.mgr, opening.note, opening.options, terminal_rows()
-    signals, screen = Signals(signal.SIGTSTP, signal.SIGCONT, signal.SIGWINCH), Screen()
+    joins = [JOIN] * (not options.way[0])
+    signals, screen = Signals(signal.SIGTSTP, signal.SIGCONT, signal.SIGWINCH, *joins), Screen()
     fill = ["--fill", str(options.fill)] if options.fill else []
     put_back = [] if options.text is None else splices(text_of(mgr, note), options.text)
     with tempfile.TemporaryFile() as said:
@@ -85,15 +86,19 @@ def begin(mgr: str, options: Options, edit: Edit) -> int:
         from mgr_front.history import choose
 
         options.text = choose(mgr, note, options)
-    if not options.way[0] and is_served(note.name):
-        tell(f"a hub of this machine has {note.name}: this writes with all others there")
-        note, options.way = guest_of(note.name), (HERE, note.name)
-    elif said := take_back(mgr, note):
-        tell(said)
     while True:
+        if not options.way[0] and is_served(note.name):
+            tell(f"a hub of this machine has {note.name}: this writes with all others there")
+            note, options.way = guest_of(note.name), (HERE, note.name)
+        elif said := take_back(mgr, note):
+            tell(said)
         opening = Opening(mgr, note, options)
         if not options.way[0] or (company := meet(opening)):
-            return edit(opening, company)
+            status = edit(opening, company)
+            if status != shell_status(-JOIN):
+                return status
+            # What was to be put back has been.
+            options.text = None
 
 
 def trimmed(mgr: str, options: Options) -> int:

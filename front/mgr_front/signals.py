@@ -10,6 +10,8 @@ ENDING = (signal.SIGHUP, signal.SIGINT, signal.SIGQUIT, signal.SIGTERM)
 # What would end a mgr before it has saved. The front, which gets the first of them too, has it save;
 # and that a file may not grow any more the call that writes it says as well.
 HELD = (*ENDING, signal.SIGXFSZ)
+# By this a hub asks who has its note alone to write at it: who does not know that goes on.
+JOIN = signal.SIGURG
 
 
 @contextmanager
@@ -46,7 +48,7 @@ class Signals:
         signal.signal(number, self._note)
 
     def _note(self, number: int, _: object) -> None:
-        if number in ENDING:
+        if number in (*ENDING, JOIN):
             self.first = self.first or number
             Signals.ended = min(Signals.ended, time.monotonic())
         else:
