@@ -103,19 +103,12 @@ def picture(
 @functools.lru_cache(maxsize=KEPT)
 def text_row(text: str, left: int, columns: int, marks: tuple[Mark, ...] = ()) -> str:
     """Returns a row of the text, or the echo line."""
-    row = text_cells(text)
+    # What turns the direction of a text has no column, and could hide what others wrote: what it follows is in reverse.
+    row = cells(BEGIN.sub(lambda found: (found[2] or " ") + found[1], text), TURNING)
+    row = [f"{REVERSE}{HIDING.sub('', sign)}{RESET}" if HIDING.search(sign) else sign for sign in row]
     for mark in marks:
         _put(mark, row)
     return sent(part(row, left, columns), columns)
-
-
-def text_cells(text: str) -> list[str]:
-    """Returns what stands in each column of a row of a text.
-
-    What turns its direction has no column, and could hide what others wrote: what it stands after is in reverse.
-    """
-    row = cells(BEGIN.sub(lambda found: (found[2] or " ") + found[1], text), TURNING)
-    return [f"{REVERSE}{HIDING.sub('', sign)}{RESET}" if HIDING.search(sign) else sign for sign in row]
 
 
 def sent(row: Sequence[str], columns: int, before: str = "", after: str = "") -> str:

@@ -119,6 +119,6 @@ class RedisStream(Worker):
             self.join_all()
         elif entries:
             self.last, self.count, self.changed = entries[-1][0], size, time.monotonic()
-            others = [members.get(LINES, b"") for _, members in entries if members.get(BY) != self.stream.by.encode()]
+            others = [members.get(LINES) or b"" for _, members in entries if members.get(BY) != self.stream.by.encode()]
             news = [lines for lines in others if digest(lines) not in self.early]
             self.take(b"\n".join(news).splitlines())

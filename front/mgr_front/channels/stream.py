@@ -54,10 +54,7 @@ class Stream:
     def after(self, last: bytes) -> Entries:
         """Returns the entries that stand after one, and how many there are in all at that moment."""
         size, found = self.link.pipeline().xlen(self.key).xread({self.key: last}).execute()
-        entries = found[0][1] if found else []
-        # Whoever added one may have given it anything.
-        made = [(name, members if isinstance(members, dict) else {}) for name, members in entries]
-        return [(name, {of: text for of, text in had.items() if isinstance(text, bytes)}) for name, had in made], size
+        return [(name, members or {}) for name, members in found[0][1]] if found else [], size
 
     def add(self, lines: bytes, before: bytes | None = None) -> None:
         """Adds an entry, which takes the place of all up to one if that is given, and says so: all or nothing."""
@@ -77,7 +74,7 @@ class Stream:
 
 def lines_of(entries: Entries) -> bytes:
     """Returns the lines of entries. Whoever added one may have left out the end of its last line."""
-    found = [members.get(LINES, b"") for _, members in entries[0]]
+    found = [members.get(LINES) or b"" for _, members in entries[0]]
     return b"".join(lines if lines.endswith(b"\n") else lines + b"\n" for lines in found if lines)
 
 

@@ -6,6 +6,7 @@ import sys
 import threading
 import time
 from abc import ABC, abstractmethod
+from collections import Counter
 from collections.abc import Iterable, Sequence
 from contextlib import AbstractContextManager
 from typing import Any
@@ -43,7 +44,7 @@ class Worker(ABC):
         self.presence: Presence | None = None
         # What was told and is not passed on; what was left out of what others have, and what of that was not said.
         self.told: list[bytes] = []
-        self.left_out: dict[str, int] = {}
+        self.left_out: Counter[str] = Counter()
         self.unsaid: list[str] = []
         self._given: Mailbox[Sequence[bytes]] = Mailbox()
         self._state = State("")
@@ -114,8 +115,7 @@ class Worker(ABC):
     def compare(self, log: bytes, mends: bool = False) -> tuple[list[bytes], bytes]:
         """Takes what the note lacks of a log of others; returns what that lacks, and what they have, in short."""
         lines, claims, refused = self.note.others(log, mends)
-        if refused:
-            self.leave_out(refused)
+        self.leave_out(refused, bool(refused))
         return self.accept(lines, claims), claims
 
     def accept(self, lines: list[bytes], claims: bytes) -> list[bytes]:
@@ -129,21 +129,19 @@ class Worker(ABC):
         """Posts lines of others, but for those that are no operations."""
         came = tuple(lines)
         made = tuple(filter(is_operation, came))
-        if len(made) < len(came):
-            self.leave_out("lines that are no operations", len(came) - len(made))
+        self.leave_out("lines that are no operations", len(came) - len(made))
         if made:
             self.post(Took(made))
 
-    def leave_out(self, what: str, count: int = 0) -> None:
-        """Takes note of what is left out of what others have, and how much. It is said once of each."""
-        self.unsaid += [what] * (what not in self.left_out)
-        self.left_out[what] = self.left_out.get(what, 0) + count
+    def leave_out(self, what: str, count: int = 1) -> None:
+        """Counts what is left out of what others have. It is said once of each."""
+        self.unsaid += [what] * (count > 0 and not self.left_out[what])
+        self.left_out[what] += count
 
     def _say_live(self) -> None:
         """Says that the channel is live, and what was left out."""
-        counts = [(what, self.left_out[what]) for what in self.unsaid[:MOST_SAID]]
-        said = "; ".join(what + f" ({count})" * bool(count) for what, count in counts)
-        self.unsaid = []
+        counts, self.unsaid = [(what, self.left_out[what]) for what in self.unsaid[:MOST_SAID]], []
+        said = "; ".join(what + f" ({count})" * (count > 1) for what, count in counts)
         self.say(State("live", said and f"left out: {said}"))
 
     def say(self, state: State) -> None:
