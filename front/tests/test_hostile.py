@@ -9,6 +9,7 @@ import random
 import re
 import socket
 import subprocess
+import sys
 import unittest
 from collections.abc import Callable, Iterator
 from typing import Any
@@ -52,6 +53,10 @@ VALUES = [None, True, 0, 1, -1, 2**70, 0.5, float("nan"), "", "x", "\ud800", "\x
 VALUES += [[], [1, 2, 3], [2**53 - 1, 65535, 1], [2**53, 1, 1], ["x"], [[1]], {}, {"op": "x"}, [True, 1, 1], [1.0, 1, 1], VERSION]
 OPS = "hello claims place alive leave refused conflict behind bye lines entry rest paste x".split()
 MEMBERS = "version replica name token place digest why text more by lines op".split()
+
+
+def setUpModule() -> None:
+    print(f"SEED={SEED}: ", end="", file=sys.stderr, flush=True)
 
 
 class Hostile(random.Random):
@@ -132,9 +137,6 @@ class WithHostile(InFolder):
     def setUp(self) -> None:
         super().setUp()
         self.hostile = Hostile(f"{SEED} {self.id()}")
-        seed = self.subTest(seed=SEED)
-        seed.__enter__()
-        self.addCleanup(seed.__exit__, None, None, None)
         state = mock.patch.dict(os.environ, XDG_STATE_HOME=str(self.folder / "state"))
         state.start()
         self.addCleanup(state.stop)
@@ -328,16 +330,15 @@ class TestEngines(WithHostile):
 class TestHubs(Hubs):
     def test_what_a_peer_says(self) -> None:
         hostile = Hostile(f"{SEED} {self.id()}")
-        with self.subTest(seed=SEED):
-            for number in range(ENTRIES // 4):
-                hello = said("hello", version=VERSION, replica=number % 60000 + 1000, name="eve", token="t")
-                # What takes the place of mgr has no lines in its text.
-                lines = [line for line in hostile.lines(4) if b"\\n" not in line and b"u000" not in line]
-                self.peer(hello * (hostile.random() < 0.9), *[line + b"\n" for line in lines])
-            last = b'{"char":"z","id":[1,5],"op":"ins","parent":[0,0]}'
-            self.peer(said("hello", version=VERSION, replica=5, name="alice", token="t"), last + b"\n")
-            self.expect(lambda: last in self.log(), True)
-            self.assertTrue(len(self.log()) > ENTRIES // 20 and all(map(operation, self.log())))
+        for number in range(ENTRIES // 4):
+            hello = said("hello", version=VERSION, replica=number % 60000 + 1000, name="eve", token="t")
+            # What takes the place of mgr has no lines in its text.
+            lines = [line for line in hostile.lines(4) if b"\\n" not in line and b"u000" not in line]
+            self.peer(hello * (hostile.random() < 0.9), *[line + b"\n" for line in lines])
+        last = b'{"char":"z","id":[1,5],"op":"ins","parent":[0,0]}'
+        self.peer(said("hello", version=VERSION, replica=5, name="alice", token="t"), last + b"\n")
+        self.expect(lambda: last in self.log(), True)
+        self.assertTrue(len(self.log()) > ENTRIES // 20 and all(map(operation, self.log())))
 
     def peer(self, *lines: bytes) -> None:
         """One who says this, and goes."""
