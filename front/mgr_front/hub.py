@@ -35,18 +35,18 @@ PROGRAM = "mgr-hub"
 ROWS = 3
 # So many others at most, and so many of them who have not said who they are.
 MOST_PEERS, MOST_UNKNOWN = 200, 8
-# No more descriptors can be waited for.
-MOST_OPEN = 1024
+# No more descriptors can be waited for, and so many are left for looking up.
+MOST_OPEN, SPARE = 1024, 12
 # So much is heard of all together before mgr has answered that, by bytes; a line counts as so many more.
 TURN, LINE = 16384, 64
-# So many answers are looked up at once; one that is larger passes as runs. So much is held for all.
-LOOKUPS, LARGE, MOST_HELD = 2, 32768, 1 << 26
+# So many answers are looked up at once; larger ones pass as runs, and none is larger. So much is held for all.
+LOOKUPS, LARGE, MOST_ANSWER, MOST_HELD = 2, 1 << 15, 1 << 25, 1 << 26
 # Seconds between two savings, and until mgr is said to save at the end.
 REST_AFTER, PATIENCE = 1.0, 5.0
 # Seconds between two looks whether a note is still open elsewhere.
 LOOK = 1.0
-# Two places of a peer that come within so many seconds are one.
-MOVE = 0.1
+# Two places of a peer that come within so many seconds are one; and that nobody is let in is said once in so many.
+MOVE, QUIET = 0.1, 60.0
 
 
 class Hub:
@@ -65,10 +65,9 @@ class Hub:
         self.lookups: dict[Peer | None, Lookup] = {}
         # How much is heard in this turn, and how much whoever was heard last had said before.
         self.room, self.said = 0, 0
-        # How many others there may be: half of the descriptors that are left are for their answers. When the next one
-        # is let in, if that failed, and whether it was said.
+        # How many others there may be by the descriptors that are left; when one is let in again if that failed.
         left = min(os.sysconf("SC_OPEN_MAX"), MOST_OPEN) - len(os.listdir("/proc/self/fd"))
-        self.most, self.open_at, self.is_full = min(MOST_PEERS, left // 2), 0.0, False
+        self.most, self.open_at = min(MOST_PEERS, left - SPARE), -QUIET
         self.kept = KeptFiles()
         self.kept.since(note.name)
 
@@ -91,10 +90,10 @@ class Hub:
         heard = [peer for peer in self.peers if peer.is_heard and self.editor.is_answered]
         listeners = self.listeners if time.monotonic() > self.open_at else ()
         reading = [self.signals.woken, self.editor.written, *self.lookups.values(), *listeners, *heard]
-        writing = [peer for peer in self.peers if peer.waiting or peer.left]
+        writing = [*[peer for peer in self.peers if peer.waiting], *[self.editor.keys] * bool(self.editor.waiting)]
         came = {peer for peer in heard if peer.lines}
         rest = 0.0 if came else REST_AFTER if self.unsaved or self.peers or not listeners else ALIVE
-        ready, free, _ = select.select(reading, [*writing, *[self.editor.keys] * bool(self.editor.waiting)], [], rest)
+        ready, free, _ = select.select(reading, writing, [], rest)
         if self.editor.keys in free:
             self.editor.write()
         for status in self.editor.read() if self.editor.written in ready else ():
@@ -119,15 +118,14 @@ class Hub:
             link, why = listener.accept()[0], f"{self.most} are here"
             if len(self.peers) < self.most:
                 self.peers.append(Peer(link))
-                self.is_full = False
                 return
             link.close()
         except OSError as error:
             why = str(error.strerror)
-        self.open_at = time.monotonic() + REST_AFTER
-        if not self.is_full:
+        now = time.monotonic()
+        if now > self.open_at + QUIET:
             log(f"nobody else is let in: {why}")
-        self.is_full = True
+        self.open_at = now + REST_AFTER
 
     def _serve(self, peer: Peer, share: int, is_free: bool) -> None:
         """Hears so much of a peer and writes to it what can be now; one that breaks is left."""
@@ -159,7 +157,6 @@ class Hub:
         """Leaves a peer."""
         self.peers.remove(peer)
         peer.link.close()
-        peer.end_answer()
         if peer in self.lookups:
             self.lookups.pop(peer).end()
         for other in self._others(peer) if peer.replica else ():
@@ -179,7 +176,7 @@ class Hub:
             for other in self._others(peer):
                 other.say("place", replica=peer.replica, name=peer.name, place=place)
         elif told["op"] == "claims":
-            peer.asked = told["claims"]
+            peer.request = told["claims"]
         elif told["op"] == "bye":
             peer.is_leaving = True
         elif told["op"] == "refused":
@@ -205,7 +202,7 @@ class Hub:
 
     def _look_up(self, ready: Container[object]) -> None:
         """Goes on with what is looked up in the log, and begins it for those who were answered longest ago."""
-        asking = [peer for peer in self.peers if peer.asked is not None and not peer.left and peer not in self.lookups]
+        asking = [peer for peer in self.peers if peer.request and not peer.asked and peer not in self.lookups]
         for asked in sorted(asking, key=lambda peer: peer.answered)[: max(0, LOOKUPS - len(self.lookups))]:
             self.lookups[asked] = Lookup(self.note.mgr, self._answer(asked))
         for peer, lookup in [*self.lookups.items()]:
@@ -221,18 +218,21 @@ class Hub:
     def _answer(self, peer: Peer) -> Steps:
         """Looks up what a peer lacks of the log, by its claims, and then what that has, in short."""
         lacked: IO[bytes] = tempfile.TemporaryFile()
-        claims, peer.asked = peer.asked or b"", None
+        claims, peer.request = peer.request, b""
         if self.note.note.has_log:
             lacked.write(claims)
             lacked.flush()
             lacked = yield ["missing", "--", self.note.name], lacked
         if lacked.seek(0, os.SEEK_END) > LARGE:
             lacked = yield ["join", "-"], lacked
-        claims = yield from self._claims()
-        lacked.seek(0, os.SEEK_END)
-        lacked.write(claims_said(claims))
-        peer.left, peer.size, peer.answered = lacked, lacked.tell(), time.monotonic()
-        lacked.seek(0)
+        with lacked:
+            if lacked.seek(0, os.SEEK_END) > MOST_ANSWER:
+                raise Apart("more is missing than can be told")
+            lacked.seek(0)
+            claims = yield from self._claims()
+            peer.answer(lacked.read())
+            peer.answer(claims_said(claims))
+            peer.answered = time.monotonic()
 
     def _claims(self) -> Steps:
         """Looks up what the log has, in short, and returns as much of it as anybody takes."""

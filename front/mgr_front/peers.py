@@ -2,10 +2,10 @@
 
 import socket
 import time
-from typing import IO, Any
+from typing import Any
 
 from mgr_front.channels import MOST_NAME, shown
-from mgr_front.wire import BLOCK, MOST_WAITING, VERSION, Broken, Wire
+from mgr_front.wire import MOST_WAITING, VERSION, Broken, Wire
 
 # So many bytes may be on their way to a peer beside what waits here.
 SENT = 65536
@@ -30,10 +30,8 @@ class Peer(Wire):
         # When it said last where it is, and when it was answered last; how much it said, in turns with others.
         self.moved = self.answered = 0.0
         self.said = 0
-        # Claims that it wants an answer to; what it has not taken of the last one, and how large that is.
-        self.asked: bytes | None = None
-        self.left: IO[bytes] | None = None
-        self.size = 0
+        # Claims that it wants an answer to.
+        self.request = b""
 
     @property
     def is_heard(self) -> bool:
@@ -42,8 +40,8 @@ class Peer(Wire):
 
     @property
     def held(self) -> int:
-        """How many bytes are held of it and for it; of what is in a file a quarter counts."""
-        return len(self.waiting) + len(self.claims) + len(self.asked or b"") + self.size // 4
+        """How many bytes are held of it and for it."""
+        return len(self.waiting) + len(self.claims) + len(self.request)
 
     @property
     def title(self) -> str:
@@ -65,23 +63,8 @@ class Peer(Wire):
     def cut(self, op: str, why: str = "") -> None:
         """Says why nothing more is taken of it."""
         if not self.is_cut:
-            self.is_cut, self.asked, self.end = True, None, time.monotonic() + LAST
-            self.end_answer()
+            self.is_cut, self.request, self.end = True, b"", time.monotonic() + LAST
             self.say(op, why=why)
-
-    def write(self) -> None:
-        """Writes as much as is taken now; of an answer some lines at a time, so that others' words come between."""
-        if self.left and len(self.waiting) < BLOCK:
-            lines = self.left.readlines(BLOCK)
-            self.pass_on(b"".join(lines))
-            if not lines:
-                self.end_answer()
-        super().write()
-
-    def end_answer(self) -> None:
-        if self.left:
-            self.left.close()
-        self.left, self.size = None, 0
 
     def check(self, now: float) -> None:
         """Leaves one that says too much, or nothing; of what one takes too slowly only a line that was begun stays.
@@ -89,8 +72,9 @@ class Peer(Wire):
         It asks for the rest once it has taken that.
         """
         super().check(now)
-        if len(self.waiting) > MOST_WAITING:
+        if len(self.waiting) - self.asked > MOST_WAITING:
             del self.waiting[self.waiting.find(b"\n") + 1 :]
+            self.asked = 0
             self.say("behind")
         if self.total > FLOOD + RATE * (now - self.begun_at):
             raise Broken("it says too much")

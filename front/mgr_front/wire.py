@@ -127,8 +127,8 @@ class Wire:
         link.setblocking(False)
         # A line that was begun, lines that nobody asked for yet, and claims.
         self.begun, self.lines, self.claims = b"", deque[bytes](), bytearray()
-        # What waits to be written.
-        self.waiting = bytearray()
+        # What waits, and how many of its bytes were asked for, and may be many.
+        self.waiting, self.asked = bytearray(), 0
         # When something was read, and when something was written or nothing waited; how many bytes were read.
         self.heard = self.written = self.begun_at = time.monotonic()
         self.total = 0
@@ -145,7 +145,10 @@ class Wire:
             self.written = time.monotonic()
         self.waiting += lines
 
-    answer = pass_on
+    def answer(self, lines: bytes) -> None:
+        """Has lines wait that were asked for, however many."""
+        self.pass_on(lines)
+        self.asked += len(lines)
 
     def take(self) -> Iterator[dict[str, Any] | bytes]:
         """Reads what came, and yields what is said, claims once they are whole, and operations.
@@ -188,12 +191,13 @@ class Wire:
         return {"op": "claims", "claims": claims}
 
     def write(self) -> None:
-        """Writes as much as is taken now."""
+        """Writes as much as is taken now. What was asked for counts as written first."""
         try:
             count = self.link.send(self.waiting[:BLOCK])
         except BlockingIOError:
             return
         del self.waiting[:count]
+        self.asked = max(0, self.asked - count)
         self.written = time.monotonic()
 
     def check(self, now: float) -> None:

@@ -1,12 +1,9 @@
 """Lines between a hub and those who write at it."""
 
-import contextlib
 import os
 import socket
-import tempfile
 import time
 import unittest
-from typing import IO
 
 import context  # noqa: F401
 
@@ -132,38 +129,14 @@ class TestWire(unittest.TestCase):
 
     def test_who_takes_it_slowly_is_told_to_ask_again(self) -> None:
         peer, lines, said = Peer(self.near), (b"x" * 1023 + b"\n") * (MOST_WAITING // 1024 + 1), b'\n{"op":"behind"}\n'
-        self.give(peer, lines)
+        peer.answer(lines)
         peer.write()
-        self.assertLess(len(peer.waiting), 2 * BLOCK)
-        peer.end_answer()
-        peer.waiting.clear()
+        peer.check(peer.begun_at)
+        self.assertGreater(len(peer.waiting), MOST_WAITING - BLOCK)
         for given, left in ((lines, 1023), (lines, 1023)):
             peer.pass_on(given)
             peer.check(peer.begun_at)
             self.assertEqual(peer.waiting, b"x" * left + said)
-
-    def give(self, peer: Peer, lines: bytes) -> IO[bytes]:
-        """Gives a peer an answer, in a file."""
-        answer = tempfile.TemporaryFile()
-        answer.write(lines)
-        answer.seek(0)
-        peer.left, peer.size = answer, len(lines)
-        return answer
-
-    def test_words_of_others_come_between_the_lines_of_an_answer(self) -> None:
-        peer, lines = Peer(self.near), [b"%d" % i for i in range(50000)]
-        answer = self.give(peer, b"\n".join([*lines, b""]))
-        peer.write()
-        peer.pass_on(b"word\n")
-        came = b""
-        while peer.waiting or peer.left:
-            peer.write()
-            with contextlib.suppress(BlockingIOError):
-                came += self.far.recv(1 << 20, socket.MSG_DONTWAIT)
-        found = came.splitlines()
-        self.assertLess(found.index(b"word"), 10000)
-        found.remove(b"word")
-        self.assertEqual((found, answer.closed, peer.held), (lines, True, 0))
 
     def test_what_is_not_asked_for_comes_the_next_time(self) -> None:
         lines = [(INSERTION % char).encode() for char in "abc"]
