@@ -29,7 +29,7 @@ from mgr_front.screen import write_all
 from mgr_front.shared import SharedNote, text_of
 from mgr_front.signals import JOIN, Signals
 from mgr_front.statuses import Status
-from mgr_front.wire import MOST_CLAIMS, VERSION, Broken, claims_said
+from mgr_front.wire import MOST_CLAIMS, VERSION, Broken, claims_said, weight
 
 PROGRAM = "mgr-hub"
 ROWS = 3
@@ -37,10 +37,10 @@ ROWS = 3
 MOST_PEERS, MOST_UNKNOWN = 200, 8
 # No more descriptors can be waited for, and so many are left for looking up.
 MOST_OPEN, SPARE = 1024, 12
-# So much is heard of all together before mgr has answered that, by bytes; a line counts as so many more.
-TURN, LINE = 16384, 64
+# So many characters are heard of all together before mgr has answered them.
+TURN = 16384
 # So many answers are looked up at once; larger ones pass as runs, and none is larger. So much is held for all.
-LOOKUPS, LARGE, MOST_ANSWER, MOST_HELD = 2, 1 << 15, 1 << 25, 1 << 26
+LOOKUPS, LARGE, MOST_ANSWER, MOST_HELD = 2, 1 << 15, 1 << 25, 3 << 24
 # Seconds between two savings, and until mgr is said to save at the end.
 REST_AFTER, PATIENCE = 1.0, 5.0
 # Seconds between two looks whether a note is still open elsewhere.
@@ -145,8 +145,9 @@ class Hub:
         self.said = peer.said = max(self.said, peer.said)
         for told in peer.take():
             self._hear(peer, told)
-            peer.said += len(told) + LINE
-            self.room -= len(told) + LINE
+            size = weight(told)
+            peer.said += size
+            self.room -= size
             if self.room <= 0 or peer.said > self.said + share or not peer.is_heard:
                 return
 

@@ -33,6 +33,8 @@ OPERATION = re.compile(
 MEMBERS = {"ins": (1, 0, 1, 0), "run": (0, 0, 1, 1), "del": (0, 0, 0, 0), "dels": (0, 1, 0, 0)}
 # The greatest numbers of identifiers; so many operations stand in one line.
 MOST_COUNTER, MOST_REPLICA, MOST_OPERATIONS = (1 << 53) - 1, 65535, 4096
+# Each line counts as so many characters more.
+LINE = 64
 SAYING = b'{"op":"'
 
 
@@ -74,6 +76,12 @@ def operation(line: bytes) -> Operation | None:
 
 def is_operation(line: bytes) -> bool:
     return operation(line) is not None
+
+
+def weight(told: dict[str, Any] | bytes) -> int:
+    """Returns as how many characters something counts that was said: those that it has, or deletes, and as many for all."""
+    found = operation(told) if isinstance(told, bytes) else None
+    return LINE + (found.size if found else len(told))
 
 
 def in_runs(lines: Iterable[bytes]) -> list[bytes]:

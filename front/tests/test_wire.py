@@ -9,7 +9,7 @@ import context  # noqa: F401
 
 from mgr_front.peers import Peer
 from mgr_front.wire import BLOCK, LONGEST, MOST_OPERATIONS, MOST_WAITING, SILENCE, STUCK, Broken, Wire, claims_said
-from mgr_front.wire import in_runs, is_operation, operation, said, saying
+from mgr_front.wire import in_runs, is_operation, operation, said, saying, weight
 
 INSERTION, RUN = '{"char":"%s","id":[3,2],"op":"ins","parent":[1,1]}', '{"id":%s}'
 
@@ -45,6 +45,11 @@ class TestLines(unittest.TestCase):
             (RUN % ('[1,2],"op":"run","parent":[0,0],"text":"%s"' % ("漢" * 4096)), (1, 2, 4096, "漢" * 4096)),
         ):
             self.assertEqual(operation(line.encode()), wanted, line)
+
+    def test_what_counts_as_how_much(self) -> None:
+        lines = (INSERTION % "a").encode(), b'{"count":4096,"id":[1,2],"op":"dels"}', b'{"id":[1,2],"op":"run","parent":[0,0],"text":"%b"}' % (b"x" * 4000)
+        self.assertEqual([weight(line) // 1000 for line in lines], [0, 4, 4])
+        self.assertLess(weight({"op": "bye"}), 100)
 
     def test_what_is_none(self) -> None:
         run = RUN % '[1,2],"op":"run","parent":[0,0],"text":"%s"'

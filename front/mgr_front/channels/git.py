@@ -219,11 +219,11 @@ class GitBranch(Worker):
             why = ended(git, said, os.path.join(self.clone, "objects", "pack"))
             told.seek(0)
             said.seek(0)
-            came = told.read()
-            if git.returncode:
-                fault = Apart(f"git {words[0]}: {why}") if why else fault_of(came + said.read() or b"status %d" % git.returncode)
-                raise Away(fault.state.why) if words[0] == LOOK_UP else fault
-        return came
+            came, faults = told.read(), said.read()
+        if not git.returncode:
+            return came
+        fault = Apart(f"git {words[0]}: {why}") if why else fault_of(came + faults or b"status %d" % git.returncode)
+        raise Away(fault.state.why) if words[0] == LOOK_UP else fault
 
     def _word(self, *words: str) -> str:
         return self._git(*words).decode().strip()
