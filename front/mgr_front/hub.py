@@ -141,7 +141,7 @@ class Hub:
             self._drop(peer, str(error.strerror or error))
 
     def _take_turn(self, peer: Peer, share: int) -> None:
-        """Hears so much of a peer, if there is room for that. Who said nothing for long has no more room than others."""
+        """Hears so much of a peer, while there is room. Who said nothing for long has no more of it than others."""
         self.said = peer.said = max(self.said, peer.said)
         for told in peer.take():
             self._hear(peer, told)

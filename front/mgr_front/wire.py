@@ -79,7 +79,7 @@ def is_operation(line: bytes) -> bool:
 
 
 def weight(told: dict[str, Any] | bytes) -> int:
-    """Returns as how many characters something counts that was said: those that it has, or deletes, and as many for all."""
+    """Returns as how many characters something counts that was said: those that it has, or deletes, and some more."""
     found = operation(told) if isinstance(told, bytes) else None
     return LINE + (found.size if found else len(told))
 

@@ -529,8 +529,9 @@ class TestPrinting(unittest.TestCase):
                 self.assertEqual((done.returncode, done.stderr), (0, b""))
 
     def test_what_finds_no_room_is_counted(self) -> None:
-        program = "import context, sys; from mgr_front.printing import log; [log('x' * 100) for _ in range(5000)]; sys.stdin.read()"
-        with subprocess.Popen([sys.executable, "-c", program], cwd=TESTS, stdin=subprocess.PIPE, stdout=subprocess.PIPE) as process:
+        lines = "import context, sys; from mgr_front.printing import log; [log('x' * 100) for _ in range(5000)]"
+        command = [sys.executable, "-c", f"{lines}; sys.stdin.read()"]
+        with subprocess.Popen(command, cwd=TESTS, stdin=subprocess.PIPE, stdout=subprocess.PIPE) as process:
             assert process.stdin and process.stdout
             time.sleep(1)
             printed: list[bytes] = []
