@@ -211,10 +211,9 @@ class Hub:
                 if (lookup in ready or not lookup.process) and lookup.go_on():
                     del self.lookups[peer]
             except (Apart, OSError) as fault:
+                self.lookups.pop(peer).end()
                 if peer:
                     self._drop(peer, f"the log was not read: {fault}")
-                else:
-                    self.lookups.pop(None).end()
 
     def _answer(self, peer: Peer) -> Steps:
         """Looks up what a peer lacks of the log, by its claims, and then what that has, in short."""
