@@ -2,6 +2,7 @@
 
 import os
 import select
+import signal
 import socket
 import tempfile
 import time
@@ -290,12 +291,12 @@ def awaited(note: Note) -> socket.socket | None:
     """Waits until no other program has a note open. An mgr-live is asked to join, by the listener that is returned."""
     listener, asked = None, 0
     while (other := holder(note))[1]:
-        listener = listener or meeting.listen(note.name)
+        listener, is_live = listener or meeting.listen(note.name), other[0] == "mgr-live"
         if other[1] != asked:
-            asked = other[1]
-            log(f"{note.name} is open in {other[0]} (process {asked}), which is asked to join: this waits for it")
+            asked, asks = other[1], ", which is asked to join" * is_live
+            log(f"{note.name} is open in {other[0]} (process {asked}){asks}: this waits for it")
             with suppress(OSError):
-                os.kill(asked, JOIN)
+                os.kill(asked, JOIN if is_live else 0)
         time.sleep(LOOK)
     return listener
 
@@ -375,6 +376,8 @@ def main(words: Sequence[str], folder: str) -> int:
         stop(str(refused), refused.status, PROGRAM)
     except OSError as error:
         stop(f"{error.filename or note.name}: {error.strerror}", FAILED, PROGRAM)
+    except KeyboardInterrupt:
+        return shell_status(-signal.SIGINT)
 
 
 def _opened(mgr: str, note: Note, options: HubOptions) -> int:

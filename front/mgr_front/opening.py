@@ -81,15 +81,14 @@ class Opening:
         text, lines = read(self.note.name), None
         is_put = self.copy.is_put(text)
         if not (is_put and self.copy.has_grown(log)):
-            lines, count = self._nearest(text.decode("utf-8", "replace"))
-            is_put = is_put and lines is not None
+            lines, count = self._nearest(text)
             # A text from before was put back by somebody, and so may be any if this copy never wrote.
-            is_put = is_put or not (count or self.options.takes_file or not self.copy.kept["counters"])
+            is_put = not count and (is_put or bool(self.copy.kept["counters"]) and not self.options.takes_file)
         if is_put or self.options.keeps_file or not self._takes_file(lines):
             self.remarks += mend(self.mgr, self.note)[0]
         self.put()
 
-    def _nearest(self, text: str) -> tuple[int | None, int]:
+    def _nearest(self, text: bytes) -> tuple[int | None, int]:
         """Returns how many lines of the log made the text from which this one differs least, and by how much that is.
 
         They made the text that was noted as put, or a later one: a kill may have come before that was noted. If the
@@ -100,18 +99,24 @@ class Opening:
         # Further keys may have come to the log before its length was noted.
         begins = (lines for lines in range(noted, max(noted - LATE, -1), -1) if self.copy.is_put(self._made(lines)))
         begin = next(begins, None)
+        if begin is None and self.copy.is_put(text):
+            # Another program changed it before it was noted.
+            begin = max(0, noted - LATE)
+        if begin is None and not self.copy.kept["counters"]:
+            return None, len(text)
         tried: Sequence[int] = range(noted if begin is None else begin, log.count(b"\n") + 1)
         while True:
             step = -(-len(tried) // TRIED)
-            count, lines = min((self._differs(lines, text), lines) for lines in tried[::step])
+            count, _, lines = min((self._differs(lines, text), abs(lines - noted), lines) for lines in tried[::step])
             if step == 1:
                 return lines if begin is not None else None, count
             at = tried.index(lines)
             tried = tried[max(0, at - step) : at + step + 1]
 
-    def _differs(self, lines: int, text: str) -> int:
+    def _differs(self, lines: int, text: bytes) -> int:
         """Returns in how many characters a text differs from that which so many lines make."""
-        return sum(gone + len(put) for _, gone, put in changes(self._made(lines).decode(), text))
+        made = changes(self._made(lines).decode(), text.decode("utf-8", "replace"))
+        return sum(gone + len(put) for _, gone, put in made)
 
     def _made(self, lines: int | None) -> bytes:
         """Returns the text that so many lines of the log make, or all of them."""
