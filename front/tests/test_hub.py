@@ -381,7 +381,7 @@ class TestCrowds(Strangers):
         process = self.hub.editor.process.pid
         os.kill(process, signal.SIGSTOP)
         for link in crowd:
-            link.sendall(b"".join(line(i, 2) + b"\n" for i in range(200)))
+            link.sendall(b"".join(line(i, 2) + b"\n" for i in range(1, 201)))
         alice.write(line(1))
         time.sleep(0.5)
         os.kill(process, signal.SIGCONT)
