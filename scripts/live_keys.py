@@ -1,5 +1,7 @@
 """Keys of a terminal, pasted text, and answers that are completed."""
 
+import time
+
 from terminal import mode_line
 
 
@@ -102,6 +104,8 @@ def a_paste_without_its_end(terminal):
     terminal.write("\x1b[200~pasted ")
     terminal.see("it is shown as one", {9: "Pasting: C-g leaves it"})
     terminal.write("typed")
+    # A C-g right after a text is one of it.
+    time.sleep(0.3)
     terminal.press("C-g")
     terminal.see("C-g", {0: "pasted typed", 9: ""}, (0, 12))
     terminal.press("C-a")
