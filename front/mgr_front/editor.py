@@ -124,17 +124,16 @@ class Editor(Talk):
         assert self.process.stdin is not None and self.process.stdout is not None
         self.keys, self.written = self.process.stdin.fileno(), self.process.stdout.fileno()
         os.set_blocking(self.keys, False)
-        self.statuses = Statuses()
+        self.statuses, self.is_over = Statuses(), False
 
     def write(self) -> None:
         """Gives mgr as much of what waits as it takes now. One that takes no more ends, and its status says why."""
         write_some(self.waiting, self.keys)
 
     def read(self) -> Iterator[Status]:
-        """Yields the statuses that came, each once note is taken of it; at their end it is an `EOFError`."""
+        """Yields the statuses that came, each once note is taken of it; at their end `is_over` is set."""
         written = os.read(self.written, BLOCK)
-        if not written:
-            raise EOFError
+        self.is_over = not written
         for status in self.statuses.take(written):
             self.note(status)
             yield status
@@ -153,10 +152,9 @@ class Editor(Talk):
             ready, free, _ = select.select([self.written], writing, [], min(left, LOOK))
             if free:
                 self.write()
-            try:
-                for status in self.read() if ready else ():
-                    take(status)
-            except EOFError:
+            for status in self.read() if ready else ():
+                take(status)
+            if self.is_over:
                 self.process.stdin.close()
                 self.process.stdout.close()
                 self.process.wait()

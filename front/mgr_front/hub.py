@@ -73,9 +73,9 @@ class Hub:
         self.kept.since(note.name)
 
     def run(self) -> None:
-        """Goes on until a signal comes; `EOFError` if mgr ends before."""
+        """Goes on until a signal comes, or mgr ends."""
         try:
-            while self.signals.first is None:
+            while self.signals.first is None and not self.editor.is_over:
                 self._step()
         finally:
             for lookup in self.lookups.values():
@@ -313,13 +313,12 @@ def serve(mgr: str, note: Note, number: int, port: int | None, listener: socket.
         editor = Editor(mgr, ["--replica", str(number), "--", note.name], ROWS, said)
         try:
             # Once mgr has the note it has the lock: a socket that is there is a stale one.
-            while not editor.is_settled:
+            while not (editor.is_settled or editor.is_over):
                 list(editor.read())
-            listeners.append(listener or meeting.listen(note.name))
-            log(_served(note, port))
-            Hub(editor, SharedNote(mgr, note, number), listeners, signals).run()
-        except (EOFError, BrokenPipeError):
-            pass  # Its status says why.
+            if not editor.is_over:
+                listeners.append(listener or meeting.listen(note.name))
+                log(_served(note, port))
+                Hub(editor, SharedNote(mgr, note, number), listeners, signals).run()
         finally:
             if not editor.end(PATIENCE):
                 log("mgr saves: this waits for it")

@@ -183,7 +183,8 @@ class Plugin:
         ready, free, _ = select.select(reading, writing, [], self._patience())
         if self.lines.source in ready and not self.is_ending:
             self._take_lines()
-        goes_on = self.editor.written not in ready or self._take_statuses()
+        for status in self.editor.read() if self.editor.written in ready else ():
+            self.note(status)
         if self.company and self.company.mailbox.woken in ready:
             self._hear(self.company)
         self._go_on()
@@ -192,7 +193,7 @@ class Plugin:
             self.editor.write()
         if self.lines.waiting:
             self.lines.write()
-        return goes_on
+        return not self.editor.is_over
 
     def _hear(self, company: Company) -> None:
         """Takes what others did. mgr compares the whole text for each line, so much is to be few lines."""
@@ -246,15 +247,6 @@ class Plugin:
             self.lines.say("change", made=self.made, splices=pieces, by=by, undo=is_undo)
 
     # ---- what mgr says
-
-    def _take_statuses(self) -> bool:
-        """Takes what mgr told, and answers whether it has not ended."""
-        try:
-            for status in self.editor.read():
-                self.note(status)
-        except EOFError:
-            return False
-        return True
 
     def note(self, status: Status) -> None:
         """Takes note of a status, and tells others what was made."""

@@ -130,7 +130,9 @@ class Session:
             self.screen.write()
         told: list[Status] = []
         try:
-            goes_on = self.editor.written not in ready or self._take_statuses(told)
+            for status in self.editor.read() if self.editor.written in ready else ():
+                told.append(status)
+                self.take(status)
             self.dispatcher.run(self)
             if self.editor.waiting:
                 self.editor.write()
@@ -139,7 +141,7 @@ class Session:
             for status in told:
                 self._tell(status)
         self._watch()
-        return goes_on
+        return not self.editor.is_over
 
     def _patience(self) -> float | None:
         """Returns after how many seconds something is to be done, whatever happens."""
@@ -199,16 +201,6 @@ class Session:
             self.dispatcher.take([Typed(sent)])
             raise
         return bool(sent)
-
-    def _take_statuses(self, told: list[Status]) -> bool:
-        """Takes what mgr told, and answers whether it has not ended."""
-        try:
-            for status in self.editor.read():
-                told.append(status)
-                self.take(status)
-        except EOFError:
-            return False
-        return True
 
     def take(self, status: Status) -> None:
         """Takes note of a status, and goes on with an errand that waits for it."""
