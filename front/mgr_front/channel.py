@@ -1,21 +1,18 @@
 """The program mgr-channel: an edit of a note by an editor program, which gives and takes lines of JSON."""
 
 import os
-import tempfile
 from collections.abc import Sequence
 from functools import partial
 
 from mgr_front.company import Company
 from mgr_front.editor import LEAST_ROWS, Editor
-from mgr_front.ending import PATIENCE, leave
-from mgr_front.guests import keep_apart
+from mgr_front.ending import run
 from mgr_front.live import begin, guarded
-from mgr_front.notes import Note
 from mgr_front.opening import NEW, Opening
 from mgr_front.options import Options, read_channel
 from mgr_front.plugin import Lines, Plugin
-from mgr_front.program import explained, shell_status
-from mgr_front.saying import speak_for, tell
+from mgr_front.program import shell_status
+from mgr_front.saying import speak_for
 from mgr_front.signals import Signals
 
 PROGRAM = "mgr-channel"
@@ -28,37 +25,11 @@ def edit(lines: Lines, opening: Opening, company: Company | None) -> int:
     for remark in opening.remarks:
         if remark != NEW:
             lines.say("say", text=remark)
-    with tempfile.TemporaryFile() as said:
-        words = ["--changes", "--replica", str(opening.number), "--", note.name]
-        plugin = Plugin(Editor(opening.mgr, words, LEAST_ROWS, said), lines, signals, company, note.name)
-        plugin.keep, plugin.put = opening.keep, opening.put
-        try:
-            plugin.run()
-        finally:
-            finish(plugin, note)
-        status = plugin.editor.process.returncode
-        if status:
-            said.seek(0)
-            tell(explained(status, said.read().decode(), note, plugin.doing is None or plugin.base > 0))
-        else:
-            opening.remember()
+    words = ["--changes", "--replica", str(opening.number), "--", note.name]
+    plugin = Plugin(Editor(opening.mgr, words, LEAST_ROWS), lines, signals, company, note.name)
+    if not (status := run(plugin, opening)):
+        opening.remember()
     return shell_status(status)
-
-
-def finish(plugin: Plugin, note: Note) -> None:
-    """Has mgr take all that the editor program gave, and save it, for as long as that takes; then leaves."""
-    editor = plugin.editor
-    try:
-        if editor.process.poll() is None:
-            plugin.conclude()
-    finally:
-        if not editor.end(PATIENCE, plugin.note):
-            tell(f"mgr saves {note.name}: this waits for it")
-            editor.end(take=plugin.note)
-        plugin.lines.end()
-        leave(plugin.company, plugin.fault * (not plugin.apart))
-    if plugin.apart:
-        tell(keep_apart(editor.program, note, plugin.apart))
 
 
 def open_note(lines: Lines, mgr: str, options: Options) -> int:

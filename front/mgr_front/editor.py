@@ -5,11 +5,12 @@ import math
 import os
 import select
 import subprocess
+import tempfile
 import time
 from collections.abc import Callable, Iterator, Sequence
-from typing import IO
 
-from mgr_front.program import COLUMNS
+from mgr_front.notes import Note
+from mgr_front.program import COLUMNS, explained
 from mgr_front.signals import held_back
 from mgr_front.statuses import Status, Statuses
 
@@ -105,10 +106,10 @@ class Talk:
 class Editor(Talk):
     """A mgr that runs."""
 
-    def __init__(self, program: str, words: Sequence[str], rows: int, said: "IO[bytes]") -> None:
-        """Begins it; what it says on standard error goes to `said`."""
+    def __init__(self, program: str, words: Sequence[str], rows: int) -> None:
         super().__init__(rows)
-        self.program = program
+        # What it says on standard error.
+        self.program, self.said = program, tempfile.TemporaryFile()
         size = ["--rows", str(rows), "--cols", str(COLUMNS)]
         # In a session of its own, so that the end of the terminal reaches it as the end of the keys.
         # What ends a whole login reaches it all the same, and is held back: it has to save first.
@@ -118,7 +119,7 @@ class Editor(Talk):
                 bufsize=0,
                 stdin=subprocess.PIPE,
                 stdout=subprocess.PIPE,
-                stderr=said,
+                stderr=self.said,
                 start_new_session=True,
             )
         assert self.process.stdin is not None and self.process.stdout is not None
@@ -160,3 +161,9 @@ class Editor(Talk):
                 self.process.wait()
                 return True
         return False
+
+    def fault(self, note: Note) -> str:
+        """Returns why it ended, if that was not well."""
+        self.said.seek(0)
+        status, said = self.process.returncode, self.said.read().decode()
+        return explained(status, said, note, self.status.reports >= 0) if status else ""

@@ -1,11 +1,11 @@
-"""The end of an edit, whatever brought it: what was typed is taken, mgr saves it, and others are told."""
+"""An edit up to its end, whatever brings that: what was typed is taken, mgr saves it, and others are told."""
 
 from mgr_front.company import Company
 from mgr_front.guests import keep_apart
-from mgr_front.keys import NO_KEY
 from mgr_front.notes import Note, put_back
+from mgr_front.opening import Opening
+from mgr_front.plugin import Plugin
 from mgr_front.program import ask
-from mgr_front.saving import CANCEL
 from mgr_front.saying import tell
 from mgr_front.session import Session
 
@@ -13,34 +13,41 @@ from mgr_front.session import Session
 PATIENCE, LAST = 5.0, 2.0
 
 
-def finish(session: Session, note: Note) -> None:
-    """Has mgr take all keys that were typed and save each buffer, for as long as that takes.
-
-    Says what could not be saved.
-    """
-    editor = session.editor
+def run(edit: Session | Plugin, opening: Opening) -> int:
+    """Edits until the person leaves, or something ends it, and returns the status of mgr; says why if it is a fault."""
+    edit.keep, edit.put = opening.keep, opening.put
     try:
-        if editor.process.poll() is None:
-            session.conclude()
-    except BaseException:
-        # Whatever it was: mgr gets what it did not get yet, and saves what it shows.
-        session.dispatcher.give_up()
-        editor.hand_on(bytes([NO_KEY]) + CANCEL)
-        raise
+        edit.run()
     finally:
-        # It may take nothing, so this comes once all is saved.
-        session.screen.close()
-        if not editor.end(PATIENCE, session.note):
+        finish(edit, opening.note)
+    if fault := edit.editor.fault(opening.note):
+        tell(fault)
+    return edit.editor.process.returncode
+
+
+def finish(edit: Session | Plugin, note: Note) -> None:
+    """Has mgr take all that was typed or asked for and save it, for as long as that takes; says what is not saved."""
+    editor = edit.editor
+    try:
+        edit.conclude()
+    finally:
+        if not editor.end(PATIENCE, edit.note):
             tell(f"mgr saves {note.name}: this waits for it")
-            editor.end(take=session.note)
-        leave(session.company, session.fault * (not session.apart))
+            editor.end(take=edit.note)
+        leave(edit.company, edit.fault * (not edit.apart))
+    if isinstance(edit, Session):
+        put_texts_back(edit)
+    for name, place in edit.apart.items():
+        tell(keep_apart(editor.program, Note(name), place))
+
+
+def put_texts_back(session: Session) -> None:
+    """Has texts be as they were if the person wants that; says what was put aside."""
     session.note_kept()
     for said in session.put_aside:
         tell(said)
-    for name, place in session.apart.items():
-        tell(keep_apart(editor.program, Note(name), place))
     for name in session.made if session.discards else ():
-        put = ask(editor.program, Note(name), "show") if Note(name).has_log else None
+        put = ask(session.editor.program, Note(name), "show") if Note(name).has_log else None
         for kept in put_back(name, session.buffers[name], put):
             tell(f"{kept} has what stood there")
         tell(f"{name} is as it was; {Note(name).log} has what was written, and so have others")

@@ -23,7 +23,7 @@ from mgr_front.opening import differ, mend
 from mgr_front.options import HubOptions, read_hub
 from mgr_front.peers import Peer
 from mgr_front.printing import log
-from mgr_front.program import edit, explained, find, holder, log_of, shell_status
+from mgr_front.program import edit, find, holder, log_of, shell_status
 from mgr_front.saving import REST, SAVE
 from mgr_front.saying import FAILED, stop, tell
 from mgr_front.screen import write_all
@@ -304,32 +304,28 @@ def awaited(note: Note) -> socket.socket | None:
 def serve(mgr: str, note: Note, number: int, port: int | None, listener: socket.socket | None = None) -> int:
     """Keeps a note for others until a signal comes, and returns the status."""
     signals = Signals()
-    listeners: list[socket.socket] = []
-    with tempfile.TemporaryFile() as said:
-        try:
-            listeners = [socket.create_server((meeting.HOST, port), backlog=meeting.BACKLOG)] if port else []
-        except OSError as error:
-            stop(f"port {port}: {os.strerror(error.errno or 0)}", FAILED, PROGRAM)
-        editor = Editor(mgr, ["--replica", str(number), "--", note.name], ROWS, said)
-        try:
-            # Once mgr has the note it has the lock: a socket that is there is a stale one.
-            while not (editor.is_settled or editor.is_over):
-                list(editor.read())
-            if not editor.is_over:
-                listeners.append(listener or meeting.listen(note.name))
-                log(_served(note, port))
-                Hub(editor, SharedNote(mgr, note, number), listeners, signals).run()
-        finally:
-            if not editor.end(PATIENCE):
-                log("mgr saves: this waits for it")
-                editor.end()
-            if len(listeners) > bool(port):
-                meeting.leave(note.name)
-        status = editor.process.returncode
-        if status:
-            said.seek(0)
-            tell(explained(status, said.read().decode(), note, bool(editor.status.frame)), PROGRAM)
-    return shell_status(status)
+    try:
+        listeners = [socket.create_server((meeting.HOST, port), backlog=meeting.BACKLOG)] if port else []
+    except OSError as error:
+        stop(f"port {port}: {os.strerror(error.errno or 0)}", FAILED, PROGRAM)
+    editor = Editor(mgr, ["--replica", str(number), "--", note.name], ROWS)
+    try:
+        # Once mgr has the note it has the lock: a socket that is there is a stale one.
+        while not (editor.is_settled or editor.is_over):
+            list(editor.read())
+        if not editor.is_over:
+            listeners.append(listener or meeting.listen(note.name))
+            log(_served(note, port))
+            Hub(editor, SharedNote(mgr, note, number), listeners, signals).run()
+    finally:
+        if not editor.end(PATIENCE):
+            log("mgr saves: this waits for it")
+            editor.end()
+        if len(listeners) > bool(port):
+            meeting.leave(note.name)
+    if fault := editor.fault(note):
+        tell(fault, PROGRAM)
+    return shell_status(editor.process.returncode)
 
 
 def _served(note: Note, port: int | None) -> str:

@@ -2,7 +2,6 @@
 
 import os
 import signal
-import tempfile
 from collections.abc import Callable, Sequence
 
 from mgr_front.channels import Apart
@@ -10,14 +9,14 @@ from mgr_front.channels.stream import trim
 from mgr_front.company import Company
 from mgr_front.difference import splices
 from mgr_front.editor import LEAST_ROWS, MOST_ROWS, Editor
-from mgr_front.ending import finish
+from mgr_front.ending import run
 from mgr_front.guests import guest_of, take_back
 from mgr_front.joining import meet
 from mgr_front.meeting import is_served
 from mgr_front.notes import Note, Refused
 from mgr_front.opening import Opening
 from mgr_front.options import HERE, Options, read as read_options
-from mgr_front.program import explained, find, shell_status, text_of
+from mgr_front.program import find, shell_status, text_of
 from mgr_front.saying import stop, tell
 from mgr_front.screen import Screen
 from mgr_front.session import Session
@@ -49,25 +48,15 @@ def edit(opening: Opening, company: Company | None) -> int:
     signals, screen = Signals(signal.SIGTSTP, signal.SIGCONT, signal.SIGWINCH, *joins), Screen()
     fill = ["--fill", str(options.fill)] if options.fill else []
     put_back = [] if options.text is None else splices(text_of(mgr, note), options.text)
-    with tempfile.TemporaryFile() as said:
-        editor = Editor(mgr, ["--replica", str(opening.number), *fill, "--", note.name], rows, said)
-        session = Session(editor, screen, signals, company)
-        session.names = note.name, options.name
-        session.has_colours = not (options.is_plain or os.environ.get("NO_COLOR"))
-        session.greeting = "; ".join(opening.remarks)
-        session.keep, session.put = opening.keep, opening.put
-        for report in put_back:
-            editor.report(report)
-        try:
-            session.run()
-        finally:
-            finish(session, note)
-        status = editor.process.returncode
-        if status:
-            said.seek(0)
-            tell(explained(status, said.read().decode(), note, bool(editor.status.frame)))
-        else:
-            opening.remember(session.discards)
+    editor = Editor(mgr, ["--replica", str(opening.number), *fill, "--", note.name], rows)
+    session = Session(editor, screen, signals, company)
+    session.names = note.name, options.name
+    session.has_colours = not (options.is_plain or os.environ.get("NO_COLOR"))
+    session.greeting = "; ".join(opening.remarks)
+    for report in put_back:
+        editor.report(report)
+    if not (status := run(session, opening)):
+        opening.remember(session.discards)
     # A signal that ended mgr-live counts before one that ended mgr, as mgr-live itself may have sent that.
     return shell_status(-signals.first if signals.first and status <= 0 else status)
 

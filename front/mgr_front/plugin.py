@@ -126,8 +126,7 @@ class Plugin:
         self.keep: Callable[[Sequence[bytes]], None] = lambda _: None
         self.put: Callable[[], None] = lambda: None
         # What is said of a save that failed, where the text stands that could not be saved, and what was put aside.
-        self.fault = self.apart = ""
-        self.kept = KeptFiles()
+        self.fault, self.apart, self.kept = "", dict[str, str](), KeptFiles()
         self.kept.since(name)
         # What was said of others last.
         self.shown, self.who = "", list[tuple[int, str, int]]()
@@ -143,14 +142,17 @@ class Plugin:
             pass
 
     def conclude(self) -> None:
-        """Has mgr do all that was asked for, and save it; what it cannot save is put apart."""
+        """Has mgr do all that was asked for, and save it, and says so; what it cannot save is put apart."""
         self.is_ending = True
-        while not (self.lines.is_over or self.is_refused) and select.select([self.lines.source], [], [], 0)[0]:
-            self._take_lines()
-        if self._settle():
-            self.rest()
-        if self._settle() and self.fault:
-            self._put_apart(put_apart(self.name))
+        try:
+            while not (self.lines.is_over or self.is_refused) and select.select([self.lines.source], [], [], 0)[0]:
+                self._take_lines()
+            if self.editor.process.poll() is None and self._settle():
+                self.rest()
+                if self._settle() and self.fault:
+                    self._put_apart(put_apart(self.name))
+        finally:
+            self.lines.end()
 
     def _put_apart(self, errand: Generator[bytes, Status, str]) -> None:
         """Presses the keys of an errand, and keeps what comes of it."""
@@ -163,7 +165,7 @@ class Plugin:
                     return
                 keys = errand.send(self.editor.status)
         except StopIteration as end:
-            self.apart = end.value
+            self.apart |= {self.name: end.value} if end.value else {}
 
     def _settle(self) -> bool:
         """Does all that waits, and answers whether mgr has not ended."""

@@ -453,13 +453,22 @@ class Session:
             self.editor.hand_on(bytes([RETURN]))
 
     def conclude(self) -> None:
-        """Does all strokes that wait, without the terminal, for as long as that takes."""
+        """Does all strokes that wait, without the terminal, for as long as that takes; then puts the terminal back."""
         self.is_ending, self.question = True, None
-        self.dispatcher.take(self.keys.give_up())
-        if self._settle():
-            self.rest()
-            self.start(self.rescue())
-            self._settle()
+        try:
+            self.dispatcher.take(self.keys.give_up())
+            if self.editor.process.poll() is None and self._settle():
+                self.rest()
+                self.start(self.rescue())
+                self._settle()
+        except BaseException:
+            # Whatever it was: mgr gets what it did not get yet, and saves what it shows.
+            self.dispatcher.give_up()
+            self.editor.hand_on(bytes([NO_KEY, CANCEL]))
+            raise
+        finally:
+            # It may take nothing, so this comes once all is saved.
+            self.screen.close()
 
     def _settle(self) -> bool:
         """Does all that waits, and answers whether mgr has not ended."""

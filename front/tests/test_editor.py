@@ -78,11 +78,11 @@ class TestSignals(unittest.TestCase):
             self.assertEqual(signals.first, first)
 
     def test_one_that_does_not_end_is_ended_all_the_same(self) -> None:
-        with tempfile.TemporaryDirectory() as folder, tempfile.TemporaryFile() as said:
+        with tempfile.TemporaryDirectory() as folder:
             program = pathlib.Path(folder, "mgr")
             program.write_text("#!/bin/sh\nexec sleep 20\n")
             program.chmod(stat.S_IRWXU)
-            editor = Editor(str(program), ["note"], 3, said)
+            editor = Editor(str(program), ["note"], 3)
             self.assertFalse(editor.end(0.1))
             editor.process.kill()
             self.assertTrue(editor.end(5))

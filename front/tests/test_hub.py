@@ -7,7 +7,6 @@ import signal
 import socket
 import subprocess
 import sys
-import tempfile
 import threading
 import time
 import unittest
@@ -47,8 +46,7 @@ class Hubs(InFolder):
         self.addCleanup(self.end)
 
     def begin(self) -> None:
-        said = self.open.enter_context(tempfile.TemporaryFile())
-        editor = Editor(self.mgr, ["--", self.path], 3, said)
+        editor = Editor(self.mgr, ["--", self.path], 3)
         while not editor.is_settled:
             list(editor.read())
         tcp = socket.create_server((meeting.HOST, 0))

@@ -4,7 +4,6 @@ import math
 import os
 import pathlib
 import shutil
-import tempfile
 import threading
 import time
 import unittest
@@ -42,9 +41,7 @@ class Sessions(InFolder):
 
     def begin(self, name: str) -> Session:
         self.note = Note(str(self.folder / name))
-        said = tempfile.TemporaryFile()
-        self.addCleanup(said.close)
-        editor = Editor(self.mgr, [self.note.name], 3, said)
+        editor = Editor(self.mgr, [self.note.name], 3)
         screen, signals = mock.Mock(erase=127, is_raw=False, waiting=b""), mock.Mock(first=None, woken=self.woken)
         return Session(editor, screen, signals)
 
