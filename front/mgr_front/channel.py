@@ -7,15 +7,13 @@ from functools import partial
 from mgr_front.company import Company
 from mgr_front.editor import LEAST_ROWS, Editor
 from mgr_front.ending import run
-from mgr_front.live import begin, guarded
+from mgr_front.live import begin
 from mgr_front.opening import NEW, Opening
-from mgr_front.options import Options, read_channel
+from mgr_front.options import channel_parser
 from mgr_front.plugin import Lines, Plugin
-from mgr_front.program import shell_status
+from mgr_front.program import guarded, shell_status
 from mgr_front.saying import speak_for
 from mgr_front.signals import Signals
-
-PROGRAM = "mgr-channel"
 
 
 def edit(lines: Lines, opening: Opening, company: Company | None) -> int:
@@ -32,16 +30,12 @@ def edit(lines: Lines, opening: Opening, company: Company | None) -> int:
     return shell_status(status)
 
 
-def open_note(lines: Lines, mgr: str, options: Options) -> int:
-    return begin(mgr, options, partial(edit, lines))
-
-
 def main(words: Sequence[str], folder: str) -> int:
     """Edits as the command line says, and returns the status; `folder` is where mgr-channel stands."""
-    options, lines = read_channel(words), Lines()
-    speak_for(PROGRAM, lines.choose)
+    options, lines = channel_parser().parse_args(words), Lines()
+    speak_for("mgr-channel", lines.choose)
     try:
-        return guarded(folder, options, partial(open_note, lines))
+        return guarded(folder, options, lambda mgr, options: begin(mgr, options, partial(edit, lines)))
     finally:
         lines.say("over")
         lines.end()

@@ -20,19 +20,18 @@ from mgr_front.guests import take_back
 from mgr_front.lookups import Lookup, Steps
 from mgr_front.notes import KeptFiles, Note, Refused
 from mgr_front.opening import differ, mend
-from mgr_front.options import HubOptions, read_hub
+from mgr_front.options import Options, hub_parser
 from mgr_front.peers import Peer
 from mgr_front.printing import log
-from mgr_front.program import edit, find, holder, log_of, shell_status
+from mgr_front.program import edit, guarded, holder, log_of, shell_status
 from mgr_front.saving import REST, SAVE
-from mgr_front.saying import FAILED, stop, tell
+from mgr_front.saying import speak_for, stop, tell
 from mgr_front.screen import write_all
 from mgr_front.shared import SharedNote, text_of
 from mgr_front.signals import JOIN, Signals
 from mgr_front.statuses import Status
 from mgr_front.wire import MOST_CLAIMS, VERSION, Broken, claims_said, weight
 
-PROGRAM = "mgr-hub"
 ROWS = 3
 # So many others at most, and so many of them who have not said who they are.
 MOST_PEERS, MOST_UNKNOWN = 200, 8
@@ -301,13 +300,18 @@ def awaited(note: Note) -> socket.socket | None:
     return listener
 
 
-def serve(mgr: str, note: Note, number: int, port: int | None, listener: socket.socket | None = None) -> int:
+def serve(mgr: str, options: Options) -> int:
     """Keeps a note for others until a signal comes, and returns the status."""
-    signals = Signals()
+    note, port = Note(options.name), options.port
+    note.check()
+    if meeting.is_served(note.name):
+        raise Refused(f"another hub has {note.name}")
+    listener = awaited(note)
+    number, signals = _opened(mgr, note, options), Signals()
     try:
         listeners = [socket.create_server((meeting.HOST, port), backlog=meeting.BACKLOG)] if port else []
     except OSError as error:
-        stop(f"port {port}: {os.strerror(error.errno or 0)}", FAILED, PROGRAM)
+        stop(f"port {port}: {os.strerror(error.errno or 0)}")
     editor = Editor(mgr, ["--replica", str(number), "--", note.name], ROWS)
     try:
         # Once mgr has the note it has the lock: a socket that is there is a stale one.
@@ -324,7 +328,7 @@ def serve(mgr: str, note: Note, number: int, port: int | None, listener: socket.
         if len(listeners) > bool(port):
             meeting.leave(note.name)
     if fault := editor.fault(note):
-        tell(fault, PROGRAM)
+        tell(fault)
     return shell_status(editor.process.returncode)
 
 
@@ -341,7 +345,7 @@ def join(path: str) -> int:
     try:
         link = meeting.connect(path)
     except OSError:
-        stop(f"no hub of this machine has {path}", FAILED, PROGRAM)
+        stop(f"no hub of this machine has {path}")
     link.settimeout(None)
     with link:
         while True:
@@ -355,30 +359,15 @@ def join(path: str) -> int:
 
 def main(words: Sequence[str], folder: str) -> int:
     """Serves as the command line says, and returns the status; `folder` is where mgr-hub stands."""
-    options = read_hub(words)
-    if options.joins:
-        return join(options.name)
-    note, mgr = Note(options.name), find(folder)
-    if mgr is None:
-        stop(f"the program {os.environ.get('MGR') or 'mgr'} is not there", FAILED, PROGRAM)
-    try:
-        note.check()
-        if meeting.is_served(note.name):
-            raise Refused(f"another hub has {note.name}")
-        listener = awaited(note)
-        return serve(mgr, note, _opened(mgr, note, options), options.port, listener)
-    except Refused as refused:
-        stop(str(refused), refused.status, PROGRAM)
-    except OSError as error:
-        stop(f"{error.filename or note.name}: {error.strerror}", FAILED, PROGRAM)
-    except KeyboardInterrupt:
-        return shell_status(-signal.SIGINT)
+    options = hub_parser().parse_args(words)
+    speak_for("mgr-hub")
+    return join(options.name) if options.joins else guarded(folder, options, serve)
 
 
-def _opened(mgr: str, note: Note, options: HubOptions) -> int:
+def _opened(mgr: str, note: Note, options: Options) -> int:
     """Does what is to be done before a note is served, and returns the number of this copy."""
     if said := take_back(mgr, note):
-        tell(said, PROGRAM)
+        tell(said)
     found, copy = log_of(mgr, note), Copy(note.name)
     number = options.replica or copy.number(found)
     if not (options.replica or found):
@@ -386,5 +375,5 @@ def _opened(mgr: str, note: Note, options: HubOptions) -> int:
     if not found and os.path.exists(note.name) and edit(mgr, note, number, SAVE):
         raise Refused(f"{note.name}: a log of it cannot be made")
     if found and differ(mgr, note, found, number):
-        tell("; ".join([f"{note.name} was not what its log says", *mend(mgr, note)[0]]), PROGRAM)
+        tell("; ".join([f"{note.name} was not what its log says", *mend(mgr, note)[0]]))
     return number

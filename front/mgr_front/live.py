@@ -4,7 +4,6 @@ import os
 import signal
 from collections.abc import Callable, Sequence
 
-from mgr_front.channels import Apart
 from mgr_front.channels.stream import trim
 from mgr_front.company import Company
 from mgr_front.difference import splices
@@ -13,10 +12,10 @@ from mgr_front.ending import run
 from mgr_front.guests import guest_of, take_back
 from mgr_front.joining import meet
 from mgr_front.meeting import is_served
-from mgr_front.notes import Note, Refused
+from mgr_front.notes import Note
 from mgr_front.opening import Opening
 from mgr_front.options import HERE, Options, read as read_options
-from mgr_front.program import find, shell_status, text_of
+from mgr_front.program import guarded, shell_status, text_of
 from mgr_front.saying import stop, tell
 from mgr_front.screen import Screen
 from mgr_front.session import Session
@@ -95,21 +94,6 @@ def trimmed(mgr: str, options: Options) -> int:
     before, after = trim(":".join(options.way), mgr)
     tell(f"the stream had {before:,} bytes of lines, and has {after:,}")
     return 0
-
-
-def guarded(folder: str, options: Options, work: Callable[[str, Options], int]) -> int:
-    """Does something with mgr, and says why it cannot be done; `folder` is where the front's programs stand."""
-    mgr = find(folder)
-    if mgr is None:
-        stop(f"the program {os.environ.get('MGR') or 'mgr'} is not there")
-    try:
-        return work(mgr, options)
-    except Refused as refused:
-        stop(str(refused), refused.status)
-    except Apart as apart:
-        stop(str(apart))
-    except OSError as error:
-        stop(f"{error.filename or options.name}: {error.strerror}")
 
 
 def main(words: Sequence[str], folder: str) -> int:

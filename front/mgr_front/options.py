@@ -29,7 +29,6 @@ CHANNEL = "mgr-channel", "Stands between an editor program and mgr, and takes an
 
 # What a command line asks for: members by the names of its options.
 Options = argparse.Namespace
-HubOptions = argparse.Namespace
 
 
 def note_name(word: str) -> str:
@@ -121,13 +120,3 @@ def read(words: Sequence[str]) -> Options:
     if options.trims and options.way[0] not in (REDIS, SECURE_REDIS):
         made.error("--trim goes with --with redis://HOST/KEY")
     return options
-
-
-def read_channel(words: Sequence[str]) -> Options:
-    """Returns what these words ask mgr-channel for; ends the program as `read` does."""
-    return channel_parser().parse_args(words)
-
-
-def read_hub(words: Sequence[str]) -> HubOptions:
-    """Returns what these words ask mgr-hub for; ends the program as `read` does."""
-    return hub_parser().parse_args(words)

@@ -4,11 +4,13 @@ import json
 import os
 import shutil
 import subprocess
-from collections.abc import Sequence
+from collections.abc import Callable, Sequence
 from dataclasses import dataclass
 
+from mgr_front.channels import Apart
 from mgr_front.notes import Note, Refused, found
-from mgr_front.saying import REFUSED
+from mgr_front.options import Options
+from mgr_front.saying import REFUSED, stop
 
 # What mgr is asked to fill: a terminal has fewer columns, and the rows are cut for it.
 COLUMNS = 500
@@ -36,6 +38,21 @@ def find(folder: str) -> str | None:
     beside = os.path.join(folder, "mgr")
     named = os.environ.get("MGR") or (beside if os.path.isfile(beside) else "mgr")
     return shutil.which(named)
+
+
+def guarded(folder: str, options: Options, work: Callable[[str, Options], int]) -> int:
+    """Does something with mgr, and says why it cannot be done; `folder` is where the front's programs stand."""
+    mgr = find(folder)
+    if mgr is None:
+        stop(f"the program {os.environ.get('MGR') or 'mgr'} is not there")
+    try:
+        return work(mgr, options)
+    except Refused as refused:
+        stop(str(refused), refused.status)
+    except Apart as apart:
+        stop(str(apart))
+    except OSError as error:
+        stop(f"{error.filename or options.name}: {error.strerror}")
 
 
 def ask(mgr: str, note: Note, *words: str, logs: Sequence[str] = ()) -> bytes:

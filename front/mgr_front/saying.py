@@ -11,25 +11,25 @@ from mgr_front.screen import write_all
 # Statuses of the front's own: a text that is refused; a failed device, or none.
 REFUSED, FAILED = 1, 3
 
-# Who says and asks, unless something else is said, and what asks in place of the terminal.
+# Who says and asks, and what asks in place of the terminal.
 speaker = "mgr-live"
 chooser: Callable[[str, Sequence[str], str], str] | None = None
 
 
-def speak_for(program: str, choose: Callable[[str, Sequence[str], str], str]) -> None:
-    """Has this program say what is said, and this ask what is asked."""
+def speak_for(program: str, choose: Callable[[str, Sequence[str], str], str] | None = None) -> None:
+    """Has this program say what is said, and this ask what is asked, if it is not asked on the terminal."""
     global speaker, chooser
     speaker, chooser = program, choose
 
 
-def tell(what: str, program: str = "") -> None:
+def tell(what: str) -> None:
     # If the terminal is gone, so is whoever would read this.
     with suppress(OSError):
-        write_all(clean(f"{program or speaker}: {what}\n", "\n").encode(), to=2)
+        write_all(clean(f"{speaker}: {what}\n", "\n").encode(), to=2)
 
 
-def stop(what: str, status: int = FAILED, program: str = "") -> NoReturn:
-    tell(what, program)
+def stop(what: str, status: int = FAILED) -> NoReturn:
+    tell(what)
     sys.exit(status)
 
 
