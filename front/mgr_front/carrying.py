@@ -46,10 +46,7 @@ def joined(pieces: Sequence[Piece]) -> Pieces:
 
 
 def carry(ours: Pieces, theirs: Pieces) -> tuple[Pieces, Pieces]:
-    """Returns ours as they stand after theirs, and theirs as they stand after ours.
-
-    At one place ours stand in front. What one put within what the other deleted stays.
-    """
+    """Returns each as it stands after the other: at one place ours stand first; what is put within a deletion stays."""
     carried: Pieces = []
     for our in ours:
         mine, theirs = _carry_one(our, theirs)

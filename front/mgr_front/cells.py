@@ -46,12 +46,8 @@ def cells(row: str, kept: str = "") -> list[str]:
 
 
 def shift(column: int, columns: int) -> int:
-    """Returns how far a row is shifted to the left so that this column of it shows.
-
-    It grows by half a screen at a time, so that it stays while point moves a little, and is 0 if
-    the column shows without it. The last column is left to the sign for what is cut off.
-    """
-    beyond = column - (columns - 2)
+    """Returns how far a row is shifted to the left so that a column shows: by half screens, so that it stays mostly."""
+    beyond = column - (columns - 2)  # The last column is left to the sign for what is cut off.
     step = columns // 2
     return 0 if beyond <= 0 else -(-beyond // step) * step
 

@@ -58,10 +58,7 @@ def _can_be_typed(name: str) -> bool:
 
 
 def complete(label: str, answer: str, buffers: Iterable[str]) -> Errand:
-    """Makes the answer of a prompt as long as all that it may become have in common.
-
-    Says what that is, if it is several.
-    """
+    """Makes an answer as long as all that it may become have in common; says what that is, if it is several."""
     found = candidates(label, expanded(answer), buffers)
     common = os.path.commonprefix(found)
     if not found:

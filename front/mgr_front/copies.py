@@ -87,11 +87,8 @@ class Copy:
             os.replace(self.file + ".new", self.file)
 
     def number(self, log: Log | None) -> int:
-        """Returns the number for this copy: its last one under which the log goes as far as was told, else a new one.
-
-        Another log was restored, cut or checked out, and others may have what it lacks: under that number it
-        would be given twice.
-        """
+        """Returns the number for this copy: its last one under which the log goes as far as was told, or a new one."""
+        # Of a log that was restored or cut others may have what it lacks: under that number it would be given twice.
         counters, told = log.counters if log else {}, self.kept["counters"]
         numbers = [int(number) for number in told if counters.get(int(number), 0) >= told[number]]
         return numbers[-1] if numbers else self.new_number(log)

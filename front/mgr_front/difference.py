@@ -11,10 +11,7 @@ Change = tuple[int, int, str]
 
 
 def changes(old: str, new: str) -> list[Change]:
-    """Returns changes that make `new` of `old`, in the order of the text, each place that of `old`.
-
-    Lines that both have stay, and what others have in common at their ends.
-    """
+    """Returns changes that make `new` of `old`, in the order of the text, with places of `old`: common lines stay."""
     ours, theirs = old.splitlines(keepends=True), new.splitlines(keepends=True)
     places = [0, *accumulate(map(len, ours))]
     made: list[Change] = []

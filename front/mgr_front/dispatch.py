@@ -28,11 +28,7 @@ NOT_FOUND = "Search failed"
 
 
 class Dispatcher:
-    """The strokes that wait, in their order.
-
-    What a stroke does can depend on what mgr asks for. Such a one waits until mgr has answered all
-    keys before it; a text goes on at once. ESC, C-x and C-q are kept until the key after them is there.
-    """
+    """The strokes that wait, in their order: a text goes on at once, all else once mgr has answered the keys before."""
 
     def __init__(self, editor: Editor, erase: int = DELETE) -> None:
         """`erase` is the byte by which the terminal erases; it is DEL to mgr."""
@@ -42,7 +38,7 @@ class Dispatcher:
         self.special = alone + WITHIN
         self.piece = re.compile(b"[^%b]+|." % re.escape(alone), re.DOTALL)
         self.strokes: deque[Stroke] = deque()
-        self.prefix = b""
+        self.prefix = b""  # ESC, C-x or C-q, until the key after it is there.
         # Of a search: the character that mgr looks for, and what was typed and is not found, nor given to mgr.
         self.tried, self.failing = b"", b""
 
@@ -207,11 +203,7 @@ class Dispatcher:
             self._hand_on(keys, desk)
 
     def _press_key(self, keys: bytes, desk: "Session") -> None:
-        """Does a key that came as a whole.
-
-        While a line is asked for the second of two would be taken for a part of it, and if a key was begun, as
-        by C-q, for one more: so there nothing is done.
-        """
+        """Does a key that came as a whole; one of two bytes does nothing if a line is asked for or a key was begun."""
         self.failing = b""
         if keys == HELP:
             self._break_off()

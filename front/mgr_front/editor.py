@@ -140,10 +140,7 @@ class Editor(Talk):
             yield status
 
     def end(self, seconds: float = math.inf, take: Callable[[Status], object] = id) -> bool:
-        """Gives mgr what waits and then the end of the keys, and waits until it has saved and ended.
-
-        Answers whether it has within so many seconds; it may be asked again. `take` is given its last statuses.
-        """
+        """Gives mgr what waits, then the end of the keys; answers whether it has saved and ended in so many seconds."""
         assert self.process.stdin and self.process.stdout
         until = time.monotonic() + seconds
         while (left := until - time.monotonic()) > 0:

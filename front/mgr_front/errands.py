@@ -35,11 +35,7 @@ def copy_to(name: str, is_taken: bool) -> Errand:
 
 
 def kill_word_backward() -> Errand:
-    """Kills the word before point: sets the mark, goes back over the word, and kills the region.
-
-    So the mark is left at point, and the kill does not append to one before it. M-b M-d would leave
-    the mark, but kill all of a word that point stands within, and no blanks after one.
-    """
+    """Kills the word before point, by the mark: M-b M-d would kill all of a word around it, and no blanks after one."""
     yield SET_MARK
     status = yield BACKWARD_WORD
     if not status.message:

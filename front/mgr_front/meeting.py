@@ -1,7 +1,4 @@
-"""Where a hub and those who write at it meet: a socket for each note in the person's state folder, or a port.
-
-Who may read the folder is the person alone. So is who may connect.
-"""
+"""Where a hub and those who write at it meet: a socket for each note in the person's own state folder, or a port."""
 
 import os
 import socket

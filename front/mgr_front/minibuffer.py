@@ -36,10 +36,7 @@ class Question:
     def __init__(
         self, label: str, accept: Callable[[str], Errand | None], most: int = MOST_NAME, keys: str = ""
     ) -> None:
-        """Asks for at most so many characters, digits if they are few, or for one of these keys.
-
-        `accept` makes an errand of the answer.
-        """
+        """Asks for so many characters at most, digits if few, or one of these keys; `accept` makes an errand of it."""
         self.label, self.accept, self.most, self.keys = label, accept, most, keys
         self.typed = b""
         self.is_open = True

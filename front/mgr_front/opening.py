@@ -1,7 +1,6 @@
 """What is done before an edit: a log that mgr refuses is mended, a text that is not its log's is settled.
 
-mgr reads the log alone. So what another program wrote to the text would be put aside at the next
-save, unless it comes into the log first.
+mgr reads the log alone: what another program wrote would be put aside at the next save unless it comes into that.
 """
 
 import os

@@ -125,8 +125,7 @@ def is_in_background() -> bool:
 def until_done(set_mode: Callable[[], object], is_over: Callable[[], bool] = lambda: False) -> bool:
     """Sets a mode of the terminal, unless all is over, and answers whether that is done.
 
-    In the background it stops this program until it is continued, by a signal that ends it too. Where
-    the terminal is gone it is an `OSError`, as by all other calls.
+    In the background it stops this program until it is continued, by a signal that ends it too.
     """
     while not is_over():
         try:

@@ -92,10 +92,7 @@ class Session:
         self.rest_number = 0
 
     def run(self) -> None:
-        """Goes on until mgr, the keys or the terminal end, or a signal comes.
-
-        Where that is a signal, what was typed before it is still taken.
-        """
+        """Goes on until mgr, the keys or the terminal end, or a signal comes; what was typed before is still taken."""
         try:
             self.screen.open()
             while self.signals.first is None and self.step():
@@ -106,11 +103,7 @@ class Session:
             pass  # The terminal is gone, which may be seen before the signal that says so.
 
     def step(self) -> bool:
-        """Waits for what is ready and does that, and answers whether there is more to come.
-
-        What a person waits for comes first: keys go on to mgr, and its answer is drawn. Then others are told, and
-        mgr is given what they did. At the end neither the terminal nor others count any more.
-        """
+        """Does what is ready, first what a person waits for, then what others do; answers whether more is to come."""
         others = self.company.mailbox.woken if self.company else self.signals.woken
         reading, writing = [self.editor.written], [self.editor.keys] * bool(self.editor.waiting)
         if not self.is_ending:

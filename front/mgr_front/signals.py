@@ -16,11 +16,8 @@ JOIN = signal.SIGURG
 
 @contextmanager
 def held_back() -> Iterator[None]:
-    """Whatever program is begun here never gets the signals that would end it before it has saved.
-
-    It begins with what is held back in this thread. Those that come for this program meanwhile do
-    so later, and none is lost; and nothing is called between fork and exec, where threads forbid it.
-    """
+    """What is begun here gets none of the signals that end a program; those for this one come later meanwhile."""
+    # A program begins with what is held back here: where there are threads nothing may be called before its exec.
     before = signal.pthread_sigmask(signal.SIG_BLOCK, HELD)
     try:
         yield
