@@ -83,10 +83,7 @@ class Hub:
                 peer.link.close()
 
     def _step(self) -> None:
-        """Waits for what is ready, and does that; nobody is waited for.
-
-        More is heard once mgr has answered all before, and first of those who have said least.
-        """
+        """Does what is ready. More is heard once mgr has answered all before, first of those who have said least."""
         heard = [peer for peer in self.peers if peer.is_heard and self.editor.is_answered]
         listeners = self.listeners if time.monotonic() > self.open_at else ()
         reading = [self.signals.woken, self.editor.written, *self.lookups.values(), *listeners, *heard]

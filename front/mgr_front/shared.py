@@ -59,10 +59,7 @@ class SharedNote:
         return run(self.mgr, "merge", "--adopt", "--", self.name, "-", given=text_of(lines)).returncode == 0
 
     def others(self, log: bytes, mends: bool) -> tuple[list[bytes], bytes, str]:
-        """Returns what the note lacks of a log of others, all of that in short, and what was left out of it.
-
-        Lines that are refused are left out if it mends, else it is a fault.
-        """
+        """Returns what the note lacks of a log of others, all of that in short, and what was left out if it mends."""
         with tempfile.TemporaryDirectory() as folder:
             name = os.path.join(folder, "log")
             with open(name + ".ops", "wb") as file:

@@ -22,10 +22,7 @@ HIDING, BEGIN = re.compile(f"[{TURNING}]"), re.compile(f"^([{TURNING}]+)(.?)")
 
 @dataclass(frozen=True)
 class Mark:
-    """What is shown of another writer, and how.
-
-    It is a letter at a place, if nothing stands there; without a letter, what stands before it.
-    """
+    """What is shown of another writer: a letter at a place, if nothing stands there, else what stands before it."""
 
     row: int
     column: int
@@ -50,11 +47,7 @@ class Echo:
 
 
 def echo_line(status: Status, said: str | None = None, remarks: Sequence[str] = (), failing: str = "") -> Echo:
-    """Returns the echo line of a status; `failing` is what was typed in a search and is not found.
-
-    mgr shows a message or a prompt there, and the front has remarks. Here all stand in one row: the message, or
-    what is `said` in its place, and the remarks in brackets after what stands before them.
-    """
+    """Returns the prompt, with what a search does not find, the message or what is `said`, and remarks in brackets."""
     message = status.message if said is None else said
     prompt = clean((status.label + status.answer).expandtabs())
     prompt = f"Failing {prompt}{failing}" if failing else prompt
@@ -76,12 +69,7 @@ class Picture:
 def picture(
     status: Status, echo: Echo, rows: int, columns: int, note: str = "", marks: Sequence[Mark] = ()
 ) -> Picture:
-    """Returns what shows of a frame, with this echo line and these marks.
-
-    The row of the cursor is shifted sideways so that the cursor shows. Where the terminal has fewer rows than the
-    frame, those up to the cursor's show, and the echo line. The note stands at the right end of the mode line of
-    the cursor's window.
-    """
+    """Returns what shows of a frame with these marks, and the note at the right end of the cursor's mode line."""
     rows, columns = max(rows, LEAST_ROWS), max(columns, LEAST_COLUMNS)
     frame, (row, column), mode_rows = status.frame, status.cursor, status.mode_rows
     current = min((i for i in mode_rows if i >= row), default=len(frame) - 2)
@@ -95,6 +83,7 @@ def picture(
         for i, text in enumerate((*frame[:-1], clean(echo.text)))
     ]
     if len(shown) > rows:
+        # Those up to the cursor's show, and the echo line.
         top = max(0, min(row, len(shown) - 2) - rows + 2)
         shown, row = shown[top : top + rows - 1] + shown[-1:], min(row - top, rows - 1)
     return Picture(shown, row, column - left)
@@ -112,13 +101,11 @@ def text_row(text: str, left: int, columns: int, marks: tuple[Mark, ...] = ()) -
 
 
 def sent(row: Sequence[str], columns: int, before: str = "", after: str = "") -> str:
-    """Returns what has a terminal show a row in place of another: it may not agree on the columns of each character.
-
-    A full row is not cleared at its end: that would take its last character.
-    """
+    """Returns what has a terminal show a row in place of another, be it that it counts its columns differently."""
     text = f"{before}{''.join(row)}{after}"
     if not text.isascii():
         return CLEAR + text
+    # To clear a full row at its end would take its last character.
     return text + CLEAR * (len(row) < columns)
 
 

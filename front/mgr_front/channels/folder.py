@@ -123,10 +123,7 @@ class Folder(Worker):
         return file
 
     def _read(self, name: str, stamp: Stamp) -> bytes:
-        """Returns the whole lines of a file that were not taken, and takes note of them.
-
-        One that cannot be read, or is too large, is left out until it looks different.
-        """
+        """Returns what whole lines of a file were not taken. One that cannot be read is left out until it changes."""
         taken, lines = self.files.get(name, Taken(stamp)), b""
         try:
             lines = self._new_lines(name, taken.size)

@@ -1,7 +1,4 @@
-"""A branch of a git repository, whose commits carry a note's log.
-
-It goes by a bare clone in the user's cache, and git's own commands. Nobody's working tree is touched.
-"""
+"""A branch of a git repository that carries a note's log, by a bare clone in the user's cache: no tree is touched."""
 
 import glob
 import os
@@ -135,10 +132,7 @@ class GitBranch(Worker):
         self.next_look = time.monotonic() + (SOON if is_lively else LATER)
 
     def _commit(self) -> None:
-        """Has the branch have all that the note has, unless the last commit is not long ago: who leaves does not wait.
-
-        Where others were quicker, it is done again.
-        """
+        """Has the branch have all that the note has, unless the last commit is not long ago, and nobody leaves."""
         if time.monotonic() < self.next_commit and not self.is_leaving:
             return
         count = len(self.told)
@@ -150,7 +144,7 @@ class GitBranch(Worker):
                 self.passed(count)
                 self.is_ahead = False
                 return
-            except Outrun:
+            except Outrun:  # Others were quicker.
                 if tries == 1:
                     raise
             time.sleep(random.uniform(*AGAIN))
@@ -230,10 +224,7 @@ class GitBranch(Worker):
 
 
 def ended(git: "subprocess.Popen[bytes]", said: IO[bytes], packs: str) -> str:
-    """Waits for the end of git, and returns what ended it if that was a signal.
-
-    It is killed once for too long neither a word nor a byte of a pack came.
-    """
+    """Waits for the end of git, which is killed if nothing comes for too long; returns what ended it, if not itself."""
     before, until = 0, time.monotonic() + LONGEST
     while git.poll() is None:
         with suppress(subprocess.TimeoutExpired):

@@ -79,10 +79,7 @@ def lines_of(entries: Entries) -> bytes:
 
 
 def trim(url: str, mgr: str) -> tuple[int, int]:
-    """Has one entry of the content take the place of all; returns how many bytes these had, and it has.
-
-    What is written meanwhile stays beside it: a stream's order says nothing.
-    """
+    """Has one entry take the place of all that were there; returns how many bytes these had, and that has."""
     stream = Stream(url)
     try:
         entries = stream.after(FIRST)

@@ -30,10 +30,7 @@ Descriptors = tuple[Sequence[Any], Sequence[Any]]
 
 
 class Worker(ABC):
-    """Joins, then has turns until something fails; then it is alone, and joins again.
-
-    What was told and is not passed on at a break is found by the claims of the next joining.
-    """
+    """Joins and has turns until something fails; then is alone, and joins again, which finds what was not passed on."""
 
     def __init__(self, note: SharedNote, post: Post) -> None:
         self.note, self.post = note, post
