@@ -22,6 +22,7 @@ LINE_MODES = (PROMPT, QUERY)
 SEARCHING = re.compile(b"[%c%c]" % (FORWARD, BACKWARD))
 # Whatever is no text.
 KEYS = re.compile(b"[^%b -~\x80-\xfd]" % WITHIN)
+# Up to the next TAB or RET, or one of these.
 PART = re.compile(b"[^%b]+|." % WITHIN, re.DOTALL)
 CHARACTER = re.compile(b"[\xc0-\xf7][\x80-\xbf]*|.", re.DOTALL)
 NOT_FOUND = "Search failed"
@@ -106,11 +107,12 @@ class Dispatcher:
         """Has keys wait before all others."""
         self.strokes.extendleft(map(Typed, reversed(self.piece.findall(keys))))
 
-    def _divided(self, data: bytes) -> tuple[bytes, bytes]:
-        """Returns what stands up to the next TAB or RET, or one of these, and what stands after it."""
-        part = PART.match(data)
-        assert part
-        return part[0], data[part.end() :]
+    def _first(self, part: re.Pattern[bytes], data: bytes) -> bytes:
+        """Returns the first part of keys; the others wait."""
+        found = part.match(data)
+        assert found
+        self._put_back(data[found.end() :])
+        return found[0]
 
     def _hand_on(self, keys: bytes, desk: "Session") -> None:
         self.editor.hand_on(keys)
@@ -122,16 +124,11 @@ class Dispatcher:
             self._put_back(data[1:])
             self._complete(data[0], desk)
         elif self.editor.status.mode == SEARCH:
-            found = CHARACTER.match(data)
-            assert found
-            self._put_back(data[found.end() :])
-            if not self._search(found[0]):
-                self._press(found[0], desk)
+            key = self._first(CHARACTER, data)
+            if not self._search(key):
+                self._press(key, desk)
         else:
-            if not self._is_text():
-                data, rest = self._divided(data)
-                self._put_back(rest)
-            self._press(data, desk)
+            self._press(data if self._is_text() else self._first(PART, data), desk)
 
     def _press(self, data: bytes, desk: "Session") -> None:
         """Does a text, or a key that means something else while a line is asked for."""
