@@ -146,7 +146,8 @@ class Plugin:
         self.is_ending = True
         try:
             while not (self.lines.is_over or self.is_refused) and select.select([self.lines.source], [], [], 0)[0]:
-                self._take_lines()
+                for told in self.lines.take():
+                    self.take(told)
             if self.editor.process.poll() is None and self._settle():
                 self.rest()
                 if self._settle() and self.fault:
@@ -183,8 +184,8 @@ class Plugin:
             reading += [self.signals.woken, self.lines.source]
         writing = [self.editor.keys] * bool(self.editor.waiting) + [self.lines.target] * bool(self.lines.waiting)
         ready, free, _ = select.select(reading, writing, [], self._patience())
-        if self.lines.source in ready and not self.is_ending:
-            self._take_lines()
+        for told in self.lines.take() if self.lines.source in ready else ():
+            self.take(told)
         for status in self.editor.read() if self.editor.written in ready else ():
             self.note(status)
         if self.company and self.company.mailbox.woken in ready:
@@ -212,14 +213,12 @@ class Plugin:
 
     # ---- what the editor program says
 
-    def _take_lines(self) -> None:
-        for told in self.lines.take():
-            self.take(told)
-
     def take(self, told: dict[str, Any]) -> None:
         """Takes what the editor program says."""
-        self.see(told.get("seen", self.seen))
-        op = told["op"]
+        op, seen = told["op"], told.get("seen", self.seen)
+        # The editor program has made so many of the changes that it was told.
+        del self.unseen[: seen - self.seen]
+        self.seen = seen
         if op == EDIT:
             self._take_edit(told)
         elif op == UNDOING:
@@ -229,11 +228,6 @@ class Plugin:
         elif op == POINT:
             self.tasks = deque(task for task in self.tasks if task.op != POINT)
             self.tasks.append(Task(op, self.made, place=(told["line"], told["column"])))
-
-    def see(self, count: int) -> None:
-        """The editor program has made so many of the changes that it was told."""
-        del self.unseen[: count - self.seen]
-        self.seen = count
 
     def _take_edit(self, told: dict[str, Any]) -> None:
         """Takes a change of the editor program, which is carried over what that has not seen; it is told that anew."""

@@ -63,18 +63,13 @@ class Session:
         self.opened: dict[str, tuple[bool, int]] = {}
         self.discards = False
         # What is said of a save that failed, and where texts of buffers stand that could not be saved.
-        self.fault = ""
-        self.apart: dict[str, str] = {}
+        self.fault, self.apart = "", dict[str, str]()
         # What mgr put aside in a save, and what was said of that.
-        self.kept = KeptFiles()
-        self.put_aside: list[str] = []
-        self.remarks = Remarks()
-        # The note's path, and the name that is shown for it.
-        self.names = "", ""
-        # What is said at the start, and what takes note of own operations before others are told.
-        self.greeting = ""
+        self.kept, self.put_aside, self.remarks = KeptFiles(), list[str](), Remarks()
+        # The note's path, and the name that is shown for it; what is said at the start.
+        self.names, self.greeting = ("", ""), ""
+        # What takes note of own operations before others are told, and that the note's text was put.
         self.keep: Callable[[Sequence[bytes]], None] = lambda _: None
-        # What takes note that the note's text was put.
         self.put: Callable[[], None] = lambda: None
         self.errand: Errand | None = None
         self.question: Question | None = None
@@ -205,7 +200,9 @@ class Session:
         if is_key:
             self.said = None
         self._note(status)
-        has_rested = self._has_rested(status)
+        # The first status after all was saved, as it was asked for.
+        has_rested = 0 < self.rest_number <= status.reports and not status.more
+        self.rest_number = 0 if has_rested else self.rest_number
         is_saved = has_rested or is_key and status.message.startswith(SAVED)
         if is_saved or len(self.kept.known) < len(self.buffers):
             self.note_kept()
@@ -253,13 +250,6 @@ class Session:
         """Takes note of a status at the end, and tells others."""
         self._note(status)
         self._tell(status)
-
-    def _has_rested(self, status: Status) -> bool:
-        """Whether a status is the first one after all was saved, as it was asked for."""
-        if not self.rest_number or status.reports < self.rest_number or status.more:
-            return False
-        self.rest_number = 0
-        return True
 
     def note_kept(self) -> None:
         """Says what mgr put aside: other programs have written it, and nobody may know."""
