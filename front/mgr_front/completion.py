@@ -1,6 +1,7 @@
 """Answers to prompts that are completed, and names that begin in the home folder."""
 
 import os
+import re
 from collections.abc import Iterable
 
 from mgr_front.errands import Errand
@@ -26,6 +27,8 @@ ANSWERED = FIND, SWITCH, KILL
 NAMED = COMMAND, *ANSWERED
 HOME = "~/"
 FAULT, ELSEWHERE = "File fault", ": another mgr has it open, or a file of it cannot be read"
+# What no name may have that is typed.
+UNTYPED = re.compile("[\0-\x1f\x7f\ud800-\udfff]")
 # Files that stand beside a note and are none.
 BESIDE = ("~", ".ops.new", ".ops.refused", ".ops.text")
 
@@ -38,7 +41,7 @@ def expanded(name: str) -> str:
 def candidates(label: str, answer: str, buffers: Iterable[str]) -> list[str]:
     """Returns what an answer to this prompt may become, in order."""
     names = {COMMAND: [*COMMANDS, WHO], FIND: _notes(answer)}.get(label, buffers if label in NAMED else ())
-    return sorted({name for name in names if name.startswith(answer) and _can_be_typed(name)})
+    return sorted({name for name in names if name.startswith(answer) and not UNTYPED.search(name)})
 
 
 def _notes(answer: str) -> list[str]:
@@ -51,10 +54,6 @@ def _notes(answer: str) -> list[str]:
     names = [entry.name + "/" if entry.is_dir() else entry.name.removesuffix(LOG) for entry in entries]
     shown = [name for name in names if not name.endswith(BESIDE) and (begin or not name.startswith("."))]
     return [os.path.join(folder, name) for name in shown]
-
-
-def _can_be_typed(name: str) -> bool:
-    return not any(sign < " " or sign == "\x7f" or "\ud800" <= sign <= "\udfff" for sign in name)
 
 
 def complete(label: str, answer: str, buffers: Iterable[str]) -> Errand:

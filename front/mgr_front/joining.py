@@ -86,10 +86,11 @@ def _wait(company: Company, seconds: float) -> None:
 def _settle(opening: Opening, note: SharedNote) -> None:
     """Asks what becomes of a note if others have another one."""
     name, mgr = opening.note.name, opening.mgr
-    here, there = text_of(mgr, opening.note), made_by(mgr, b"\n".join([*note.refused, b""]))
+    texts = text_of(mgr, opening.note), made_by(mgr, b"\n".join([*note.refused, b""]))
+    here, there = (shown(text.strip().partition("\n")[0], SHOWN) for text in texts)
     asked = (
         f"{name} and what the others have are two notes: they share nothing.\n"
-        f"here:  {_first_line(here)}\nthere: {_first_line(there)}\n"
+        f"here:  {here}\nthere: {there}\n"
         f"t  take theirs; this one is kept as {name}~\n"
         "f  fuse both into one, for good\n"
         "q  leave both as they are\n"
@@ -100,10 +101,6 @@ def _settle(opening: Opening, note: SharedNote) -> None:
     if answer == "t":
         tell(f"{name} is now {_put_aside(opening.note)}")
     opening.options.adopts = answer == "f"
-
-
-def _first_line(text: str) -> str:
-    return shown(text.strip().partition("\n")[0], SHOWN)
 
 
 def _put_aside(note: Note) -> str:

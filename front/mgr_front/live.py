@@ -23,9 +23,6 @@ from mgr_front.signals import JOIN, Signals
 
 LEAST_COLUMNS = 20
 
-# Edits a note that was opened, with others if there are some, and returns the status.
-Edit = Callable[[Opening, Company | None], int]
-
 
 def terminal_rows() -> int:
     """Returns how many rows mgr is to fill."""
@@ -66,7 +63,7 @@ def on_terminal(mgr: str, options: Options) -> int:
     return begin(mgr, options, edit)
 
 
-def begin(mgr: str, options: Options, edit: Edit) -> int:
+def begin(mgr: str, options: Options, edit: Callable[[Opening, Company | None], int]) -> int:
     """Does what is to be done first, joins others if the note is shared, and edits it."""
     note, company = Note(options.name), None
     if options.history:

@@ -66,9 +66,7 @@ class Picture:
     column: int
 
 
-def picture(
-    status: Status, echo: Echo, rows: int, columns: int, note: str = "", marks: Sequence[Mark] = ()
-) -> Picture:
+def picture(status: Status, echo: Echo, rows: int, columns: int, note: str = "", marks: Sequence[Mark] = ()) -> Picture:
     """Returns what shows of a frame with these marks, and the note at the right end of the cursor's mode line."""
     rows, columns = max(rows, LEAST_ROWS), max(columns, LEAST_COLUMNS)
     frame, (row, column), mode_rows = status.frame, status.cursor, status.mode_rows
