@@ -10,6 +10,7 @@ import shutil
 import subprocess
 import tempfile
 from collections.abc import Generator
+from contextlib import suppress
 
 from mgr_front.copies import Copy, own_folder, state_folder
 from mgr_front.errands import COPY_ALL, FIND, YANK, switch_to
@@ -64,15 +65,13 @@ def put_apart(name: str) -> Generator[bytes, Status, str]:
 def keep_apart(mgr: str, note: Note, place: str) -> str:
     """Makes a log of a text that was put apart and of what the note's log has; says where what is kept."""
     copy = Note(os.path.join(os.path.dirname(place), os.path.basename(note.name)))
-    try:
+    with suppress(OSError, Refused):
         if note.has_log:
             shutil.copyfile(note.log, copy.log)
             mend(mgr, copy)
         number = Copy(copy.name).new_number(log_of(mgr, copy))
         if put_text(mgr, copy, number, read(place).decode()):
             return f"{copy.log} has what {note.log} did not take; the next start takes it"
-    except (OSError, Refused):
-        pass
     return f"{place} is the text of {note.name}, which could not be saved"
 
 

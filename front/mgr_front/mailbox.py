@@ -2,6 +2,7 @@
 
 import os
 from collections import deque
+from contextlib import suppress
 from typing import Generic, TypeVar
 
 Letter = TypeVar("Letter")
@@ -17,15 +18,11 @@ class Mailbox(Generic[Letter]):
     def post(self, letter: Letter) -> None:
         """Adds a letter; any thread may do so."""
         self.letters.append(letter)
-        try:
+        with suppress(BlockingIOError, BrokenPipeError):  # Whoever waits is woken already, or waits no more.
             os.write(self.waker, b"!")
-        except (BlockingIOError, BrokenPipeError):
-            pass  # Whoever waits is woken already, or waits no more.
 
     def take(self) -> list[Letter]:
         """Returns all that came."""
-        try:
+        with suppress(BlockingIOError):
             os.read(self.woken, 65536)
-        except BlockingIOError:
-            pass
         return [self.letters.popleft() for _ in range(len(self.letters))]

@@ -7,6 +7,7 @@ import shutil
 import signal
 import time
 from collections.abc import Callable, Generator, Sequence
+from contextlib import suppress
 from dataclasses import replace
 
 from mgr_front import who
@@ -88,14 +89,12 @@ class Session:
 
     def run(self) -> None:
         """Goes on until mgr, the keys or the terminal end, or a signal comes; what was typed before is still taken."""
-        try:
+        with suppress(OSError):  # The terminal is gone, which may be seen before the signal that says so.
             self.screen.open()
             while self.signals.first is None and self.step():
                 pass
             while self.signals.first and self._has_keys() and self._take_keys():
                 pass
-        except OSError:
-            pass  # The terminal is gone, which may be seen before the signal that says so.
 
     def step(self) -> bool:
         """Does what is ready, first what a person waits for, then what others do; answers whether more is to come."""

@@ -9,6 +9,7 @@ import socket
 import time
 from collections import deque
 from collections.abc import Iterable, Iterator
+from contextlib import suppress
 from typing import Any, NamedTuple
 
 VERSION = 1
@@ -109,14 +110,12 @@ def said(op: str, **members: Any) -> bytes:
 
 def saying(line: bytes) -> dict[str, Any]:
     """Returns what a line says, in texts, whole numbers and lists of these; one that says nothing is `Broken`."""
-    try:
+    with suppress(ValueError, RecursionError):
         made: dict[str, Any] = json.loads(line.decode() if line.startswith(SAYING) else "")
         # What stands within each other need not end.
         parts = [part for each in made.values() for part in (each if isinstance(each, list) else [each])]
         if isinstance(made["op"], str) and all(part is None or isinstance(part, (str, int)) for part in parts):
             return made
-    except (ValueError, RecursionError):
-        pass
     raise Broken("a line that is neither an operation nor anything else")
 
 

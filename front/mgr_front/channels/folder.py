@@ -165,13 +165,11 @@ class Folder(Worker):
     def _draw_name(self) -> str:
         """Returns a new name; if it can't be kept, the next edit begins another log."""
         name = secrets.token_hex(16) + ".ops"
-        try:
+        with suppress(OSError, Refused):
             own_folder("folders")
             with open(self.kept + ".new", "w", encoding="ascii") as file:
                 file.write(name)
             os.replace(self.kept + ".new", self.kept)
-        except (OSError, Refused):
-            pass
         return name
 
     def _is_own(self, stamps: dict[str, Stamp]) -> bool:
