@@ -4,10 +4,10 @@ import json
 import math
 import os
 import select
-import subprocess
 import tempfile
 import time
 from collections.abc import Callable, Iterator, Sequence
+from subprocess import PIPE, Popen
 
 from mgr_front.notes import Note
 from mgr_front.program import COLUMNS, explained
@@ -50,8 +50,7 @@ class Talk:
     def __init__(self, rows: int) -> None:
         """`rows` is how many its screen has."""
         self.rows = rows
-        # The newest status, and how many keys it was the first to tell of. One is to come at the start, as if
-        # it were the answer to a report.
+        # The newest status, of which one is to come as the answer to a report, and how many keys it told of first.
         self.status, self.taken = Status(reports=-1), 0
         # What is still to be given; the keys that no status told of, how many reports there were. Of reports of texts
         # of the person the pieces up to the last one; and the texts of those that were refused.
@@ -110,18 +109,11 @@ class Editor(Talk):
         super().__init__(rows)
         # What it says on standard error.
         self.program, self.said = program, tempfile.TemporaryFile()
-        size = ["--rows", str(rows), "--cols", str(COLUMNS)]
+        command = [program, "edit", "--live", "--rows", str(rows), "--cols", str(COLUMNS), *words]
         # In a session of its own, so that the end of the terminal reaches it as the end of the keys.
         # What ends a whole login reaches it all the same, and is held back: it has to save first.
         with held_back():
-            self.process = subprocess.Popen(
-                [program, "edit", "--live", *size, *words],
-                bufsize=0,
-                stdin=subprocess.PIPE,
-                stdout=subprocess.PIPE,
-                stderr=self.said,
-                start_new_session=True,
-            )
+            self.process = Popen(command, bufsize=0, stdin=PIPE, stdout=PIPE, stderr=self.said, start_new_session=True)
         assert self.process.stdin is not None and self.process.stdout is not None
         self.keys, self.written = self.process.stdin.fileno(), self.process.stdout.fileno()
         os.set_blocking(self.keys, False)

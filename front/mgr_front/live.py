@@ -96,6 +96,4 @@ def trimmed(mgr: str, options: Options) -> int:
 def main(words: Sequence[str], folder: str) -> int:
     """Edits as the command line says, and returns the status; `folder` is where mgr-live stands."""
     options = read_options(words)
-    if options.trims:
-        return guarded(folder, options, trimmed)
-    return guarded(folder, options, on_terminal)
+    return guarded(folder, options, trimmed if options.trims else on_terminal)

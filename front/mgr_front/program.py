@@ -33,16 +33,10 @@ class Log:
     counters: dict[int, int]
 
 
-def find(folder: str) -> str | None:
-    """Returns the path of mgr, if it is there; `folder` is where the front's programs stand."""
-    beside = os.path.join(folder, "mgr")
-    named = os.environ.get("MGR") or (beside if os.path.isfile(beside) else "mgr")
-    return shutil.which(named)
-
-
 def guarded(folder: str, options: Options, work: Callable[[str, Options], int]) -> int:
     """Does something with mgr, and says why it cannot be done; `folder` is where the front's programs stand."""
-    mgr = find(folder)
+    beside = os.path.join(folder, "mgr")
+    mgr = shutil.which(os.environ.get("MGR") or (beside if os.path.isfile(beside) else "mgr"))
     if mgr is None:
         stop(f"the program {os.environ.get('MGR') or 'mgr'} is not there")
     try:
