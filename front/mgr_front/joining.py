@@ -22,8 +22,7 @@ from mgr_front.saving import SAVE
 from mgr_front.saying import REFUSED, choice, stop, tell
 from mgr_front.shared import MANY, SharedNote
 
-# Seconds for which an edit waits for others before it begins alone, and for what comes of a hub that is there;
-# ssh may ask for a word, and ends by itself.
+# Seconds for others before an edit begins alone, for a hub that is there, and for ssh, which may ask for a word.
 PATIENCE, COMING, SSH = 2.0, 30.0, 600.0
 # So much of a line is shown.
 SHOWN = 60

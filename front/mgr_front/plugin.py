@@ -64,15 +64,13 @@ class Lines:
     def choose(self, question: str, letters: Sequence[str], default: str) -> str:
         """Asks for one of these letters, and waits for it; nothing else comes before a note is open."""
         self.say("ask", question=question, letters=letters, default=default)
+        while self.waiting:
+            select.select([], [self.target], [])
+            self.write()
         while not self.is_over:
-            reading = [] if self.waiting else [self.source]
-            select.select(reading, [self.target] * bool(self.waiting), [])
-            if self.waiting:
-                self.write()
-            else:
-                for told in self.take():
-                    if told["op"] == "answer" and told["letter"] in letters:
-                        return str(told["letter"])
+            for told in self.take():
+                if told["op"] == "answer" and told["letter"] in letters:
+                    return str(told["letter"])
         stop("nothing was done")
 
     def end(self) -> None:

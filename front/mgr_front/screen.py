@@ -39,8 +39,7 @@ class Screen:
         self.target, self.waiting = unblocked(1), bytearray()
         # The rows that it shows; none, if all has to be drawn.
         self.drawn: Sequence[str] = ()
-        # Whether it is raw, whether it is this program's screen that it shows, and whether the shell's
-        # has to come back.
+        # Whether it is raw; whether it shows this program's screen; whether the shell's has to come back.
         self.is_raw = self.is_open = self.is_taken = False
         # Whether the program is about to end: then nothing is opened or drawn any more.
         self.is_over: Callable[[], bool] = lambda: False

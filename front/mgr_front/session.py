@@ -76,8 +76,7 @@ class Session:
         self.question: Question | None = None
         # A text of the person that mgr did not take, and why.
         self.unput = "", ""
-        # What the front says in place of mgr's message; what was drawn last beside the status, and when; and when
-        # that is to be drawn which was not yet.
+        # What the front says in mgr's place; what was drawn last beside the status, when, and when it is due again.
         self.said: str | None = None
         self.drawn: tuple[object, ...] = ()
         self.painted, self.due = -math.inf, math.inf
