@@ -1,8 +1,7 @@
 """What is kept of each copy of a note, apart from it: its numbers, and how its last edit left it.
 
-Each copy of a note that is written in needs a number of its own. So what is kept stands in the
-person's state folder, by the machine, the user and the note's real path: a number is never copied
-with a note.
+Each copy of a note that is written in needs a number of its own. So what is kept stands in the person's state folder,
+by the machine, the user and the note's real path: a number is never copied with a note.
 """
 
 import getpass

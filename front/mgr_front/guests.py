@@ -1,6 +1,4 @@
-"""Copies of a note in the person's state folder: of those who write at a hub of this machine, and of what a log
-could not take. The note's next start takes what they have.
-"""
+"""Copies of a note in the person's state folder: of those who write at a hub here, and of what a log could not take."""
 
 import fcntl
 import glob

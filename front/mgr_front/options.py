@@ -10,8 +10,7 @@ from urllib.parse import urlsplit
 from mgr_front import VERSION
 from mgr_front.notes import LOG
 
-# The ways to others: a hub by a port, by ssh, or by the note that it has on this machine; and engines, by the
-# words that stand before the colon.
+# The ways to others: a hub by a port, by ssh, or by its note on this machine; and engines, by what is before a colon.
 PORTS, HOSTS, HERE = "port", "host", "here"
 GIT, FOLDER, REDIS, SECURE_REDIS = "git", "dir", "redis", "rediss"
 # A machine, by its name or, in brackets, an address of IPv6, with a login before it or not; and what follows.

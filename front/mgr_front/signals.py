@@ -7,8 +7,7 @@ from collections.abc import Iterator
 from contextlib import contextmanager, suppress
 
 ENDING = (signal.SIGHUP, signal.SIGINT, signal.SIGQUIT, signal.SIGTERM)
-# What would end a mgr before it has saved. The front, which gets the first of them too, has it save;
-# and that a file may not grow any more the call that writes it says as well.
+# What would end a mgr before it has saved; that a file may not grow any more the call that writes it says as well.
 HELD = (*ENDING, signal.SIGXFSZ)
 # By this a hub asks who has its note alone to write at it: who does not know that goes on.
 JOIN = signal.SIGURG

@@ -45,9 +45,7 @@ def row(line: list[tuple[int, str]], names: Mapping[int, str], has_colours: bool
     return made
 
 
-def show(
-    mgr: str, buffer: str, names: Mapping[int, str], has_colours: bool, ask_by: Callable[[Question], None]
-) -> Errand:
+def show(mgr: str, buffer: str, names: dict[int, str], has_colours: bool, ask_by: Callable[[Question], None]) -> Errand:
     """Leaves the prompt, and shows who wrote what in a buffer, all of which is saved then."""
     yield bytes([CANCEL])
     try:

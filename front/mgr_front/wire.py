@@ -1,7 +1,4 @@
-"""Lines between a hub and those who write at it: operations as mgr spells them, and what both say of themselves.
-
-A line that says something begins with its `op`, as no operation of mgr's spelling does.
-"""
+"""Lines between a hub and its writers: operations as mgr spells them, and what both say, which begins with its `op`."""
 
 import json
 import re

@@ -59,10 +59,7 @@ class GitBranch(Worker):
     """A note that is carried by the tip of a branch."""
 
     def __init__(self, note: SharedNote, post: Post, place: str, person: str = "") -> None:
-        """`place` is a path or a URL, and after a `#` a branch, else the one that the repository calls its head.
-
-        `person` is the writer in commits; else it is that of git's settings, or of the login.
-        """
+        """`place` is a path or a URL, with `#` and a branch or not; `person` the writer in commits, else git's own."""
         super().__init__(note, post)
         place, _, self.branch = place.partition("#")
         path = os.path.expanduser(place)
