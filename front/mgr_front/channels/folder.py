@@ -13,7 +13,7 @@ from typing import IO
 from mgr_front.channels import Post, shown
 from mgr_front.channels.worker import Worker
 from mgr_front.copies import digest, machine, own_folder, state_folder, user
-from mgr_front.notes import Refused
+from mgr_front.notes import Refused, found
 from mgr_front.shared import SharedNote, text_of
 from mgr_front.wire import LONGEST
 
@@ -93,7 +93,7 @@ class Folder(Worker):
 
     def _stamps(self) -> dict[str, Stamp]:
         """Returns how each log in the folder looks."""
-        found = {}
+        stamps = {}
         with os.scandir(self.folder) as entries:
             for entry in entries:
                 if NAME.fullmatch(entry.name):
@@ -102,8 +102,8 @@ class Folder(Worker):
                     except FileNotFoundError:
                         continue  # It has just been removed.
                     if stat.S_ISREG(seen.st_mode):
-                        found[entry.name] = stamp_of(seen)
-        return found
+                        stamps[entry.name] = stamp_of(seen)
+        return stamps
 
     def _is_known(self, name: str, stamp: Stamp) -> bool:
         return name in self.files and self.files[name].stamp == stamp
@@ -136,30 +136,26 @@ class Folder(Worker):
 
     def _new_lines(self, name: str, place: int) -> bytes:
         """Returns the whole lines of a file from a place on, up to one that is too long."""
-        found, rest, size = [b""], b"", place
+        lines, rest, size = [b""], b"", place
         with self._open(name, place) as file:
             seen = os.fstat(file.fileno())
             while piece := file.read(PIECE):
                 # Of a file with holes only what is written counts.
                 if max(size, min(seen.st_size, seen.st_blocks * BLOCK)) > MOST:
                     raise OSError("more than a note can have")
-                found.append(whole_lines(rest + piece))
-                rest = (rest + piece)[len(found[-1]) :]
-                size += len(found[-1])
+                lines.append(whole_lines(rest + piece))
+                rest = (rest + piece)[len(lines[-1]) :]
+                size += len(lines[-1])
                 if b"\0" in rest or b"\n" not in piece:
                     break
         if len(rest.partition(b"\0")[0]) > LONGEST:
             self.leave_out(f"{shown(name)}: a line that is too long")
-        return b"".join(found)
+        return b"".join(lines)
 
     # ---- the own file
 
     def _kept_name(self) -> str:
-        try:
-            with open(self.kept, encoding="ascii") as file:
-                name = file.read()
-        except (OSError, UnicodeDecodeError):
-            return ""
+        name = (found(self.kept) or b"").decode("ascii", "replace")
         return name if re.fullmatch(r"[0-9a-f]{32}\.ops", name) else ""
 
     def _draw_name(self) -> str:
