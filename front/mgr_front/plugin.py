@@ -143,10 +143,12 @@ class Plugin:
         """Has mgr do all that was asked for, and save it, and says so; what it cannot save is put apart."""
         self.is_ending = True
         try:
+            if self.editor.process.poll() is not None:
+                return
             while not (self.lines.is_over or self.is_refused) and select.select([self.lines.source], [], [], 0)[0]:
                 for told in self.lines.take():
                     self.take(told)
-            if self.editor.process.poll() is None and self._settle():
+            if self._settle():
                 self.rest()
                 if self._settle() and self.fault:
                     self._put_apart(put_apart(self.name))
