@@ -107,8 +107,8 @@ class Editor(Talk):
 
     def __init__(self, program: str, words: Sequence[str], rows: int) -> None:
         super().__init__(rows)
-        # What it says on standard error.
-        self.program, self.said = program, tempfile.TemporaryFile()
+        # What it says on standard error, and all of that at its end.
+        self.program, self.said, self.told = program, tempfile.TemporaryFile(), b""
         command = [program, "edit", "--live", "--rows", str(rows), "--cols", str(COLUMNS), *words]
         # In a session of its own, so that the end of the terminal reaches it as the end of the keys.
         # What ends a whole login reaches it all the same, and is held back: it has to save first.
@@ -148,11 +148,13 @@ class Editor(Talk):
                 self.process.stdin.close()
                 self.process.stdout.close()
                 self.process.wait()
+                with self.said:
+                    self.said.seek(0)
+                    self.told = self.said.read()
                 return True
         return False
 
     def fault(self, note: Note) -> str:
         """Returns why it ended, if that was not well."""
-        self.said.seek(0)
-        status, said = self.process.returncode, self.said.read().decode()
-        return explained(status, said, note, self.status.reports >= 0) if status else ""
+        status = self.process.returncode
+        return explained(status, self.told.decode(), note, self.status.reports >= 0) if status else ""
