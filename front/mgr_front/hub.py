@@ -2,7 +2,6 @@
 
 import os
 import select
-import signal
 import socket
 import tempfile
 import time
@@ -341,6 +340,8 @@ def join(path: str) -> int:
     """Passes standard input on to the hub that has a note, and to standard output what that says."""
     try:
         link = meeting.connect(path)
+    except Refused as refused:
+        stop(str(refused))
     except OSError:
         stop(f"no hub of this machine has {path}")
     link.settimeout(None)

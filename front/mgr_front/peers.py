@@ -54,7 +54,7 @@ class Peer(Wire):
         name, replica, token = told.get("name"), told.get("replica"), told.get("token")
         if told.get("version") != VERSION:
             raise Broken(f"this hub speaks version {VERSION}, not {told.get('version')}")
-        if not (isinstance(name, str) and isinstance(token, str) and isinstance(replica, int)):
+        if not (isinstance(name, str) and isinstance(token, str) and type(replica) is int):
             raise Broken("a hello that is none")
         if not 0 < replica <= MOST_NUMBER:
             raise Broken("a number that is none")

@@ -6,6 +6,7 @@ import sys
 import threading
 import time
 
+from mgr_front.cells import clean
 from mgr_front.screen import write_all
 
 # So many lines wait to be printed, and so many seconds at the end for that.
@@ -48,4 +49,4 @@ printer = Printer()
 def log(said: str) -> None:
     """Has it printed what happened, and when."""
     if sys.stdout:  # Else it was closed at the start, and its number may be another file's.
-        printer.put(f"{time.strftime('%Y-%m-%d %H:%M:%S')} {said}\n")
+        printer.put(f"{time.strftime('%Y-%m-%d %H:%M:%S')} {clean(said)}\n")

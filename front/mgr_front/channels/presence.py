@@ -48,7 +48,7 @@ class Presence:
     def take(self, told: dict[str, Any]) -> None:
         """Takes what somebody says of themselves. To one who is new it is said where this writer is."""
         replica, name, place = told.get("replica"), told.get("name"), place_of(told)
-        if type(replica) is not int or replica == self.replica:
+        if type(replica) is not int or not 0 < replica < MOST[1] or replica == self.replica:
             return
         if told.get("op") == "leave":
             self.times.pop(replica, None)
