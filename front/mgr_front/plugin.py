@@ -132,8 +132,6 @@ class Plugin:
         # When something was changed, and when all was saved.
         self.changed = self.rested = time.monotonic()
 
-    # ---- the loop
-
     def run(self) -> None:
         """Goes on until the editor program or mgr ends, or a signal comes."""
         while self.signals.first is None and not (self.lines.is_over or self.is_refused) and self.step():
@@ -211,8 +209,6 @@ class Plugin:
             return None
         return max(0.0, max(self.changed, self.rested) + (FAILING if self.fault else IDLE) - time.monotonic())
 
-    # ---- what the editor program says
-
     def take(self, told: dict[str, Any]) -> None:
         """Takes what the editor program says."""
         op, seen = told["op"], told.get("seen", self.seen)
@@ -241,8 +237,6 @@ class Plugin:
         """Tells the editor program how the text changed that it has after so many changes of its own."""
         if pieces:
             self.lines.say("change", made=self.made, splices=pieces, by=by, undo=is_undo)
-
-    # ---- what mgr says
 
     def note(self, status: Status) -> None:
         """Takes note of a status, and tells others what was made."""
@@ -325,8 +319,6 @@ class Plugin:
             self.lines.say("saved", made=task.made, why="" if is_put else self.fault or status.message)
         for said in self.kept.since(self.name):
             self.lines.say("say", text=said)
-
-    # ---- what mgr is given
 
     def _go_on(self) -> None:
         """Gives mgr what it is to do next, once it has answered all before: what the person waits for comes first."""
@@ -411,8 +403,6 @@ class Plugin:
         company.feed(self.editor)
         if self.editor.reports > number:
             self.doing = Task(OTHERS, by=by)
-
-    # ---- others
 
     def _say_who(self) -> None:
         """Says how others are reached, and who they are, where that is news."""

@@ -89,8 +89,6 @@ class Folder(Worker):
         self.passed(len(self.told))
         return self.poll
 
-    # ---- files of all
-
     def _stamps(self) -> dict[str, Stamp]:
         """Returns how each log in the folder looks."""
         stamps = {}
@@ -151,8 +149,6 @@ class Folder(Worker):
         if len(rest.partition(b"\0")[0]) > LONGEST:
             self.leave_out(f"{shown(name)}: a line that is too long")
         return b"".join(lines)
-
-    # ---- the own file
 
     def _kept_name(self) -> str:
         name = (found(self.kept) or b"").decode("ascii", "replace")

@@ -168,8 +168,6 @@ class GitBranch(Worker):
         self.changed = time.monotonic()
         self.next_commit = self.changed + COMMITS
 
-    # ---- git
-
     def _open(self) -> None:
         """Makes the clone if it is not there, and asks for the names of the writer and of the branch."""
         if not os.path.isdir(self.clone):

@@ -68,8 +68,6 @@ class Worker(ABC):
         """Returns what is to be read and written: its waits end once that can be."""
         return [], []
 
-    # ---- what the front calls
-
     def start(self) -> None:
         """Begins to join. What comes is posted."""
         sys.setswitchinterval(SWITCH)
@@ -95,8 +93,6 @@ class Worker(ABC):
     def wake(self) -> None:
         """Has the next turn now; any thread may ask for that."""
         self._given.post(())
-
-    # ---- what the thread calls
 
     def wait(self, seconds: float) -> None:
         """Waits until something is told, or can be read or written; takes note of what is told."""
