@@ -67,10 +67,7 @@ class Peer(Wire):
             self.say(op, why=why)
 
     def check(self, now: float) -> None:
-        """Leaves one that says too much, or nothing; of what one takes too slowly only a line that was begun stays.
-
-        It asks for the rest once it has taken that.
-        """
+        """Leaves one that says too much or nothing; what it takes too slowly is dropped, and it asks for that again."""
         super().check(now)
         if len(self.waiting) - self.asked > MOST_WAITING:
             del self.waiting[self.waiting.find(b"\n") + 1 :]
