@@ -20,7 +20,7 @@ from mgr_front.lookups import Lookup, Steps
 from mgr_front.notes import KeptFiles, Note, Refused
 from mgr_front.opening import differ, mend
 from mgr_front.options import Options, hub_parser
-from mgr_front.peers import Peer
+from mgr_front.peers import ALL, Credit, Peer
 from mgr_front.printing import log
 from mgr_front.program import edit, guarded, holder, log_of, shell_status
 from mgr_front.saving import REST, SAVE
@@ -63,7 +63,7 @@ class Hub:
         # What is looked up in the log for whom; None stands for all.
         self.lookups: dict[Peer | None, Lookup] = {}
         # How much is heard in this turn, and how much whoever was heard last had said before.
-        self.room, self.said = 0, 0
+        self.room, self.said, self.credit = 0, 0, Credit(ALL)
         # How many others there may be by the descriptors that are left; when one is let in again if that failed.
         left = min(os.sysconf("SC_OPEN_MAX"), MOST_OPEN) - len(os.listdir("/proc/self/fd"))
         self.most, self.open_at = min(MOST_PEERS, left - SPARE), -QUIET
@@ -83,12 +83,15 @@ class Hub:
 
     def _step(self) -> None:
         """Does what is ready. More is heard once mgr has answered all before, first of those who have said least."""
-        heard = [peer for peer in self.peers if peer.is_heard and self.editor.is_answered]
-        listeners = self.listeners if time.monotonic() > self.open_at else ()
+        now, heard = time.monotonic(), [peer for peer in self.peers if peer.is_heard and self.editor.is_answered]
+        has_more = self.credit.renew(now)
+        due = [peer for peer in heard if peer.credit.renew(now) or has_more]
+        heard, is_late = due, len(due) < len(heard)
+        listeners = self.listeners if now > self.open_at else ()
         reading = [self.signals.woken, self.editor.written, *self.lookups.values(), *listeners, *heard]
         writing = [*[peer for peer in self.peers if peer.waiting], *[self.editor.keys] * bool(self.editor.waiting)]
         came = {peer for peer in heard if peer.lines}
-        rest = 0.0 if came else REST_AFTER if self.unsaved or self.peers or not listeners else ALIVE
+        rest = 0.0 if came else MOVE if is_late else REST_AFTER if self.unsaved or self.peers or not listeners else ALIVE
         ready, free, _ = select.select(reading, writing, [], rest)
         if self.editor.keys in free:
             self.editor.write()
@@ -144,7 +147,9 @@ class Hub:
             size = weight(told)
             peer.said += size
             self.room -= size
-            if self.room <= 0 or peer.said > self.said + share or not peer.is_heard:
+            credit = peer.credit if peer.credit.left > 0 else self.credit
+            credit.left -= size
+            if credit.left <= 0 or self.room <= 0 or peer.said > self.said + share or not peer.is_heard:
                 return
 
     def _others(self, peer: Peer) -> list[Peer]:
@@ -214,7 +219,8 @@ class Hub:
     def _answer(self, peer: Peer) -> Steps:
         """Looks up what a peer lacks of the log, by its claims, and then what that has, in short."""
         lacked: IO[bytes] = tempfile.TemporaryFile()
-        claims, peer.request = peer.request, b""
+        # The log does not have this yet, and if the peer took too little it may have missed that.
+        claims, peer.request, unsaved = peer.request, b"", text_of(self.unsaved)
         if self.note.note.has_log:
             lacked.write(claims)
             lacked.flush()
@@ -226,7 +232,7 @@ class Hub:
                 raise Apart("more is missing than can be told")
             lacked.seek(0)
             claims = yield from self._claims()
-            peer.answer(lacked.read())
+            peer.answer(lacked.read() + unsaved)
             peer.answer(claims_said(claims))
             peer.answered = time.monotonic()
 

@@ -1,6 +1,7 @@
 """A note that is carried by a branch of git: its commits, its tips, and what git refuses."""
 
 import os
+import re
 import pathlib
 import shutil
 import stat
@@ -56,6 +57,10 @@ class TestGit(WithWriters):
 
     def make(self, writer: Writer) -> GitBranch:
         return GitBranch(writer, writer.post, f"{self.shared}#{self.branch}", f"Writer {writer.replica}")
+
+    def signs(self) -> str:
+        """Returns the characters of the tip's log, in the order of its lines."""
+        return "".join(re.findall(r'"(?:char|text)":"([^"]*)"', self.tip()))
 
     def tip(self) -> str:
         return self.git("show", f"{self.branch}:note.ops")
@@ -238,7 +243,7 @@ class TestGit(WithWriters):
                 self.assertEqual(words, ["joining", "alone", "live"])
                 self.assertIn("git's cache is made anew", one.states[1].why)
                 known += sign
-                self.wait(True, lambda: f'"char":"{sign}"' in self.tip())
+                self.wait(True, lambda: sign in self.signs())
         self.assertEqual(len(list(self.clone().parent.iterdir())), 1)
 
     def test_a_clone_that_could_not_be_made_is_made_once_it_can_be(self) -> None:
@@ -292,7 +297,7 @@ class TestGit(WithWriters):
                         self.wait("live", other.word)
                         self.wait("a", lambda: other.signs()[:1])
                         other.type(sign)
-                        self.wait(True, lambda: f'"char":"{sign}"' in self.tip())
+                        self.wait(True, lambda: sign in self.signs())
                     self.wait("abcd", one.signs)
                     self.assertEqual([self.has(beside, name) for name in ("cache", "another")], [wanted] * 2)
                     self.assertEqual(self.git("ls-tree", "--name-only", "notes").split(), ["beside", "note.ops"])
