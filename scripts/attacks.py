@@ -32,12 +32,15 @@ CLAIMS, LARGE_LOG, LARGE_ENTRY, SPARSE = 8 << 20, 20 << 20, 10 << 20, 6 << 30
 SILENT, MANY = 198, 30
 # Messages to all who hear a channel, in a second.
 MESSAGES = 2000
+# Bytes of the stack of a thread: an attacker may take little memory.
+SMALL_STACK = 1 << 18
 # Seconds between two things that are done.
 SOON, LATER = 0.05, 2.0
 
 
 def at_once(*works):
     """Does all of these at once."""
+    threading.stack_size(SMALL_STACK)
     threads = [threading.Thread(target=work, daemon=True) for work in works]
     for thread in threads:
         thread.start()
