@@ -53,7 +53,7 @@ test-front:
 	@if command -v mypy > /dev/null; then cd front && mypy --strict mgr_front; else echo "mypy is not installed"; fi
 	@if command -v pyflakes3 > /dev/null; then pyflakes3 front/mgr_front; else echo "pyflakes3 is not installed"; fi
 
-# Ten times as many random lines of others as test-front has, for the front and for mgr, which are to take the same ones. A minute or two.
+# Ten times as many random lines of others as test-front has, for the front and for mgr, which are to take the same ones; and four write while others flood and lie. Some 40 minutes.
 hostile-front: build/mgr
 	@HOSTILE=10000 MGR=$(CURDIR)/build/mgr python3 -m unittest discover -s front/tests -p test_hostile.py
 	@scripts/attackers.py build/mgr

@@ -73,7 +73,7 @@ class Company:
             self.channel.close(0.0)
 
     def feed(self, editor: Talk) -> None:
-        """Gives mgr some of what others did, once it has answered all before; and where they are."""
+        """Gives mgr some of what others did, once it has answered all before; and where they are, if that was all."""
         given = 0
         while self.lines and given < MOST_GIVEN and (given or editor.is_answered):
             line = self.lines.popleft()
@@ -83,7 +83,7 @@ class Company:
             given += len(line)
         if given:
             self.took = time.monotonic()
-        if (given or editor.is_answered) and (places := self._places()) != self.known:
+        if not self.lines and (given or editor.is_answered) and (places := self._places()) != self.known:
             self.known = places
             editor.report(said("places", places=places).rstrip())
 
