@@ -11,22 +11,22 @@ from mgr_front.wire import MOST_WAITING, VERSION, Broken, Wire
 SENT = 65536
 # So many bytes in all, and so many more for each second, are a flood.
 FLOOD, RATE = 1 << 27, 1 << 18
-# As how many characters one is heard a second, be it that others say much; and all together beyond that.
-OWN, ALL = 4096, 65536
+# As how many characters one is heard a second, be it that others say much; all together beyond that; and at once.
+OWN, ALL, AT_ONCE = 4096, 65536, 16384
 # Seconds for the first word, and for the last line to one that is cut off.
 FIRST, LAST = 10.0, 2.0
 MOST_NUMBER = 65535
 
 
 class Credit:
-    """As how many characters more may be heard now: those of four seconds at most."""
+    """How many characters more may be heard now: so many at once at most."""
 
     def __init__(self, rate: int) -> None:
-        self.rate, self.left, self.renewed = rate, 4.0 * rate, time.monotonic()
+        self.rate, self.left, self.renewed = rate, float(AT_ONCE), time.monotonic()
 
     def renew(self, now: float) -> bool:
         """Takes note of the time, and answers whether there is some."""
-        self.left, self.renewed = min(4.0 * self.rate, self.left + self.rate * (now - self.renewed)), now
+        self.left, self.renewed = min(AT_ONCE, self.left + self.rate * (now - self.renewed)), now
         return self.left > 0
 
 

@@ -299,7 +299,7 @@ class TestStrangers(Strangers):
 
     def test_one_that_floods_is_left(self) -> None:
         flood = self.stranger(self.hello())
-        with mock.patch.multiple("mgr_front.peers", FLOOD=100_000, RATE=100_000):
+        with mock.patch.multiple("mgr_front.peers", FLOOD=10_000, RATE=10_000):
             with contextlib.suppress(ConnectionError):
                 while True:
                     flood.sendall((line(1) + b"\n") * 1000)
