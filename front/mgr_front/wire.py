@@ -77,9 +77,10 @@ def is_operation(line: bytes) -> bool:
 
 
 def weight(told: dict[str, Any] | bytes) -> int:
-    """Returns as how many characters something counts that was said: those that it has, or deletes, and some more."""
+    """Returns as how many characters something counts that was said: those that it has and some more, or deletes."""
     found = operation(told) if isinstance(told, bytes) else None
-    return LINE + (found.size if found else len(told))
+    # Deletions of neighbours are one line once they pass on, and cost no more than their characters.
+    return found.size if found and not found.text else LINE + (found.size if found else len(told))
 
 
 def in_runs(lines: Iterable[bytes]) -> list[bytes]:
